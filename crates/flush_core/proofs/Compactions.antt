@@ -14,9 +14,9 @@ stored_state honest images f kept whole executed =
 
 -- the same by what a call asks of the flusher that it is given
 pub given_state : {D : Type 0} (honest : D → Type 0) (images : D → List ℕ → Type 0) (f now : Flushed D) → f ≡ now → IsFlusher honest images f → f.broken ≡ false
-    → (now.broken ≡ false → now.executed ≡ now.stored) → f.broker.state ≡ state_at f.opening f.seat f.stored
+    → now.executed ≡ now.stored → f.broker.state ≡ state_at f.opening f.seat f.stored
 given_state {D} honest images f now is kept whole executed =
-    stored_state honest images f kept whole (subst (λ (f : Flushed D). f.broken ≡ false → f.executed ≡ f.stored) (sym is) executed whole)
+    stored_state honest images f kept whole (subst (λ (f : Flushed D). f.executed ≡ f.stored) (sym is) executed)
 
 module _ {D : Type 0} (disk : Ghosts D) (old new : D) (s t : State) (same : t ≡ s) (leaves : LeavesOnly disk.moment disk.images_since old new (λ c. Stands c t)) where
   pub leaves_state : LeavesOnly disk.moment disk.images_since old new (λ c. Stands c s)

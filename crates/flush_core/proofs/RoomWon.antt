@@ -1,6 +1,6 @@
 -- A batch is stored once room was won for it.
 use Rattle.std.proofs.Common.{◌≡◌, ◌≢◌, ◌<◌, ◌≤◌, ◌+◌, ◌-◌, ◌⊎◌, inl, inr, ⊎_elim, ℕ, List, [], Option, Result, Ok, Err, OnErr, OnOk, false, length, take, sym, ◌∙◌, ap, subst, arith}
-use Rattle.std.specs.Prelude.{IsErrOf, IsOk}
+use Rattle.std.specs.Prelude.{IsErrOf}
 use Rattle.std.proofs.lemmas.Bool.{false≢true}
 use Rattle.std.proofs.lemmas.List.{take_all}
 use Rattle.std.proofs.lemmas.Result.{on_ok_weaker}
@@ -36,10 +36,10 @@ stays_so disk f kept whole only honest = record {
 }
 
 -- the journal was compacted, since the block did not fit
-pub was_compacted : {D : Type 0} (disk : Ghosts D) (old new : Flushed D) (result : Result (Unit {0}) FlushFault) → old.broken ≡ false → gathered old ≢ [] → IsTooLong old.size old.used (gathered old)
+pub was_compacted : {D : Type 0} (disk : Ghosts D) (old new : Flushed D) (result : Result (Unit {0}) FlushFault) → old.broken ≡ false → IsTooLong old.size old.used (gathered old)
     → OnOk result (FlushCompacts disk old new) → WinsRoom disk old new result
-was_compacted disk old new (Ok x) whole some long did = record { made = inr (record { whole = whole; some = some; long = long; is = did.compacted_is; alone = did.alone }); needed = tt }
-was_compacted disk old new (Err fault) whole some long did = record { made = tt; needed = (whole, some, long) }
+was_compacted disk old new (Ok x) whole long did = record { made = inr (record { whole = whole; long = long; is = did.compacted_is; alone = did.alone }); needed = tt }
+was_compacted disk old new (Err fault) whole long did = record { made = tt; needed = long }
 
 -- what is so of each answer is so of a refusal
 pub on_err : {X E : Type 0} (result : Result X E) (P : Type 0) → P → OnErr result P
@@ -56,18 +56,16 @@ none_left : (image : List ℕ) (s : State) (cs : List CommandValue) → HasNoRoo
 none_left image s cs lacks = ∥∥₁_map lacks (λ (l : LacksRoomForState image s). inl l)
 
 -- so nothing is stored
-pub unwon : {D : Type 0} (disk : Ghosts D) (old new : Flushed D) (fault : FlushFault) → WinsRoom {X = Unit {0}} disk old new (Err fault) → RefusesState {X = Unit {0}} disk old new (Err fault)
+pub unwon : {D : Type 0} (disk : Ghosts D) (old new : Flushed D) (fault : FlushFault) → gathered old ≢ [] → WinsRoom {X = Unit {0}} disk old new (Err fault) → RefusesState {X = Unit {0}} disk old new (Err fault)
     → RefusesToStore {X = Unit {0}} disk old new (Err fault)
-unwon disk old new fault wins refuses =
-    let needed = wins.needed in
-    record {
-      room = record {
-        full = λ is. (needed.2, inl (refuses.full is));
-        no_room = λ honest is. none_left (disk.content new.disk) (state_stored old) (take 1 (gathered old)) (refuses.no_room honest is);
-      };
-      memory = λ fits. absurd (omega (arith, fits, needed.2));
-      nothing = λ whole none. absurd (needed.1 none);
-    }
+unwon disk old new fault there wins refuses = record {
+  room = record {
+    full = λ is. (wins.needed, inl (refuses.full is));
+    no_room = λ honest is. none_left (disk.content new.disk) (state_stored old) (take 1 (gathered old)) (refuses.no_room honest is);
+  };
+  memory = λ fits. absurd (omega (arith, fits, wins.needed));
+  nothing = λ whole none. absurd (there none);
+}
 
 module _ {D : Type 0} (disk : Ghosts D) (old mid : Flushed D) (made : IsLeft old mid ⊎ IsCompacted disk old mid) where
   -- nothing but the disk, the bytes used and what was won has changed
@@ -77,6 +75,18 @@ module _ {D : Type 0} (disk : Ghosts D) (old mid : Flushed D) (made : IsLeft old
       (λ (l : IsLeft old mid). l.same ∙ sym (λ i. using old ((l.same i).disk) ((l.same i).used) ((l.same i).won)))
       (λ (w : IsCompacted disk old mid). w.is ∙ sym (λ i. using old mid.disk ((w.is i).used) ((w.is i).won)))
       made
+
+  pub still_whole : old.broken ≡ false → mid.broken ≡ false
+  still_whole whole = ap (λ (f : Flushed D). f.broken) all_but_disk ∙ whole
+
+  pub still_executed : old.executed ≡ old.stored → mid.executed ≡ mid.stored
+  still_executed executed = subst (λ (f : Flushed D). f.executed ≡ f.stored) (sym all_but_disk) executed
+
+  pub still_ring : mid.seat.ring ≡ old.seat.ring
+  still_ring = ap (λ (f : Flushed D). f.seat.ring) all_but_disk
+
+  pub still_gathered : gathered mid ≡ gathered old
+  still_gathered = ap (λ (f : Flushed D). gathered f) all_but_disk
 
   -- a stop within it, and within what is stored then
   stored_moments : (n : ℕ) (new : D)
@@ -98,94 +108,73 @@ module _ {D : Type 0} (disk : Ghosts D) (old mid : Flushed D) (made : IsLeft old
       made
 
   -- The first so many have a block that fits, or else are one.
-  module _ (kept : IsFlusher disk.honest disk.images old) (whole : old.broken ≡ false) (count : ℕ) (within : mid.broken ≡ false → count ≤ length (gathered mid)) (some : mid.broken ≡ false → gathered mid ≢ [] → 0 < count)
-      (one : mid.broken ≡ false → IsTooLong mid.size mid.used (take count (gathered mid)) → IsTooLong mid.size mid.used (take 1 (gathered mid)))
-      (more : mid.broken ≡ false → count < length (gathered mid) → IsTooLong mid.size mid.used (take (count + 1) (gathered mid))) where
-    sound : mid.broken ≡ false
-    sound = ap (λ (f : Flushed D). f.broken) all_but_disk ∙ whole
-
-    same : gathered mid ≡ gathered old
-    same = ap (λ (f : Flushed D). gathered f) all_but_disk
-
+  module _ (kept : IsFlusher disk.honest disk.images old) (whole : old.broken ≡ false) (there : gathered old ≢ []) (count : ℕ) (within : count ≤ length (gathered mid)) (some : 0 < count)
+      (one : IsTooLong mid.size mid.used (take count (gathered mid)) → IsTooLong mid.size mid.used (take 1 (gathered mid)))
+      (more : count < length (gathered mid) → IsTooLong mid.size mid.used (take (count + 1) (gathered mid))) where
     count_within : count ≤ length (gathered old)
-    count_within = subst (λ (l : List CommandValue). count ≤ length l) same (within sound)
+    count_within = subst (λ (l : List CommandValue). count ≤ length l) still_gathered within
 
     to_end : old.stored + length (gathered old) ≡ next_ticket old.seat
     to_end = length_from old.seat old.stored (omega (arith, kept.begun, kept.marked, kept.executed)) kept.stored
 
-    count_some : gathered old ≢ [] → 0 < count
-    count_some there = some sound (λ none. there (sym same ∙ none))
-
-    count_longest : gathered old ≢ [] → IsLongest mid.size mid.used (gathered old) count
-    count_longest there = is_longest mid.size mid.used count (gathered old) (count_some there) count_within
-        (subst (λ (l : List CommandValue). count < length l → IsTooLong mid.size mid.used (take (count + 1) l)) same (more sound))
+    count_longest : IsLongest mid.size mid.used (gathered old) count
+    count_longest = is_longest mid.size mid.used count (gathered old) some count_within
+        (subst (λ (l : List CommandValue). count < length l → IsTooLong mid.size mid.used (take (count + 1) l)) still_gathered more)
 
     -- all of it, where its block fits
-    count_behind : Fits old.size old.used (gathered old) → gathered old ≢ [] → count ≡ length (gathered old)
-    count_behind fits there =
+    count_behind : Fits old.size old.used (gathered old) → count ≡ length (gathered old)
+    count_behind fits =
         ⊎_elim
-        (λ (l : IsLeft old mid). (subst (λ (f : Flushed D). IsLongest f.size f.used (gathered old) count) l.same (count_longest there)).all fits)
+        (λ (l : IsLeft old mid). (subst (λ (f : Flushed D). IsLongest f.size f.used (gathered old) count) l.same count_longest).all fits)
         (λ (w : IsCompacted disk old mid). absurd (omega (arith, fits, w.long)))
         made
 
     -- else the most that have room behind the snapshot
-    count_afresh : IsTooLong old.size old.used (gathered old) → gathered old ≢ [] → IsLongest old.size (used_afresh (state_at old.opening old.seat old.stored)) (gathered old) count
-    count_afresh long there =
+    count_afresh : IsTooLong old.size old.used (gathered old) → IsLongest old.size (used_afresh (state_at old.opening old.seat old.stored)) (gathered old) count
+    count_afresh long =
         ⊎_elim
-        (λ (l : IsLeft old mid). absurd (omega (arith, l.fits whole there, long)))
-        (λ (w : IsCompacted disk old mid). subst (λ (f : Flushed D). IsLongest f.size f.used (gathered old) count) w.is (count_longest there))
+        (λ (l : IsLeft old mid). absurd (omega (arith, l.fits, long)))
+        (λ (w : IsCompacted disk old mid). subst (λ (f : Flushed D). IsLongest f.size f.used (gathered old) count) w.is count_longest)
         made
 
     is_next : IsNext old old.seat (old.stored + count)
     is_next =
-        let there : old.stored < old.stored + count → gathered old ≢ [] = λ less none. omega (arith, less, count_within, ap (λ (l : List CommandValue). length l) none) in
         let same_count : (old.stored + count) - old.stored ≡ count = omega arith in
         record {
           from = omega arith;
           to = omega (arith, count_within, to_end);
-          behind = λ less fits. omega (arith, count_behind fits (there less), to_end);
-          afresh = λ less long. subst (λ (k : ℕ). IsLongest old.size (used_afresh (state_at old.opening old.seat old.stored)) (gathered old) k) (sym same_count) (count_afresh long (there less));
+          behind = λ less fits. omega (arith, count_behind fits, to_end);
+          afresh = λ less long. subst (λ (k : ℕ). IsLongest old.size (used_afresh (state_at old.opening old.seat old.stored)) (gathered old) k) (sym same_count) (count_afresh long);
         }
 
     -- the block of one command does not fit behind the snapshot either
     full_so : (new : Flushed D) (result : Result (Unit {0}) FlushFault)
-        → (IsErrOf result Full → IsTooLong mid.size mid.used (take count (gathered mid)) × (new.disk ≡ mid.disk))
-        → (mid.broken ≡ false → count ≡ 0 → IsOk result × (new ≡ mid)) → IsErrOf result Full
+        → (IsErrOf result Full → IsTooLong mid.size mid.used (take count (gathered mid)) × (new.disk ≡ mid.disk)) → IsErrOf result Full
         → IsTooLong old.size old.used (gathered old)
         × ((HasNoRoomFor old.size (state_at old.opening old.seat old.stored) × (new.disk ≡ old.disk)) ⊎ IsTooLong old.size (used_afresh (state_at old.opening old.seat old.stored)) (take 1 (gathered old)))
-    full_so new result full nothing is =
+    full_so new result full is =
         let told = full is in
-        let single : IsTooLong mid.size mid.used (take 1 (gathered old)) = subst (λ (l : List CommandValue). IsTooLong mid.size mid.used (take 1 l)) same (one sound told.0) in
+        let single : IsTooLong mid.size mid.used (take 1 (gathered old)) = subst (λ (l : List CommandValue). IsTooLong mid.size mid.used (take 1 l)) still_gathered (one told.0) in
         ⊎_elim
         (λ (l : IsLeft old mid).
-        let there = some_old new result nothing is in
-        let fits = l.fits whole there in
         let long : IsTooLong old.size old.used (take 1 (gathered old)) = subst (λ (f : Flushed D). IsTooLong f.size f.used (take 1 (gathered old))) l.same single in
-        absurd (omega (arith, fits, long, records_cut 1 (gathered old))))
+        absurd (omega (arith, l.fits, long, records_cut 1 (gathered old))))
         (λ (w : IsCompacted disk old mid). (w.long, inr (subst (λ (f : Flushed D). IsTooLong f.size f.used (take 1 (gathered old))) w.is single)))
         made
-      where
-        some_old : (new : Flushed D) (result : Result (Unit {0}) FlushFault) → (mid.broken ≡ false → count ≡ 0 → IsOk result × (new ≡ mid)) → IsErrOf result Full → gathered old ≢ []
-        some_old new result nothing is none =
-            let zero : count ≡ 0 = omega (arith, count_within, ap (λ (l : List CommandValue). length l) none) in
-            false≢true (subst (λ (r : Result (Unit {0}) FlushFault). IsOk r) is (nothing sound zero).0)
 
     -- nor does it fit by what the image then shows
     no_room_left : (new : Flushed D) (result : Result (Unit {0}) FlushFault) → IsErrOf result Full → disk.honest old.disk → disk.images mid.disk (disk.content mid.disk)
         → (IsErrOf result Full → IsTooLong mid.size mid.used (take count (gathered mid)) × (new.disk ≡ mid.disk))
-        → (mid.broken ≡ false → count ≡ 0 → IsOk result × (new ≡ mid))
         → HasNoRoomLeft (disk.content new.disk) (state_at old.opening old.seat old.stored) (take 1 (gathered old))
-    no_room_left new result is honest reads full nothing =
+    no_room_left new result is honest reads full =
         let told = full is in
         let s = state_at old.opening old.seat old.stored in
-        let single : IsTooLong mid.size mid.used (take 1 (gathered old)) = subst (λ (l : List CommandValue). IsTooLong mid.size mid.used (take 1 l)) same (one sound told.0) in
+        let single : IsTooLong mid.size mid.used (take 1 (gathered old)) = subst (λ (l : List CommandValue). IsTooLong mid.size mid.used (take 1 l)) still_gathered (one told.0) in
         subst (λ (d : D). HasNoRoomLeft (disk.content d) s (take 1 (gathered old))) (sym told.1)
         (⊎_elim
         (λ (l : IsLeft old mid).
-        let there : gathered old ≢ [] = λ none. let zero : count ≡ 0 = omega (arith, count_within, ap (λ (l : List CommandValue). length l) none) in false≢true (subst (λ (r : Result (Unit {0}) FlushFault). IsOk r) is (nothing sound zero).0) in
-        let fits = l.fits whole there in
         let long : IsTooLong old.size old.used (take 1 (gathered old)) = subst (λ (f : Flushed D). IsTooLong f.size f.used (take 1 (gathered old))) l.same single in
-        absurd (omega (arith, fits, long, records_cut 1 (gathered old))))
+        absurd (omega (arith, l.fits, long, records_cut 1 (gathered old))))
         (λ (w : IsCompacted disk old mid). ∥∥₁_map (w.alone honest (disk.content mid.disk) reads) (λ (h : HoldsOnlySnapshot mid.size mid.used s (disk.content mid.disk)).
         inr (record { size = mid.size; used = mid.used; holds = h; short = single })))
         made)
@@ -211,36 +200,33 @@ module _ {D : Type 0} (disk : Ghosts D) (old mid : Flushed D) (made : IsLeft old
           (subst (λ (f : Flushed D). StandFor (disk.images new.disk) (state_at f.opening f.seat (f.stored + count))) all_but_disk (did.stands honest))
 
       -- the block stands behind what was used
-      behind_so : Fits old.size old.used (gathered old) → gathered old ≢ []
+      behind_so : Fits old.size old.used (gathered old)
           → (new.stored ≡ next_ticket old.seat) × (new.used ≡ old.used + 9 + length (records (gathered old))) × (new.won ≡ old.won)
-      behind_so fits there =
-          let all : count ≡ length (gathered old) = count_behind fits there in
-          let now = did.used (count_some there) in
-          let first : take count (gathered mid) ≡ gathered old = (λ i. take (all i) (same i)) ∙ take_all (length (gathered old)) (gathered old) (omega arith) in
+      behind_so fits =
+          let all : count ≡ length (gathered old) = count_behind fits in
+          let first : take count (gathered mid) ≡ gathered old = (λ i. take (all i) (still_gathered i)) ∙ take_all (length (gathered old)) (gathered old) (omega arith) in
           ⊎_elim
           (λ (l : IsLeft old mid). (
             omega (arith, number_so, all, to_end),
-            now ∙ (λ i. (l.same i).used + 9 + length (records (first i))),
+            did.used ∙ (λ i. (l.same i).used + 9 + length (records (first i))),
             won_so ∙ ap (λ (f : Flushed D). f.won) l.same,
           ))
           (λ (w : IsCompacted disk old mid). absurd (omega (arith, fits, w.long)))
           made
 
       -- or behind the snapshot
-      afresh_so : IsTooLong old.size old.used (gathered old) → gathered old ≢ []
+      afresh_so : IsTooLong old.size old.used (gathered old)
           → StoresAfresh old.size old.used (state_stored old) (gathered old) (new.stored - old.stored) new.used new.won
-      afresh_so long there =
+      afresh_so long =
           let s = state_stored old in
-          let now = did.used (count_some there) in
-          let room = did.fits (count_some there) in
           let k : new.stored - old.stored ≡ count = omega (arith, number_so) in
           let Of : ℕ → Type 0 = λ k. StoresAfresh old.size old.used s (gathered old) k new.used new.won in
           ⊎_elim
-          (λ (l : IsLeft old mid). absurd (omega (arith, l.fits whole there, long)))
+          (λ (l : IsLeft old mid). absurd (omega (arith, l.fits, long)))
           (λ (w : IsCompacted disk old mid). subst Of (sym k) (record {
-            longest = count_afresh long there;
-            fits = subst (λ (z : Flushed D × List CommandValue). Fits z.0.size z.0.used (take count z.1)) (λ i. (w.is i, same i)) room;
-            used_is = now ∙ (λ i. (w.is i).used + 9 + length (records (take count (same i))));
+            longest = count_afresh long;
+            fits = subst (λ (z : Flushed D × List CommandValue). Fits z.0.size z.0.used (take count z.1)) (λ i. (w.is i, still_gathered i)) did.fits;
+            used_is = did.used ∙ (λ i. (w.is i).used + 9 + length (records (take count (still_gathered i))));
             won_is = won_so ∙ ap (λ (f : Flushed D). f.won) w.is;
           }))
           made
@@ -249,7 +235,7 @@ module _ {D : Type 0} (disk : Ghosts D) (old mid : Flushed D) (made : IsLeft old
       stores_so honest = record {
         stored = stored_so;
         within = (omega (arith, number_so), omega (arith, number_so, count_within, to_end));
-        next = record { stands = λ was. stands_so (honest was); behind = behind_so; afresh = afresh_so };
+        next = record { stands = λ was. stands_so (honest was); behind = λ fits some. behind_so fits; afresh = λ long some. afresh_so long };
       }
 
     -- a stop within it finds the state before, or that after them
@@ -264,24 +250,14 @@ module _ {D : Type 0} (disk : Ghosts D) (old mid : Flushed D) (made : IsLeft old
       leaves = stored_moments count new.disk join first then honest whole;
     }
 
-    -- nothing is done where nothing is gathered
-    nothing_so : (new : Flushed D) (result : Result (Unit {0}) FlushFault) → (mid.broken ≡ false → count ≡ 0 → IsOk result × (new ≡ mid)) → gathered old ≡ [] → IsOk result × (new ≡ old)
-    nothing_so new result nothing none =
-        let zero : count ≡ 0 = omega (arith, count_within, ap (λ (l : List CommandValue). length l) none) in
-        let did = nothing sound zero in
-        ⊎_elim
-        (λ (l : IsLeft old mid). (did.0, did.1 ∙ l.same))
-        (λ (w : IsCompacted disk old mid). absurd (w.some none))
-        made
-
     pub refuses_so : (new : Flushed D) (result : Result (Unit {0}) FlushFault) → (disk.honest old.disk → disk.images mid.disk (disk.content mid.disk)) → RefusesToStoreFirst disk mid new count result → RefusesToStore disk old new result
     refuses_so new result reads refuses = record {
       room = record {
-        full = full_so new result refuses.full refuses.nothing;
-        no_room = λ honest is. no_room_left new result is honest (reads honest) refuses.full refuses.nothing;
+        full = full_so new result refuses.full;
+        no_room = λ honest is. no_room_left new result is honest (reads honest) refuses.full;
       };
       memory = memory_so new.disk result refuses.memory;
-      nothing = λ _ none. nothing_so new result refuses.nothing none;
+      nothing = λ _ none. absurd (there none);
     }
 
   falls_so : (new : Flushed D) → Falls mid new → Falls old new

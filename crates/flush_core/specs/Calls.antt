@@ -25,7 +25,7 @@ use Rattle.flush_core.specs.declared.faults.FlushFault.{FlushFault}
 use Rattle.flush_core.specs.declared.faults.FlushFault.TheVariants.{Full}
 use Rattle.flush_core.specs.Batches.{IsBatch, block_bytes, from_on, state_at, with_more}
 use Rattle.flush_core.specs.Faults.{IfMemory, IsFlushCaused}
-use Rattle.flush_core.specs.Flushed.{Flushed, gathered, state_stored}
+use Rattle.flush_core.specs.Flushed.{Flushed, HasStopped, gathered, state_stored}
 use Rattle.flush_core.specs.Outcomes.{IsCompacted, IsLeft, IsNext, IsOutcome, IsTurn, IsTurned, compacted, storing}
 use Rattle.flush_core.specs.Room.{Fits, HasNoRoom, HasNoRoomForState, HasNoRoomLeft, IsTooLong, StoresAfresh, used_afresh}
 use Rattle.flush_core.specs.Sessions.{boxes_after, ended_of}
@@ -42,13 +42,13 @@ EitherThroughout disk old new count = UnbrokenThroughout disk old new (StandsFor
 -- that is the answer.
 pub record FlushBreaks {D X : Type 0} (disk : Ghosts D) (old new : Flushed D) (result : Result X FlushFault) : Type 0 where
   pub outcome : IsOutcome old new result
-  pub stops : OnErr result ((new.broken ≡ true) × (new.seat.stopped ≡ true))
+  pub stops : OnErr result (HasStopped new)
   pub cause : IsFlushCaused (disk.failures old.disk) (disk.failures new.disk) result
 
 -- The same for a turn, which may have taken and stored commands by then.
 pub record TurnBreaks {D X : Type 0} (disk : Ghosts D) (old new : Flushed D) (result : Result X FlushFault) : Type 0 where
   pub outcome : IsTurn old new result
-  pub stops : OnErr result ((new.broken ≡ true) × (new.seat.stopped ≡ true))
+  pub stops : OnErr result (HasStopped new)
   pub cause : IsFlushCaused (disk.failures old.disk) (disk.failures new.disk) result
 
 -- Each image holds only a snapshot of the state after all that is stored, and nothing else has changed.
@@ -64,7 +64,7 @@ pub record RefusesState {D X : Type 0} (disk : Ghosts D) (old new : Flushed D) (
 -- There is room for what is gathered, or the journal was compacted for it. The call fails only if compaction was needed.
 pub record WinsRoom {D X : Type 0} (disk : Ghosts D) (old new : Flushed D) (result : Result X FlushFault) : Type 0 where
   pub made : OnOk result (IsLeft old new ⊎ IsCompacted disk old new)
-  pub needed : OnErr result ((old.broken ≡ false) × (gathered old ≢ []) × IsTooLong old.size old.used (gathered old))
+  pub needed : OnErr result (IsTooLong old.size old.used (gathered old))
 
 -- The first `count` entries are in a block after what was used, and the rest is taken out.
 pub record AddsFirst {B D : Type 0} (disk : Ghosts D) (old new : Store D disk) (batch first rest : List (EntryValue B)) (count : ℕ) : Type 0 where
@@ -84,16 +84,14 @@ pub record RefusesFirst {B D T : Type 0} (disk : Ghosts D) (old new : Store D di
 pub record StoresFirst {D : Type 0} (disk : Ghosts D) (old new : Flushed D) (count : ℕ) : Type 0 where
   pub stands : disk.honest old.disk → StandFor (disk.images new.disk) (state_at old.opening old.seat (old.stored + count))
   pub stored : new ≡ storing old (old.stored + count) new.disk new.size new.used old.won
-  pub used : 0 < count → new.used ≡ old.used + 9 + length (records (take count (gathered old)))
-  pub fits : 0 < count → Fits old.size old.used (take count (gathered old))
+  pub used : new.used ≡ old.used + 9 + length (records (take count (gathered old)))
+  pub fits : Fits old.size old.used (take count (gathered old))
 
--- If the answer is `Full`, their block doesn't fit. The disk stays then, and also if memory was refused. If there are no commands, the call
--- is never refused, and nothing changes.
+-- If the answer is `Full`, their block doesn't fit. The disk stays then, and also if memory was refused.
 pub record RefusesToStoreFirst {D X : Type 0} (disk : Ghosts D) (old new : Flushed D) (count : ℕ) (result : Result X FlushFault) : Type 0 where
   pub full : IsErrOf result Full → IsTooLong old.size old.used (take count (gathered old)) × (new.disk ≡ old.disk)
   pub no_room : disk.honest old.disk → IsErrOf result Full → HasNoRoom (disk.content old.disk) (state_stored old) (take count (gathered old))
   pub memory : IfMemory result (new.disk ≡ old.disk)
-  pub nothing : old.broken ≡ false → count ≡ 0 → IsOk result × (new ≡ old)
 
 -- what waits to be stored of all that the second flusher has taken
 abbrev pub to_store : {D : Type 0} → Flushed D → Flushed D → List CommandValue

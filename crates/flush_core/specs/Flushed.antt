@@ -56,6 +56,14 @@ gathered f = from_on f.seat f.stored
 abbrev pub unexecuted : {D : Type 0} → Flushed D → List CommandValue
 unexecuted f = between f.seat f.executed f.stored
 
+-- no step has failed, and all that is stored is executed
+abbrev pub HasExecuted : {D : Type 0} → Flushed D → Type 0
+HasExecuted f = (f.broken ≡ false) × (f.executed ≡ f.stored)
+
+-- a step has failed, and the ring is stopped
+abbrev pub HasStopped : {D : Type 0} → Flushed D → Type 0
+HasStopped f = (f.broken ≡ true) × (f.seat.stopped ≡ true)
+
 -- the outputs are of commands whose numbers are under n
 abbrev pub AreUnder : ℕ → List OutValue → Type 0
 AreUnder n outs = AllByRecursion (λ out. out.number < n) outs

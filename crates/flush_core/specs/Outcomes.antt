@@ -1,5 +1,5 @@
 -- What calls of a flusher leave.
-use Rattle.std.specs.Prelude.{◌≡◌, ◌≢◌, ◌<◌, ◌≤◌, ◌-◌, ◌++◌, drop, take, ℕ, List, [], Option, Some, true, false, Result, Ok, Err}
+use Rattle.std.specs.Prelude.{◌≡◌, ◌<◌, ◌≤◌, ◌-◌, ◌++◌, drop, take, ℕ, List, [], Option, Some, true, false, Result, Ok, Err}
 use Rattle.disk_core.specs.declared.disk.Disk.{Ghosts}
 use Rattle.command_core.specs.Commands.{CommandValue}
 use Rattle.command_core.specs.Outs.{OutValue}
@@ -60,15 +60,14 @@ using f disk used won = record f { disk = disk; used = used; won = won }
 abbrev pub compacted : {D : Type 0} → Flushed D → D → ℕ → Flushed D
 compacted f disk used = using f disk used (Some (f.used - used))
 
--- the journal is as it was: a step failed before, nothing is gathered, or its block fits as it is
+-- the journal is as it was, since the block of what is gathered fits as it is
 pub record IsLeft {D : Type 0} (old new : Flushed D) : Type 0 where
   pub same : new ≡ old
-  pub fits : old.broken ≡ false → gathered old ≢ [] → Fits old.size old.used (gathered old)
+  pub fits : Fits old.size old.used (gathered old)
 
 -- the block of what is gathered did not fit, so the journal was compacted
 pub record IsCompacted {D : Type 0} (disk : Ghosts D) (old new : Flushed D) : Type 0 where
   pub whole : old.broken ≡ false
-  pub some : gathered old ≢ []
   pub long : IsTooLong old.size old.used (gathered old)
   pub is : new ≡ compacted old new.disk (used_afresh (state_at old.opening old.seat old.stored))
   pub alone : disk.honest old.disk → Each (disk.images new.disk) (HoldsItAlone new.size new.used (state_at old.opening old.seat old.stored))

@@ -1,10 +1,10 @@
 //! Compacting the journal.
 
-ghost use Rattle.std.specs.Prelude.{◌≡◌, ◌≢◌, [], OnErr, OnOk, None, true, false};
+ghost use Rattle.std.specs.Prelude.{◌≡◌, OnErr, OnOk, None, true, false};
 ghost use Rattle.disk_core.specs.Calls.{Lasts};
 ghost use Rattle.recover_core.specs.Standing.{Stands};
 ghost use Rattle.flush_core.specs.Calls.{FlushBreaks, FlushCompacts, RefusesState, UnbrokenThroughout, WinsRoom};
-ghost use Rattle.flush_core.specs.Flushed.{gathered, state_stored};
+ghost use Rattle.flush_core.specs.Flushed.{HasExecuted, IsFlusher, gathered, state_stored};
 ghost use Rattle.flush_core.specs.Room.{Fits, IsTooLong};
 
 use crate::FlushFault;
@@ -35,9 +35,26 @@ impl<D: Disk, B: Bell, W: Width> Flusher<D, B, W> {
         ensures breaks { FlushBreaks D.Disk self.old self.new result }
         ensures lasts { Lasts D.Disk self.old.disk self.new.disk }
     {
-        if self.broken {
+        if self.is_broken() {
             return Err(FlushFault::Broken);
         }
+        self.compact_journal(alloc, ring)
+    }
+
+    // The same for a flusher that is not broken.
+    fn compact_journal(
+        &mut self,
+        alloc: Global,
+        ring: &BrokerRing<OutSender<B>>,
+    ) -> Result<(), FlushFault>
+        requires ring { self.old.seat.ring ≡ ring.now }
+        requires done { HasExecuted self.old }
+        ensures any_moment { UnbrokenThroughout D.Disk self.old self.new (λ c. Stands c (state_stored self.old)) }
+        ensures compacts { OnOk result (FlushCompacts D.Disk self.old self.new) }
+        ensures refuses { RefusesState D.Disk self.old self.new result }
+        ensures breaks { FlushBreaks D.Disk self.old self.new result }
+        ensures lasts { Lasts D.Disk self.old.disk self.new.disk }
+    {
         let before = self.journal.used();
         match self.journal.compact(alloc, &self.broker) {
             Ok(()) => {
@@ -69,13 +86,14 @@ impl<D: Disk, B: Bell, W: Width> Flusher<D, B, W> {
         self.won.take()
     }
 
-    // Whether nothing is gathered, or its block fits into the live area with the gate after it.
+    // Whether the block of what is gathered fits into the live area with the gate after it. Contracts then also know what the flusher keeps.
     fn has_room(&self) -> bool
         requires whole { self.now.broken ≡ false }
-        ensures fits { result ≡ true → gathered self.now ≢ [] → Fits self.now.size self.now.used (gathered self.now) }
-        ensures none { result ≡ false → (gathered self.now ≢ []) × IsTooLong self.now.size self.now.used (gathered self.now) }
+        ensures fits { result ≡ true → Fits self.now.size self.now.used (gathered self.now) }
+        ensures long { result ≡ false → IsTooLong self.now.size self.now.used (gathered self.now) }
+        ensures kept { IsFlusher D.honest D.images self.now }
     {
-        self.batch.is_empty() || self.journal.fits(&self.batch)
+        self.journal.fits(&self.batch)
     }
 
     // Compacts the journal if the block of what is gathered doesn't fit, and otherwise does nothing.
@@ -85,7 +103,7 @@ impl<D: Disk, B: Bell, W: Width> Flusher<D, B, W> {
         ring: &BrokerRing<OutSender<B>>,
     ) -> Result<(), FlushFault>
         requires ring { self.old.seat.ring ≡ ring.now }
-        requires executed { self.old.broken ≡ false → self.old.executed ≡ self.old.stored }
+        requires done { HasExecuted self.old }
         ensures any_moment { UnbrokenThroughout D.Disk self.old self.new (λ c. Stands c (state_stored self.old)) }
         ensures wins { WinsRoom D.Disk self.old self.new result }
         ensures refuses { RefusesState D.Disk self.old self.new result }
@@ -93,9 +111,10 @@ impl<D: Disk, B: Bell, W: Width> Flusher<D, B, W> {
         ensures calm { OnOk result (D.failures self.new.disk ≡ D.failures self.old.disk) }
         ensures lasts { Lasts D.Disk self.old.disk self.new.disk }
     {
-        if self.is_broken() || self.has_room() {
-            return Ok(());
+        if self.has_room() {
+            Ok(())
+        } else {
+            self.compact_journal(alloc, ring)
         }
-        self.compact(alloc, ring)
     }
 }

@@ -5,6 +5,7 @@ ghost use Rattle.broker_state.specs.States.{is_open};
 ghost use Rattle.broker_core.specs.Steps.{outs, step};
 ghost use Rattle.flush_core.specs.Calls.{Executes, HasRoom};
 ghost use Rattle.flush_core.specs.Faults.{IsMemory, NeedsNoDisk};
+ghost use Rattle.flush_core.specs.Flushed.{HasStopped};
 ghost use Rattle.flush_core.specs.Outcomes.{IsOutcome, executing};
 ghost use Rattle.flush_core.specs.Sessions.{ended_by, opened};
 
@@ -167,12 +168,29 @@ impl<D: Disk, B: Bell, W: Width> Flusher<D, B, W> {
         ensures executed { OnOk result (self.new ≡ executing self.old) }
         ensures untouched { self.new.disk ≡ self.old.disk }
         ensures outcome { IsOutcome self.old self.new result }
-        ensures stops { OnErr result ((self.new.broken ≡ true) × (self.new.seat.stopped ≡ true)) }
+        ensures stops { OnErr result (HasStopped self.new) }
         ensures fault { NeedsNoDisk result }
     {
-        if self.broken {
+        if self.is_broken() {
             return Err(FlushFault::Broken);
         }
+        self.execute_stored(alloc, ring)
+    }
+
+    // The same for a flusher that is not broken.
+    pub(crate) fn execute_stored(
+        &mut self,
+        alloc: Global,
+        ring: &BrokerRing<OutSender<B>>,
+    ) -> Result<(), FlushFault>
+        requires ring { self.old.seat.ring ≡ ring.now }
+        requires whole { self.old.broken ≡ false }
+        ensures executed { OnOk result (self.new ≡ executing self.old) }
+        ensures untouched { self.new.disk ≡ self.old.disk }
+        ensures outcome { IsOutcome self.old self.new result }
+        ensures stops { OnErr result (HasStopped self.new) }
+        ensures fault { NeedsNoDisk result }
+    {
         match execute_all(alloc, &mut self.broker, &mut self.done, &mut self.outlet) {
             Ok(()) => {
                 self.executed = self.stored;

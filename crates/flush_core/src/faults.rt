@@ -12,7 +12,7 @@ use std::{error, fmt};
 pub enum FlushFault {
     /// The disk failed.
     Device,
-    /// The block of the batch doesn't fit into the journal with the gate after it.
+    /// No snapshot of the state fits into an area, or the block of the next command doesn't after one.
     Full,
     /// A step failed before.
     Broken,

@@ -10,8 +10,8 @@ use disk_core::Disk;
 use outbox_core::{Bell, OutSender};
 
 impl<D: Disk, B: Bell, W: Width> Flusher<D, B, W> {
-    /// Stops the ring: from now on it takes no command, for good. What it took can still be made durable and published. Nothing else
-    /// changes.
+    /// Stops the ring, for good: an `append` that reads this refuses. What the ring took can still be made durable and published. Nothing
+    /// else changes.
     pub fn stop(&mut self, ring: &BrokerRing<OutSender<B>>)
         requires { self.old.seat.ring ≡ ring.now }
         ensures { self.new ≡ record self.old { seat = when_stopped self.old.seat } }

@@ -1,9 +1,9 @@
 //! Making the commands durable.
 
-ghost use Rattle.std.specs.Prelude.{◌≡◌, ◌≢◌, ◌<◌, ◌≤◌, ◌+◌, [], take, OnOk, false, length};
+ghost use Rattle.std.specs.Prelude.{◌≡◌, ◌≢◌, ◌<◌, ◌≤◌, ◌+◌, [], take, OnOk, true, false, length};
 ghost use Rattle.disk_core.specs.Calls.{Lasts};
 ghost use Rattle.flush_core.specs.Calls.{EitherThroughout, FlushBreaks, RefusesToStore, RefusesToStoreFirst, StoresFirst, StoresGathered, StoresThroughout};
-ghost use Rattle.flush_core.specs.Flushed.{gathered};
+ghost use Rattle.flush_core.specs.Flushed.{HasExecuted, IsFlusher, gathered};
 ghost use Rattle.flush_core.specs.Room.{IsTooLong};
 
 use crate::FlushFault;
@@ -42,25 +42,57 @@ impl<D: Disk, B: Bell, W: Width> Flusher<D, B, W> {
         if self.is_broken() {
             return Err(FlushFault::Broken);
         }
+        self.store_gathered(alloc, ring)
+    }
+
+    // The same for a flusher that is not broken.
+    pub(crate) fn store_gathered(
+        &mut self,
+        alloc: Global,
+        ring: &BrokerRing<OutSender<B>>,
+    ) -> Result<(), FlushFault>
+        requires ring { self.old.seat.ring ≡ ring.now }
+        requires done { HasExecuted self.old }
+        ensures any_moment { StoresThroughout D.Disk self.old self.new self.old result }
+        ensures stores { OnOk result (StoresGathered D.Disk self.old self.new) }
+        ensures refuses { RefusesToStore D.Disk self.old self.new result }
+        ensures breaks { FlushBreaks D.Disk self.old self.new result }
+        ensures lasts { Lasts D.Disk self.old.disk self.new.disk }
+    {
+        if self.has_none() {
+            return Ok(());
+        }
         self.win_room(alloc, ring)?;
         let count = self.fitting();
         self.append(alloc, ring, count)
     }
 
+    // Whether nothing is gathered. Contracts then also know what the flusher keeps.
+    fn has_none(&self) -> bool
+        requires whole { self.now.broken ≡ false }
+        ensures none { result ≡ true → gathered self.now ≡ [] }
+        ensures some { result ≡ false → gathered self.now ≢ [] }
+        ensures kept { IsFlusher D.honest D.images self.now }
+    {
+        self.batch.is_empty()
+    }
+
     // How many of the gathered commands, from the first on, have a block that fits; 1 if not even the first has.
     fn fitting(&self) -> usize
-        ensures within { self.now.broken ≡ false → result ≤ length (gathered self.now) }
-        ensures some { self.now.broken ≡ false → gathered self.now ≢ [] → 0 < result }
-        ensures one { self.now.broken ≡ false → IsTooLong self.now.size self.now.used (take result (gathered self.now)) →
+        requires whole { self.now.broken ≡ false }
+        requires some { gathered self.now ≢ [] }
+        ensures within { result ≤ length (gathered self.now) }
+        ensures some { 0 < result }
+        ensures one { IsTooLong self.now.size self.now.used (take result (gathered self.now)) →
             IsTooLong self.now.size self.now.used (take 1 (gathered self.now)) }
-        ensures more { self.now.broken ≡ false → result < length (gathered self.now) →
+        ensures more { result < length (gathered self.now) →
             IsTooLong self.now.size self.now.used (take (result + 1) (gathered self.now)) }
     {
         count_fitting(self.journal.size(), self.journal.used(), &self.batch)
     }
 
-    // Makes the first `count` gathered commands durable in one block, after what the live area holds. If `count` is 0, it calls no disk and
-    // changes nothing. `Full` and `Memory` leave the disk as it was.
+    // Makes the first `count` gathered commands durable in one block, after what the live area holds. `Full` and `Memory` leave the disk as
+    // it was.
     fn append(
         &mut self,
         alloc: Global,
@@ -68,20 +100,14 @@ impl<D: Disk, B: Bell, W: Width> Flusher<D, B, W> {
         count: usize,
     ) -> Result<(), FlushFault>
         requires ring { self.old.seat.ring ≡ ring.now }
-        requires executed { self.old.broken ≡ false → self.old.executed ≡ self.old.stored }
-        requires within { self.old.broken ≡ false → count ≤ length (gathered self.old) }
+        requires done { HasExecuted self.old }
+        requires count { (0 < count) × (count ≤ length (gathered self.old)) }
         ensures any_moment { EitherThroughout D.Disk self.old self.new count }
         ensures stores { OnOk result (StoresFirst D.Disk self.old self.new count) }
         ensures refuses { RefusesToStoreFirst D.Disk self.old self.new count result }
         ensures breaks { FlushBreaks D.Disk self.old self.new result }
         ensures lasts { Lasts D.Disk self.old.disk self.new.disk }
     {
-        if self.broken {
-            return Err(FlushFault::Broken);
-        }
-        if count == 0 {
-            return Ok(());
-        }
         match append_first(alloc, &mut self.journal, &mut self.batch, count) {
             Ok(rest) => {
                 let left = rest.len() as u64;

@@ -38,9 +38,9 @@ impl<D: Disk, B: Bell, W: Width> Flusher<D, B, W> {
         if self.is_broken() {
             return Err(FlushFault::Broken);
         }
-        let count = self.gather(ring)?;
-        self.store(alloc, ring)?;
-        self.execute(alloc, ring)?;
+        let count = self.take_batch(ring)?;
+        self.store_gathered(alloc, ring)?;
+        self.execute_stored(alloc, ring)?;
         self.publish(ring);
         Ok(count)
     }

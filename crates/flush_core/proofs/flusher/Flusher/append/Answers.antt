@@ -1,5 +1,4 @@
 use Rattle.std.proofs.Common.{Err, true, ◌+◌, ◌-◌, arith, ap, ◌++◌, subst, sym, refl, length, take, drop, ◌≤◌, ◌∙◌, ◌≡◌, List, ℕ, false}
-use Rattle.std.proofs.lemmas.Bool.{false≢true}
 use Rattle.std.proofs.lemmas.List.{length-drop, take-map}
 use Rattle.std.specs.List.{drop-map}
 use Rattle.disk_core.specs.Calls.{Lasts}
@@ -24,9 +23,7 @@ use Rattle.recover_core.specs.Stores.{disk_of, size_of, used_of}
 use Rattle.flush_core.specs.Flushed.{Flushed, flushed, gathered}
 use Rattle.flush_core.specs.Outcomes.{IsOutcome, storing}
 use Rattle.flush_core.specs.Room.{Fits, HasNoRoom, IsTooLong}
-use Rattle.flush_core.proofs.Calls.{lasts_same}
 use Rattle.flush_core.proofs.Room.{lacks_room}
-use Rattle.flush_core.proofs.Turns.{unstored}
 use Rattle.flush_core.proofs.Keeping.{hold_either, held_stored, store_fails, stored_brought, stores}
 use Rattle.flush_core.proofs.Prefixes.{rest_is_batch}
 use Rattle.flush_core.proofs.Taken.{at_front, length_commands, length_from}
@@ -35,16 +32,17 @@ use Rattle.flush_core.proofs.flusher.Flusher.append.Goals as goal
 pub invariant_of-self : goal.invariant_of-self
 invariant_of-self g c =
     let it = c.self.inside in
+    let whole : it.broken ≡ false = ap (λ (f : Flushed g.row.D.Denot). f.broken) c.self.view_is ∙ c.requires.done.0 in
     let f = flushed it.journal it.seat it.opening.value.state it.stored it.executed (it.done.items ++ it.batch.items) it.broker it.outlet.boxes it.outlet.ended.items it.outlet.past.items it.outlet.waiting.items it.outlet.left.items it.broken it.won in
     let opening = it.opening.value.state in
     let kept = c.self.invariant.0 in
-    let held = c.self.invariant.1 c.if-self.false in
+    let held = c.self.invariant.1 whole in
     let s = state_at opening it.seat it.stored in
-    let executed : it.executed ≡ it.stored = subst (λ (f : Flushed g.row.D.Denot). f.executed ≡ f.stored) (sym c.self.view_is) (c.requires.executed (ap (λ (f : Flushed g.row.D.Denot). f.broken) (sym c.self.view_is) ∙ c.if-self.false)) in
-    let is : commands (take c.args.count it.batch.items) ≡ take c.args.count (from_on it.seat it.stored) = sym (take-map (λ (entry : EntryValue SenderValue). entry.command) c.args.count it.batch.items) ∙ ap (λ (l : List CommandValue). take c.args.count l) (c.self.invariant.1 c.if-self.false).batch_is in
+    let executed : it.executed ≡ it.stored = subst (λ (f : Flushed g.row.D.Denot). f.executed ≡ f.stored) (sym c.self.view_is) c.requires.done.1 in
+    let is : commands (take c.args.count it.batch.items) ≡ take c.args.count (from_on it.seat it.stored) = sym (take-map (λ (entry : EntryValue SenderValue). entry.command) c.args.count it.batch.items) ∙ ap (λ (l : List CommandValue). take c.args.count l) (c.self.invariant.1 whole).batch_is in
     let state : state_after s (commands (take c.args.count it.batch.items)) ≡ state_at opening it.seat (it.stored + c.args.count) =
     ap (λ (l : List CommandValue). state_after s l) is ∙ at_front opening it.seat it.stored c.args.count (omega (arith, c.self.invariant.0.begun, c.self.invariant.0.marked, c.self.invariant.0.executed)) in
-    let within : c.args.count ≤ length (from_on it.seat it.stored) = subst (λ (f : Flushed g.row.D.Denot). c.args.count ≤ length (gathered f)) (sym c.self.view_is) (c.requires.within (ap (λ (f : Flushed g.row.D.Denot). f.broken) (sym c.self.view_is) ∙ c.if-self.false)) in
+    let within : c.args.count ≤ length (from_on it.seat it.stored) = subst (λ (f : Flushed g.row.D.Denot). c.args.count ≤ length (gathered f)) (sym c.self.view_is) c.requires.count.1 in
     let begun : it.seat.base ≤ it.stored = omega (arith, kept.begun, kept.marked, kept.executed) in
     let all = length_from it.seat it.stored begun kept.stored in
     let number : c.saturating_sub-self-inside.result ≡ it.stored + c.args.count = omega (
@@ -61,35 +59,36 @@ invariant_of-self g c =
     let done : c.replace.result.items ≡ take c.args.count it.batch.items = (λ i. (c.replace.ensures.value i).items) ∙ c.in-Ok.ensures.adds.first_is in
     let rest : c.replace.new.dest.items ≡ drop c.args.count it.batch.items = (λ i. (c.replace.ensures.after i).items) ∙ c.in-Ok.ensures.adds.rest_is in
     let same = stored_brought it.seat it.stored it.executed c.args.count _ it.batch.items it.done.items _ _ _ _ _ _ rest done executed held in (
-      stores g.D.Disk.honest g.D.Disk.images f c.append_first.new.journal.disk _ _ c.saturating_sub-self-inside.result (c.replace.result.items ++ c.replace.new.dest.items) (omega (arith, number)) (omega (arith, number, all, within)) c.if-self.false
+      stores g.D.Disk.honest g.D.Disk.images f c.append_first.new.journal.disk _ _ c.saturating_sub-self-inside.result (c.replace.result.items ++ c.replace.new.dest.items) (omega (arith, number)) (omega (arith, number, all, within)) whole
           (λ h. let was = c.append_first.ensures.lasts.was_honest h in
           subst (λ (s : State). StandFor (g.D.Disk.images c.append_first.new.journal.disk) s)
           (state ∙ ap (λ n. state_at opening it.seat n) (sym number))
-          (c.in-Ok.ensures.adds.adds.stands was s ((kept.running c.if-self.false).stands was))) same kept,
+          (c.in-Ok.ensures.adds.adds.stands was s ((kept.running whole).stands was))) same kept,
       λ w. held_stored it.seat it.stored c.saturating_sub-self-inside.result it.executed c.args.count _ _ it.batch.items it.done.items c.replace.new.dest.items c.replace.result.items it.bytes c.bytes_without-self-inside.result _ _ _
           rest done number (omega (arith, c.next.ensures.most)) c.in-Ok.ensures.adds.whole executed begun
           (c.bytes_without-self-inside.ensures ∙ ap (λ es. it.bytes - length (records (commands es))) (c.deref.ensures.value ∙ sym (λ i. (c.replace.ensures.value i).items))) held,
       c.self.invariant.2,
       λ w. subst (λ (z : ℕ × List CommandValue). IsBatch g.W.Width.COMMANDS (block_bytes z.0 g.W.Width.BYTES) z.1)
           (λ i. (sym c.append_first.ensures.size i, sym (ap (λ (l : List (EntryValue SenderValue)). commands l) rest ∙ sym (drop-map (λ (entry : EntryValue SenderValue). entry.command) c.args.count it.batch.items)) i))
-          (rest_is_batch g.W.Width.COMMANDS (block_bytes (size_of it.journal) g.W.Width.BYTES) c.args.count (commands it.batch.items) (c.self.invariant.3 c.if-self.false)),
+          (rest_is_batch g.W.Width.COMMANDS (block_bytes (size_of it.journal) g.W.Width.BYTES) c.args.count (commands it.batch.items) (c.self.invariant.3 whole)),
     )
 
 pub invariant_of-self-in-Err : goal.invariant_of-self-in-Err
 invariant_of-self-in-Err g c =
     let it = c.self.inside in
+    let whole : it.broken ≡ false = ap (λ (f : Flushed g.row.D.Denot). f.broken) c.self.view_is ∙ c.requires.done.0 in
     let f = flushed it.journal it.seat it.opening.value.state it.stored it.executed (it.done.items ++ it.batch.items) it.broker it.outlet.boxes it.outlet.ended.items it.outlet.past.items it.outlet.waiting.items it.outlet.left.items it.broken it.won in
     let opening = it.opening.value.state in
     let kept = c.self.invariant.0 in
     let s = state_at opening it.seat it.stored in
-    let is : commands (take c.args.count it.batch.items) ≡ take c.args.count (from_on it.seat it.stored) = sym (take-map (λ (entry : EntryValue SenderValue). entry.command) c.args.count it.batch.items) ∙ ap (λ (l : List CommandValue). take c.args.count l) (c.self.invariant.1 c.if-self.false).batch_is in
+    let is : commands (take c.args.count it.batch.items) ≡ take c.args.count (from_on it.seat it.stored) = sym (take-map (λ (entry : EntryValue SenderValue). entry.command) c.args.count it.batch.items) ∙ ap (λ (l : List CommandValue). take c.args.count l) (c.self.invariant.1 whole).batch_is in
     let state : state_after s (commands (take c.args.count it.batch.items)) ≡ state_at opening it.seat (it.stored + c.args.count) =
     ap (λ (l : List CommandValue). state_after s l) is ∙ at_front opening it.seat it.stored c.args.count (omega (arith, c.self.invariant.0.begun, c.self.invariant.0.marked, c.self.invariant.0.executed)) in
-    let within : c.args.count ≤ length (from_on it.seat it.stored) = subst (λ (f : Flushed g.row.D.Denot). c.args.count ≤ length (gathered f)) (sym c.self.view_is) (c.requires.within (ap (λ (f : Flushed g.row.D.Denot). f.broken) (sym c.self.view_is) ∙ c.if-self.false)) in
+    let within : c.args.count ≤ length (from_on it.seat it.stored) = subst (λ (f : Flushed g.row.D.Denot). c.args.count ≤ length (gathered f)) (sym c.self.view_is) c.requires.count.1 in
     let begun : it.seat.base ≤ it.stored = omega (arith, kept.begun, kept.marked, kept.executed) in (
       store_fails g.D.Disk.honest g.D.Disk.images f c.stop.new.seat c.append_first.new.journal.disk _ _ (it.done.items ++ c.append_first.new.batch.items) c.stop.ensures
           (λ h. let was = c.append_first.ensures.lasts.was_honest h in
-          let leaves = c.append_first.ensures.any_moment s ((kept.running c.if-self.false).stands was) was in
+          let leaves = c.append_first.ensures.any_moment s ((kept.running whole).stands was) was in
           hold_either (g.D.Disk.images c.append_first.new.journal.disk) opening it.seat it.stored (it.stored + c.args.count) (omega (arith, kept.marked, kept.executed)) (omega arith) (omega (arith, within, length_from it.seat it.stored begun kept.stored))
           (λ image among. subst (λ (t : State). StandsForEither s t image) state
           (leaves.each image (g.met.D.Disk.counts_now c.append_first.new.journal.disk (g.D.Disk.moment it.journal.disk) image leaves.later among)))) kept,
@@ -101,9 +100,10 @@ invariant_of-self-in-Err g c =
 pub returns-in-Ok-clause-any_moment : goal.returns-in-Ok-clause-any_moment
 returns-in-Ok-clause-any_moment g c =
     let it = c.self.inside in
+    let whole : it.broken ≡ false = ap (λ (f : Flushed g.row.D.Denot). f.broken) c.self.view_is ∙ c.requires.done.0 in
     let opening = it.opening.value.state in
     let s = state_at opening it.seat it.stored in
-    let is : commands (take c.args.count it.batch.items) ≡ take c.args.count (from_on it.seat it.stored) = sym (take-map (λ (entry : EntryValue SenderValue). entry.command) c.args.count it.batch.items) ∙ ap (λ (l : List CommandValue). take c.args.count l) (c.self.invariant.1 c.if-self.false).batch_is in
+    let is : commands (take c.args.count it.batch.items) ≡ take c.args.count (from_on it.seat it.stored) = sym (take-map (λ (entry : EntryValue SenderValue). entry.command) c.args.count it.batch.items) ∙ ap (λ (l : List CommandValue). take c.args.count l) (c.self.invariant.1 whole).batch_is in
     let state : state_after s (commands (take c.args.count it.batch.items)) ≡ state_at opening it.seat (it.stored + c.args.count) =
     ap (λ (l : List CommandValue). state_after s l) is ∙ at_front opening it.seat it.stored c.args.count (omega (arith, c.self.invariant.0.begun, c.self.invariant.0.marked, c.self.invariant.0.executed)) in
     subst (λ (f : Flushed g.row.D.Denot). g.D.Disk.honest f.disk → f.broken ≡ false → LeavesOnly g.D.Disk.moment g.D.Disk.images_since f.disk c.append_first.new.journal.disk (StandsForEither (state_at f.opening f.seat f.stored) (state_at f.opening f.seat (f.stored + c.args.count)))) c.self.view_is
@@ -113,86 +113,35 @@ returns-in-Ok-clause-any_moment g c =
 pub returns-in-Err-clause-any_moment : goal.returns-in-Err-clause-any_moment
 returns-in-Err-clause-any_moment g c =
     let it = c.self.inside in
+    let whole : it.broken ≡ false = ap (λ (f : Flushed g.row.D.Denot). f.broken) c.self.view_is ∙ c.requires.done.0 in
     let opening = it.opening.value.state in
     let s = state_at opening it.seat it.stored in
-    let is : commands (take c.args.count it.batch.items) ≡ take c.args.count (from_on it.seat it.stored) = sym (take-map (λ (entry : EntryValue SenderValue). entry.command) c.args.count it.batch.items) ∙ ap (λ (l : List CommandValue). take c.args.count l) (c.self.invariant.1 c.if-self.false).batch_is in
+    let is : commands (take c.args.count it.batch.items) ≡ take c.args.count (from_on it.seat it.stored) = sym (take-map (λ (entry : EntryValue SenderValue). entry.command) c.args.count it.batch.items) ∙ ap (λ (l : List CommandValue). take c.args.count l) (c.self.invariant.1 whole).batch_is in
     let state : state_after s (commands (take c.args.count it.batch.items)) ≡ state_at opening it.seat (it.stored + c.args.count) =
     ap (λ (l : List CommandValue). state_after s l) is ∙ at_front opening it.seat it.stored c.args.count (omega (arith, c.self.invariant.0.begun, c.self.invariant.0.marked, c.self.invariant.0.executed)) in
     subst (λ (f : Flushed g.row.D.Denot). g.D.Disk.honest f.disk → f.broken ≡ false → LeavesOnly g.D.Disk.moment g.D.Disk.images_since f.disk c.append_first.new.journal.disk (StandsForEither (state_at f.opening f.seat f.stored) (state_at f.opening f.seat (f.stored + c.args.count)))) c.self.view_is
     (λ h w. subst (λ (t : State). LeavesOnly g.D.Disk.moment g.D.Disk.images_since it.journal.disk c.append_first.new.journal.disk (StandsForEither s t)) state
     (c.append_first.ensures.any_moment s ((c.self.invariant.0.running w).stands h) h))
 
-pub returns-then-count-eq0-clause-any_moment : goal.returns-then-count-eq0-clause-any_moment
-returns-then-count-eq0-clause-any_moment g c =
-    let it = c.self.inside in
-    let f = flushed it.journal it.seat it.opening.value.state it.stored it.executed (it.done.items ++ it.batch.items) it.broker it.outlet.boxes it.outlet.ended.items it.outlet.past.items it.outlet.waiting.items it.outlet.left.items it.broken it.won in
-    subst (λ (f : Flushed g.row.D.Denot). g.D.Disk.honest f.disk → f.broken ≡ false → LeavesOnly g.D.Disk.moment g.D.Disk.images_since f.disk f.disk (StandsForEither (state_at f.opening f.seat f.stored) (state_at f.opening f.seat (f.stored + c.args.count)))) c.self.view_is
-    (λ h w. unstored g.D.Disk f it.journal.disk _ c.self.invariant.0 w (g.met.D.Disk.only_now it.journal.disk) refl h)
-
-pub returns-then-self-clause-any_moment : goal.returns-then-self-clause-any_moment
-returns-then-self-clause-any_moment g c = λ h w. absurd (false≢true (sym w ∙ (ap (λ (f : Flushed g.row.D.Denot). f.broken) (sym c.self.view_is) ∙ c.if-self.true)))
-
-pub returns-then-self-clause-refuses : goal.returns-then-self-clause-refuses
-returns-then-self-clause-refuses g c = record {
-  full = λ is. absurd (cc is);
-  no_room = λ honest is. absurd (cc is);
-  memory = tt;
-  nothing = λ w none. absurd (false≢true (sym w ∙ (ap (λ (f : Flushed g.row.D.Denot). f.broken) (sym c.self.view_is) ∙ c.if-self.true)));
-}
-
-pub returns-then-self-clause-breaks : goal.returns-then-self-clause-breaks
-returns-then-self-clause-breaks g c = record {
-  outcome = (ap (λ (f : Flushed g.row.D.Denot). f.broken) (sym c.self.view_is) ∙ c.if-self.true, refl);
-  stops = subst (λ (f : Flushed g.row.D.Denot). (f.broken ≡ true) × (f.seat.stopped ≡ true)) c.self.view_is (c.if-self.true, c.self.invariant.0.stopped c.if-self.true);
-  cause = refl;
-}
-
-pub returns-then-count-eq0-clause-stores : goal.returns-then-count-eq0-clause-stores
-returns-then-count-eq0-clause-stores g c = record {
-  stands = let it = c.self.inside in
-      let same : it.stored ≡ it.stored + c.args.count = omega (arith, c.if-count-eq0.true) in
-      subst (λ (f : Flushed g.row.D.Denot). g.D.Disk.honest f.disk → StandFor (g.D.Disk.images f.disk) (state_at f.opening f.seat (f.stored + c.args.count))) c.self.view_is
-      (λ h. subst (λ n. StandFor (g.D.Disk.images it.journal.disk) (state_at it.opening.value.state it.seat n)) same ((c.self.invariant.0.running c.if-self.false).stands h));
-  stored = let it = c.self.inside in
-      let f = flushed it.journal it.seat it.opening.value.state it.stored it.executed (it.done.items ++ it.batch.items) it.broker it.outlet.boxes it.outlet.ended.items it.outlet.past.items it.outlet.waiting.items it.outlet.left.items it.broken it.won in
-      let same : it.stored ≡ it.stored + c.args.count = omega (arith, c.if-count-eq0.true) in
-      subst (λ (f : Flushed g.row.D.Denot). f ≡ storing f (f.stored + c.args.count) f.disk f.size f.used f.won) c.self.view_is (λ i. record f { stored = same i });
-  used = λ some. absurd (omega (arith, some, c.if-count-eq0.true));
-  fits = λ some. absurd (omega (arith, some, c.if-count-eq0.true));
-}
-
-pub returns-then-count-eq0-clause-refuses : goal.returns-then-count-eq0-clause-refuses
-returns-then-count-eq0-clause-refuses g c = record {
-  full = λ is. absurd (cc is);
-  no_room = λ honest is. absurd (cc is);
-  memory = tt;
-  nothing = λ w none. (refl, refl);
-}
-
-pub returns-then-count-eq0-clause-breaks : goal.returns-then-count-eq0-clause-breaks
-returns-then-count-eq0-clause-breaks g c = record {
-  outcome = (ap (λ (f : Flushed g.row.D.Denot). f.broken) (sym c.self.view_is) ∙ c.if-self.false, ap (λ (f : Flushed g.row.D.Denot). f.broken) (sym c.self.view_is) ∙ c.if-self.false);
-  stops = tt;
-  cause = refl;
-}
-
 pub returns-in-Ok-clause-stores : goal.returns-in-Ok-clause-stores
 returns-in-Ok-clause-stores g c = record {
   stands = let it = c.self.inside in
+      let whole : it.broken ≡ false = ap (λ (f : Flushed g.row.D.Denot). f.broken) c.self.view_is ∙ c.requires.done.0 in
       let opening = it.opening.value.state in
       let s = state_at opening it.seat it.stored in
-      let is : commands (take c.args.count it.batch.items) ≡ take c.args.count (from_on it.seat it.stored) = sym (take-map (λ (entry : EntryValue SenderValue). entry.command) c.args.count it.batch.items) ∙ ap (λ (l : List CommandValue). take c.args.count l) (c.self.invariant.1 c.if-self.false).batch_is in
+      let is : commands (take c.args.count it.batch.items) ≡ take c.args.count (from_on it.seat it.stored) = sym (take-map (λ (entry : EntryValue SenderValue). entry.command) c.args.count it.batch.items) ∙ ap (λ (l : List CommandValue). take c.args.count l) (c.self.invariant.1 whole).batch_is in
       let state : state_after s (commands (take c.args.count it.batch.items)) ≡ state_at opening it.seat (it.stored + c.args.count) =
       ap (λ (l : List CommandValue). state_after s l) is ∙ at_front opening it.seat it.stored c.args.count (omega (arith, c.self.invariant.0.begun, c.self.invariant.0.marked, c.self.invariant.0.executed)) in
       subst (λ (f : Flushed g.row.D.Denot). g.D.Disk.honest f.disk → StandFor (g.D.Disk.images c.append_first.new.journal.disk) (state_at f.opening f.seat (f.stored + c.args.count))) c.self.view_is
       (λ h. subst (λ (t : State). StandFor (g.D.Disk.images c.append_first.new.journal.disk) t) state
-      (c.in-Ok.ensures.adds.adds.stands h s ((c.self.invariant.0.running c.if-self.false).stands h)));
+      (c.in-Ok.ensures.adds.adds.stands h s ((c.self.invariant.0.running whole).stands h)));
   stored = let it = c.self.inside in
+      let whole : it.broken ≡ false = ap (λ (f : Flushed g.row.D.Denot). f.broken) c.self.view_is ∙ c.requires.done.0 in
       let f = flushed it.journal it.seat it.opening.value.state it.stored it.executed (it.done.items ++ it.batch.items) it.broker it.outlet.boxes it.outlet.ended.items it.outlet.past.items it.outlet.waiting.items it.outlet.left.items it.broken it.won in
       let kept = c.self.invariant.0 in
-      let held = c.self.invariant.1 c.if-self.false in
-      let executed : it.executed ≡ it.stored = subst (λ (f : Flushed g.row.D.Denot). f.executed ≡ f.stored) (sym c.self.view_is) (c.requires.executed (ap (λ (f : Flushed g.row.D.Denot). f.broken) (sym c.self.view_is) ∙ c.if-self.false)) in
-      let within : c.args.count ≤ length (from_on it.seat it.stored) = subst (λ (f : Flushed g.row.D.Denot). c.args.count ≤ length (gathered f)) (sym c.self.view_is) (c.requires.within (ap (λ (f : Flushed g.row.D.Denot). f.broken) (sym c.self.view_is) ∙ c.if-self.false)) in
+      let held = c.self.invariant.1 whole in
+      let executed : it.executed ≡ it.stored = subst (λ (f : Flushed g.row.D.Denot). f.executed ≡ f.stored) (sym c.self.view_is) c.requires.done.1 in
+      let within : c.args.count ≤ length (from_on it.seat it.stored) = subst (λ (f : Flushed g.row.D.Denot). c.args.count ≤ length (gathered f)) (sym c.self.view_is) c.requires.count.1 in
       let begun : it.seat.base ≤ it.stored = omega (arith, kept.begun, kept.marked, kept.executed) in
       let all = length_from it.seat it.stored begun kept.stored in
       let number : c.saturating_sub-self-inside.result ≡ it.stored + c.args.count = omega (
@@ -211,12 +160,14 @@ returns-in-Ok-clause-stores g c = record {
       let same = stored_brought it.seat it.stored it.executed c.args.count _ it.batch.items it.done.items _ _ _ _ _ _ rest done executed held in
       (λ i. record f { disk = disk_of c.append_first.new.journal; size = size_of c.append_first.new.journal; used = used_of c.append_first.new.journal; stored = number i; brought = same i })
       ∙ ap (λ (f : Flushed g.row.D.Denot). storing f (f.stored + c.args.count) (disk_of c.append_first.new.journal) (size_of c.append_first.new.journal) (used_of c.append_first.new.journal) f.won) c.self.view_is;
-  used = λ some. let it = c.self.inside in
-      let is : commands (take c.args.count it.batch.items) ≡ take c.args.count (from_on it.seat it.stored) = sym (take-map (λ (entry : EntryValue SenderValue). entry.command) c.args.count it.batch.items) ∙ ap (λ (l : List CommandValue). take c.args.count l) (c.self.invariant.1 c.if-self.false).batch_is in
+  used = let it = c.self.inside in
+      let whole : it.broken ≡ false = ap (λ (f : Flushed g.row.D.Denot). f.broken) c.self.view_is ∙ c.requires.done.0 in
+      let is : commands (take c.args.count it.batch.items) ≡ take c.args.count (from_on it.seat it.stored) = sym (take-map (λ (entry : EntryValue SenderValue). entry.command) c.args.count it.batch.items) ∙ ap (λ (l : List CommandValue). take c.args.count l) (c.self.invariant.1 whole).batch_is in
       subst (λ (f : Flushed g.row.D.Denot). used_of c.append_first.new.journal ≡ f.used + 9 + length (records (take c.args.count (gathered f)))) c.self.view_is
       (subst (λ (l : List CommandValue). used_of c.append_first.new.journal ≡ used_of it.journal + 9 + length (records l)) is c.in-Ok.ensures.adds.adds.used);
-  fits = λ some. let it = c.self.inside in
-      let is : commands (take c.args.count it.batch.items) ≡ take c.args.count (from_on it.seat it.stored) = sym (take-map (λ (entry : EntryValue SenderValue). entry.command) c.args.count it.batch.items) ∙ ap (λ (l : List CommandValue). take c.args.count l) (c.self.invariant.1 c.if-self.false).batch_is in
+  fits = let it = c.self.inside in
+      let whole : it.broken ≡ false = ap (λ (f : Flushed g.row.D.Denot). f.broken) c.self.view_is ∙ c.requires.done.0 in
+      let is : commands (take c.args.count it.batch.items) ≡ take c.args.count (from_on it.seat it.stored) = sym (take-map (λ (entry : EntryValue SenderValue). entry.command) c.args.count it.batch.items) ∙ ap (λ (l : List CommandValue). take c.args.count l) (c.self.invariant.1 whole).batch_is in
       subst (λ (f : Flushed g.row.D.Denot). Fits f.size f.used (take c.args.count (gathered f))) c.self.view_is
       (subst (λ (l : List CommandValue). Fits (size_of it.journal) (used_of it.journal) l) is c.in-Ok.ensures.adds.fits);
 }
@@ -226,12 +177,11 @@ returns-in-Ok-clause-refuses g c = record {
   full = λ is. absurd (cc is);
   no_room = λ honest is. absurd (cc is);
   memory = tt;
-  nothing = λ w none. absurd (c.if-count-eq0.false none);
 }
 
 pub returns-in-Ok-clause-breaks : goal.returns-in-Ok-clause-breaks
 returns-in-Ok-clause-breaks g c = record {
-  outcome = (ap (λ (f : Flushed g.row.D.Denot). f.broken) (sym c.self.view_is) ∙ c.if-self.false, c.if-self.false);
+  outcome = (c.requires.done.0, (ap (λ (f : Flushed g.row.D.Denot). f.broken) c.self.view_is ∙ c.requires.done.0));
   stops = tt;
   cause = let it = c.self.inside in
       let after = g.D.Disk.failures c.append_first.new.journal.disk in
@@ -242,38 +192,40 @@ returns-in-Ok-clause-breaks g c = record {
 pub returns-in-Err-clause-refuses : goal.returns-in-Err-clause-refuses
 returns-in-Err-clause-refuses g c = record {
   full = λ is. let it = c.self.inside in
+      let whole : it.broken ≡ false = ap (λ (f : Flushed g.row.D.Denot). f.broken) c.self.view_is ∙ c.requires.done.0 in
       let full = only_full c.in-Err.fault (sym c.from.ensures ∙ same_fault c.from.result Full is) in
       let told = c.append_first.ensures.refuses.block.full (c.in-Err.is ∙ ap (λ (fault : AreaFault). Err fault) full) in
-      let is : commands (take c.args.count it.batch.items) ≡ take c.args.count (from_on it.seat it.stored) = sym (take-map (λ (entry : EntryValue SenderValue). entry.command) c.args.count it.batch.items) ∙ ap (λ (l : List CommandValue). take c.args.count l) (c.self.invariant.1 c.if-self.false).batch_is in
+      let is : commands (take c.args.count it.batch.items) ≡ take c.args.count (from_on it.seat it.stored) = sym (take-map (λ (entry : EntryValue SenderValue). entry.command) c.args.count it.batch.items) ∙ ap (λ (l : List CommandValue). take c.args.count l) (c.self.invariant.1 whole).batch_is in
       subst (λ (f : Flushed g.row.D.Denot). IsTooLong f.size f.used (take c.args.count (gathered f)) × (c.append_first.new.journal.disk ≡ f.disk)) c.self.view_is
       (subst (λ (l : List CommandValue). IsTooLong (size_of it.journal) (used_of it.journal) l) is told.0, told.1);
   no_room = λ honest is. let it = c.self.inside in
+      let whole : it.broken ≡ false = ap (λ (f : Flushed g.row.D.Denot). f.broken) c.self.view_is ∙ c.requires.done.0 in
       let s = state_at it.opening.value.state it.seat it.stored in
       let full = only_full c.in-Err.fault (sym c.from.ensures ∙ same_fault c.from.result Full is) in
       let told = c.append_first.ensures.refuses.block.full (c.in-Err.is ∙ ap (λ (fault : AreaFault). Err fault) full) in
-      let is : commands (take c.args.count it.batch.items) ≡ take c.args.count (from_on it.seat it.stored) = sym (take-map (λ (entry : EntryValue SenderValue). entry.command) c.args.count it.batch.items) ∙ ap (λ (l : List CommandValue). take c.args.count l) (c.self.invariant.1 c.if-self.false).batch_is in
+      let is : commands (take c.args.count it.batch.items) ≡ take c.args.count (from_on it.seat it.stored) = sym (take-map (λ (entry : EntryValue SenderValue). entry.command) c.args.count it.batch.items) ∙ ap (λ (l : List CommandValue). take c.args.count l) (c.self.invariant.1 whole).batch_is in
       let was : g.D.Disk.honest it.journal.disk = subst (λ (f : Flushed g.row.D.Denot). g.D.Disk.honest f.disk) (sym c.self.view_is) honest in
       subst (λ (f : Flushed g.row.D.Denot). HasNoRoom (g.D.Disk.content f.disk) (state_at f.opening f.seat f.stored) (take c.args.count (gathered f))) c.self.view_is
       (lacks_room it.journal.area (g.D.Disk.images it.journal.disk) (g.D.Disk.content it.journal.disk) s (take c.args.count (from_on it.seat it.stored)) (g.met.D.Disk.reads it.journal.disk was)
-      (it.journal.sound was (c.self.invariant.1 c.if-self.false).whole) ((c.self.invariant.0.running c.if-self.false).stands was)
+      (it.journal.sound was (c.self.invariant.1 whole).whole) ((c.self.invariant.0.running whole).stands was)
       (subst (λ (l : List CommandValue). IsTooLong (size_of it.journal) (used_of it.journal) l) is told.0));
   memory = let it = c.self.inside in
       let next = c.append_first.new.journal.disk in
       subst (λ (f : Flushed g.row.D.Denot). IfMemory {T = Unit {0}} (Err c.from.result) (next ≡ f.disk)) c.self.view_is
       (subst (λ (fault : FlushFault). IfMemory {T = Unit {0}} (Err fault) (next ≡ it.journal.disk)) (sym c.from.ensures)
       (untouched_from c.append_first.result c.in-Err.fault (next ≡ it.journal.disk) c.in-Err.is c.append_first.ensures.refuses.block.memory));
-  nothing = λ w none. absurd (c.if-count-eq0.false none);
 }
 
 pub returns-in-Err-clause-breaks : goal.returns-in-Err-clause-breaks
 returns-in-Err-clause-breaks g c = record {
   outcome = let it = c.self.inside in
+      let whole : it.broken ≡ false = ap (λ (f : Flushed g.row.D.Denot). f.broken) c.self.view_is ∙ c.requires.done.0 in
       let now = c.args.self.now in
       let new = flushed c.append_first.new.journal c.stop.new.seat it.opening.value.state it.stored it.executed (it.done.items ++ c.append_first.new.batch.items) it.broker it.outlet.boxes it.outlet.ended.items it.outlet.past.items it.outlet.waiting.items it.outlet.left.items true it.won in
-      let whole : c.in-Err.fault ≡ area.Broken → ⊥ = λ is. absurd (cc (c.append_first.ensures.refuses.sound (c.in-Err.is ∙ ap (λ (fault : AreaFault). Err fault) is), (c.self.invariant.1 c.if-self.false).whole)) in
+      let other : c.in-Err.fault ≡ area.Broken → ⊥ = λ is. absurd (cc (c.append_first.ensures.refuses.sound (c.in-Err.is ∙ ap (λ (fault : AreaFault). Err fault) is), (c.self.invariant.1 whole).whole)) in
       subst (λ (fault : FlushFault). IsOutcome {X = Unit {0}} now new (Err fault)) (sym c.from.ensures)
-      (fell_so c.in-Err.fault now new whole (record {
-        was = ap (λ (f : Flushed g.row.D.Denot). f.broken) (sym c.self.view_is) ∙ c.if-self.false;
+      (fell_so c.in-Err.fault now new other (record {
+        was = c.requires.done.0;
         now = refl;
         seat = c.stop.ensures ∙ ap (λ (f : Flushed g.row.D.Denot). when_stopped f.seat) c.self.view_is;
         stored = ap (λ (f : Flushed g.row.D.Denot). f.stored) c.self.view_is;
@@ -289,17 +241,8 @@ returns-in-Err-clause-breaks g c = record {
       (caused_from c.append_first.result c.in-Err.fault before after c.in-Err.is c.append_first.ensures.refuses.cause));
 }
 
-pub returns-then-self-clause-stores : goal.returns-then-self-clause-stores
-returns-then-self-clause-stores g c = tt
-
 pub returns-in-Err-clause-stores : goal.returns-in-Err-clause-stores
 returns-in-Err-clause-stores g c = tt
-
-pub returns-then-self-clause-lasts : goal.returns-then-self-clause-lasts
-returns-then-self-clause-lasts g c = lasts_same g.D.Disk c.args.self.now.disk c.args.self.now.disk refl
-
-pub returns-then-count-eq0-clause-lasts : goal.returns-then-count-eq0-clause-lasts
-returns-then-count-eq0-clause-lasts g c = lasts_same g.D.Disk c.args.self.now.disk c.args.self.now.disk refl
 
 pub returns-in-Ok-clause-lasts : goal.returns-in-Ok-clause-lasts
 returns-in-Ok-clause-lasts g c = subst (λ (f : Flushed g.row.D.Denot). Lasts g.D.Disk f.disk c.append_first.new.journal.disk) c.self.view_is c.append_first.ensures.lasts

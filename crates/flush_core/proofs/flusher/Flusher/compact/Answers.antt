@@ -1,194 +1,42 @@
-use Rattle.std.proofs.Common.{◌∙◌, ◌≡◌, ◌++◌, ◌-◌, Err, Result, Some, ap, arith, refl, subst, sym, false, true}
-use Rattle.disk_core.specs.Calls.{Lasts}
-use Rattle.disk_core.specs.Moments.{LeavesOnly}
-use Rattle.disk_core.proofs.Runs.{weaker}
-use Rattle.area_core.specs.Puts.{Each}
-use Rattle.area_core.specs.Steps.{IsCaused}
-use Rattle.area_core.specs.declared.faults.AreaFault.{AreaFault}
-use Rattle.area_core.specs.declared.faults.AreaFault.TheVariants as area
-use Rattle.claim_core.specs.Seats.{FlushSeatValue, when_stopped}
-use Rattle.broker_core.specs.States.{BrokerValue, State}
-use Rattle.recover_core.specs.Compactions.{HasNoRoomFor, HoldsItAlone}
-use Rattle.recover_core.specs.Standing.{StandFor, Stands}
-use Rattle.recover_core.specs.Stores.{disk_of, size_of, used_of}
-use Rattle.flush_core.specs.declared.faults.FlushFault.{FlushFault}
-use Rattle.flush_core.specs.declared.faults.FlushFault.TheVariants.{Full}
-use Rattle.flush_core.specs.Faults.{IsFlushCaused}
-use Rattle.flush_core.specs.Outcomes.{IsOutcome, compacted}
-use Rattle.flush_core.specs.Batches.{IsBatch, state_at, block_bytes}
-use Rattle.area_core.specs.Areas.{commands}
-use Rattle.flush_core.specs.Flushed.{Flushed, flushed}
-use Rattle.flush_core.specs.Room.{HasNoRoomForState, used_afresh}
+use Rattle.std.proofs.Common.{◌≡◌, ◌∙◌, false, refl, sym, true}
 use Rattle.flush_core.proofs.Calls.{lasts_same}
-use Rattle.flush_core.proofs.Compactions.{given_state, leaves_state, stand_then}
-use Rattle.flush_core.proofs.Keeping.{compacts, hold_at, store_fails}
-use Rattle.flush_core.proofs.Room.{lacks_room_for_state}
-use Rattle.flush_core.proofs.StoreFaults.{caused_so, fell_so, only_full, same_fault}
 use Rattle.flush_core.proofs.flusher.Flusher.compact.Goals as goal
 
-pub invariant_of-self : goal.invariant_of-self
-invariant_of-self g c =
-    let it = c.self.inside in
-    let f = flushed it.journal it.seat it.opening.value.state it.stored it.executed (it.done.items ++ it.batch.items) it.broker it.outlet.boxes it.outlet.ended.items it.outlet.past.items it.outlet.waiting.items it.outlet.left.items it.broken it.won in
-    let kept = c.self.invariant.0 in
-    let s = state_at it.opening.value.state it.seat it.stored in
-    let same : it.broker.state ≡ s = given_state g.D.Disk.honest g.D.Disk.images _ c.args.self.now c.self.view_is c.self.invariant.0 c.if-self.false c.requires.executed in
-    let stand : g.D.Disk.honest c.compact.new.self.disk → StandFor (g.D.Disk.images c.compact.new.self.disk) s = λ h.
-    stand_then g.D.Disk it.journal.disk c.compact.new.self.disk s it.broker.state same (weaker g.D.Disk it.journal.disk c.compact.new.self.disk _ _ (c.compact.ensures.any_moment (c.self.invariant.1 c.if-self.false).whole (c.compact.ensures.lasts.was_honest h)) (λ image is. is.stands))
-    (λ t image le among. g.met.D.Disk.counts_now c.compact.new.self.disk t image le among) in (
-      compacts g.D.Disk.honest g.D.Disk.images f c.compact.new.self.disk _ _ _ c.if-self.false stand kept,
-      λ w. let held = c.self.invariant.1 w in record { whole = c.in-Ok.ensures.breaks.ok; batch_is = held.batch_is; bytes_is = held.bytes_is; done_is = held.done_is; few = held.few; room_is = held.room_is },
-      c.self.invariant.2,
-      λ w. subst (λ n. IsBatch g.W.Width.COMMANDS (block_bytes n g.W.Width.BYTES) (commands it.batch.items)) (sym c.compact.ensures.keeps.size) (c.self.invariant.3 w),
-    )
+pub compact_journal-requires-clause-done : goal.compact_journal-requires-clause-done
+compact_journal-requires-clause-done g c =
+    let whole : c.args.self.now.broken ≡ false = sym c.is_broken.ensures.value ∙ c.if-is_broken.false in
+    (whole, c.requires.executed whole)
 
-pub invariant_of-self-in-Err : goal.invariant_of-self-in-Err
-invariant_of-self-in-Err g c =
-    let it = c.self.inside in
-    let f = flushed it.journal it.seat it.opening.value.state it.stored it.executed (it.done.items ++ it.batch.items) it.broker it.outlet.boxes it.outlet.ended.items it.outlet.past.items it.outlet.waiting.items it.outlet.left.items it.broken it.won in
-    let kept = c.self.invariant.0 in
-    let s = state_at it.opening.value.state it.seat it.stored in
-    let same : it.broker.state ≡ s = given_state g.D.Disk.honest g.D.Disk.images _ c.args.self.now c.self.view_is c.self.invariant.0 c.if-self.false c.requires.executed in
-    let stand : g.D.Disk.honest c.compact.new.self.disk → StandFor (g.D.Disk.images c.compact.new.self.disk) s = λ h.
-    stand_then g.D.Disk it.journal.disk c.compact.new.self.disk s it.broker.state same (weaker g.D.Disk it.journal.disk c.compact.new.self.disk _ _ (c.compact.ensures.any_moment (c.self.invariant.1 c.if-self.false).whole (c.compact.ensures.lasts.was_honest h)) (λ image is. is.stands))
-    (λ t image le among. g.met.D.Disk.counts_now c.compact.new.self.disk t image le among) in (
-      store_fails g.D.Disk.honest g.D.Disk.images f c.stop.new.seat c.compact.new.self.disk _ _ (it.done.items ++ it.batch.items) c.stop.ensures
-          (λ h. hold_at (g.D.Disk.images c.compact.new.self.disk) it.opening.value.state it.seat it.stored (omega (arith, kept.marked, kept.executed)) kept.stored (stand h)) kept,
-      λ w. absurd (cc w),
-      λ w. absurd (cc w),
-      λ w. absurd (cc w),
-    )
+pub returns-then-is_broken-clause-any_moment : goal.returns-then-is_broken-clause-any_moment
+returns-then-is_broken-clause-any_moment g c =
+    let broken : c.args.self.now.broken ≡ true = sym c.is_broken.ensures.value ∙ c.if-is_broken.true in
+    λ h whole. absurd (cc (broken, whole))
 
-pub returns-in-Ok-clause-any_moment : goal.returns-in-Ok-clause-any_moment
-returns-in-Ok-clause-any_moment g c =
-    let it = c.self.inside in
-    let s = state_at it.opening.value.state it.seat it.stored in
-    let same : it.broker.state ≡ s = given_state g.D.Disk.honest g.D.Disk.images _ c.args.self.now c.self.view_is c.self.invariant.0 c.if-self.false c.requires.executed in
-    subst (λ (f : Flushed g.row.D.Denot). g.D.Disk.honest f.disk → f.broken ≡ false → LeavesOnly g.D.Disk.moment g.D.Disk.images_since f.disk c.compact.new.self.disk (λ c. Stands c (state_at f.opening f.seat f.stored))) c.self.view_is
-    (λ h w. leaves_state g.D.Disk it.journal.disk c.compact.new.self.disk s it.broker.state same (weaker g.D.Disk it.journal.disk c.compact.new.self.disk _ _ (c.compact.ensures.any_moment (c.self.invariant.1 w).whole h) (λ image is. is.stands)))
+pub returns-then-is_broken-clause-compacts : goal.returns-then-is_broken-clause-compacts
+returns-then-is_broken-clause-compacts g c = tt
 
-pub returns-in-Err-clause-any_moment : goal.returns-in-Err-clause-any_moment
-returns-in-Err-clause-any_moment g c =
-    let it = c.self.inside in
-    let s = state_at it.opening.value.state it.seat it.stored in
-    let same : it.broker.state ≡ s = given_state g.D.Disk.honest g.D.Disk.images _ c.args.self.now c.self.view_is c.self.invariant.0 c.if-self.false c.requires.executed in
-    subst (λ (f : Flushed g.row.D.Denot). g.D.Disk.honest f.disk → f.broken ≡ false → LeavesOnly g.D.Disk.moment g.D.Disk.images_since f.disk c.compact.new.self.disk (λ c. Stands c (state_at f.opening f.seat f.stored))) c.self.view_is
-    (λ h w. leaves_state g.D.Disk it.journal.disk c.compact.new.self.disk s it.broker.state same (weaker g.D.Disk it.journal.disk c.compact.new.self.disk _ _ (c.compact.ensures.any_moment (c.self.invariant.1 w).whole h) (λ image is. is.stands)))
+pub returns-then-is_broken-clause-refuses : goal.returns-then-is_broken-clause-refuses
+returns-then-is_broken-clause-refuses g c = record { full = λ is. absurd (cc is); no_room = λ honest is. absurd (cc is) }
 
-pub compact-requires-clause-whole : goal.compact-requires-clause-whole
-compact-requires-clause-whole g c = ap (λ (b : BrokerValue). b.broken) (c.self.invariant.0.running c.if-self.false).broker
+pub returns-then-is_broken-clause-breaks : goal.returns-then-is_broken-clause-breaks
+returns-then-is_broken-clause-breaks g c =
+    let broken : c.args.self.now.broken ≡ true = sym c.is_broken.ensures.value ∙ c.if-is_broken.true in
+    record { outcome = (broken, refl); stops = (broken, c.is_broken.ensures.kept.stopped broken); cause = refl }
 
-pub compact-requires-clause-stands : goal.compact-requires-clause-stands
-compact-requires-clause-stands g c = λ h w.
-    let it = c.self.inside in
-    let kept = c.self.invariant.0 in
-    let same : it.broker.state ≡ state_at it.opening.value.state it.seat it.stored = given_state g.D.Disk.honest g.D.Disk.images _ c.args.self.now c.self.view_is c.self.invariant.0 c.if-self.false c.requires.executed in
-    subst (λ (s : State). StandFor (g.D.Disk.images it.journal.disk) s) (sym same) ((kept.running c.if-self.false).stands h)
+pub returns-then-is_broken-clause-lasts : goal.returns-then-is_broken-clause-lasts
+returns-then-is_broken-clause-lasts g c = lasts_same g.D.Disk c.args.self.now.disk c.args.self.now.disk refl
 
-pub returns-in-Ok-clause-compacts : goal.returns-in-Ok-clause-compacts
-returns-in-Ok-clause-compacts g c = record {
-  alone = let it = c.self.inside in
-      let s = state_at it.opening.value.state it.seat it.stored in
-      let same : it.broker.state ≡ s = given_state g.D.Disk.honest g.D.Disk.images _ c.args.self.now c.self.view_is c.self.invariant.0 c.if-self.false c.requires.executed in
-      subst (λ (f : Flushed g.row.D.Denot). g.D.Disk.honest f.disk → Each (g.D.Disk.images c.compact.new.self.disk) (HoldsItAlone (size_of c.compact.new.self) (used_of c.compact.new.self) (state_at f.opening f.seat f.stored))) c.self.view_is
-      (λ h. subst (λ (s : State). Each (g.D.Disk.images c.compact.new.self.disk) (HoldsItAlone (size_of c.compact.new.self) (used_of c.compact.new.self) s)) same (c.in-Ok.ensures.compacts.alone h));
-  compacted_is = let it = c.self.inside in
-      let f = flushed it.journal it.seat it.opening.value.state it.stored it.executed (it.done.items ++ it.batch.items) it.broker it.outlet.boxes it.outlet.ended.items it.outlet.past.items it.outlet.waiting.items it.outlet.left.items it.broken it.won in
-      let s = state_at it.opening.value.state it.seat it.stored in
-      let same : it.broker.state ≡ s = given_state g.D.Disk.honest g.D.Disk.images _ c.args.self.now c.self.view_is c.self.invariant.0 c.if-self.false c.requires.executed in
-      let afresh : used_of c.compact.new.self ≡ used_afresh s = c.in-Ok.ensures.compacts.used ∙ ap (λ (s : State). used_afresh s) same in
-      let won : c.saturating_sub-won.result ≡ used_of it.journal - used_afresh s = omega (arith, c.saturating_sub-won.ensures, c.used-before.ensures, c.used.ensures, afresh) in
-      (λ i. record f { disk = disk_of c.compact.new.self; size = c.in-Ok.ensures.keeps.size i; used = afresh i; won = Some (won i) })
-      ∙ ap (λ (f : Flushed g.row.D.Denot). compacted f (disk_of c.compact.new.self) (used_afresh (state_at f.opening f.seat f.stored))) c.self.view_is;
-}
+pub returns-clause-any_moment : goal.returns-clause-any_moment
+returns-clause-any_moment g c = c.compact_journal.ensures.any_moment
 
-pub returns-in-Ok-clause-refuses : goal.returns-in-Ok-clause-refuses
-returns-in-Ok-clause-refuses g c = record {
-  full = λ is. absurd (cc is);
-  no_room = λ honest is. absurd (cc is);
-}
+pub returns-clause-compacts : goal.returns-clause-compacts
+returns-clause-compacts g c = c.compact_journal.ensures.compacts
 
-pub returns-in-Ok-clause-breaks : goal.returns-in-Ok-clause-breaks
-returns-in-Ok-clause-breaks g c = record {
-  outcome = (ap (λ (f : Flushed g.row.D.Denot). f.broken) (sym c.self.view_is) ∙ c.if-self.false, c.if-self.false);
-  stops = tt;
-  cause = subst (λ (f : Flushed g.row.D.Denot). g.D.Disk.failures c.compact.new.self.disk ≡ g.D.Disk.failures f.disk) c.self.view_is c.in-Ok.ensures.breaks.cause;
-}
+pub returns-clause-refuses : goal.returns-clause-refuses
+returns-clause-refuses g c = c.compact_journal.ensures.refuses
 
-pub returns-in-Err-clause-compacts : goal.returns-in-Err-clause-compacts
-returns-in-Err-clause-compacts g c = tt
+pub returns-clause-breaks : goal.returns-clause-breaks
+returns-clause-breaks g c = c.compact_journal.ensures.breaks
 
-pub returns-in-Err-clause-refuses : goal.returns-in-Err-clause-refuses
-returns-in-Err-clause-refuses g c = record {
-  full = λ is. let it = c.self.inside in
-      let s = state_at it.opening.value.state it.seat it.stored in
-      let same : it.broker.state ≡ s = given_state g.D.Disk.honest g.D.Disk.images _ c.args.self.now c.self.view_is c.self.invariant.0 c.if-self.false c.requires.executed in
-      let full = only_full c.in-Err.fault (sym c.from.ensures ∙ same_fault c.from.result Full is) in
-      let told = c.compact.ensures.breaks.full (c.in-Err.is ∙ ap (λ (fault : AreaFault). Err fault) full) in
-      subst (λ (f : Flushed g.row.D.Denot). HasNoRoomFor f.size (state_at f.opening f.seat f.stored) × (c.compact.new.self.disk ≡ f.disk)) c.self.view_is
-      (subst (λ (s : State). HasNoRoomFor (size_of it.journal) s) same told.0, ap (λ store. disk_of store) told.1);
-  no_room = λ honest is. let it = c.self.inside in
-      let kept = c.self.invariant.0 in
-      let s = state_at it.opening.value.state it.seat it.stored in
-      let same : it.broker.state ≡ s = given_state g.D.Disk.honest g.D.Disk.images _ c.args.self.now c.self.view_is c.self.invariant.0 c.if-self.false c.requires.executed in
-      let full = only_full c.in-Err.fault (sym c.from.ensures ∙ same_fault c.from.result Full is) in
-      let told = c.compact.ensures.breaks.full (c.in-Err.is ∙ ap (λ (fault : AreaFault). Err fault) full) in
-      let was : g.D.Disk.honest it.journal.disk = subst (λ (f : Flushed g.row.D.Denot). g.D.Disk.honest f.disk) (sym c.self.view_is) honest in
-      subst (λ (f : Flushed g.row.D.Denot). HasNoRoomForState (g.D.Disk.content c.compact.new.self.disk) (state_at f.opening f.seat f.stored)) c.self.view_is
-      (subst (λ d. HasNoRoomForState (g.D.Disk.content d) s) (sym (ap (λ store. disk_of store) told.1))
-      (lacks_room_for_state it.journal.area (g.D.Disk.images it.journal.disk) (g.D.Disk.content it.journal.disk) s (g.met.D.Disk.reads it.journal.disk was)
-      (it.journal.sound was (c.self.invariant.1 c.if-self.false).whole) ((kept.running c.if-self.false).stands was)
-      (subst (λ (s : State). HasNoRoomFor (size_of it.journal) s) same told.0)));
-}
-
-pub returns-in-Err-clause-breaks : goal.returns-in-Err-clause-breaks
-returns-in-Err-clause-breaks g c = record {
-  outcome = let it = c.self.inside in
-      let now = c.args.self.now in
-      let new = flushed c.compact.new.self c.stop.new.seat it.opening.value.state it.stored it.executed (it.done.items ++ it.batch.items) it.broker it.outlet.boxes it.outlet.ended.items it.outlet.past.items it.outlet.waiting.items it.outlet.left.items true it.won in
-      let whole : c.in-Err.fault ≡ area.Broken → ⊥ = λ is. absurd (cc (c.compact.ensures.breaks.sound (c.in-Err.is ∙ ap (λ (fault : AreaFault). Err fault) is), (c.self.invariant.1 c.if-self.false).whole)) in
-      subst (λ (fault : FlushFault). IsOutcome {X = Unit {0}} now new (Err fault)) (sym c.from.ensures)
-      (fell_so c.in-Err.fault now new whole (record {
-        was = ap (λ (f : Flushed g.row.D.Denot). f.broken) (sym c.self.view_is) ∙ c.if-self.false;
-        now = refl;
-        seat = c.stop.ensures ∙ ap (λ (f : Flushed g.row.D.Denot). when_stopped f.seat) c.self.view_is;
-        stored = ap (λ (f : Flushed g.row.D.Denot). f.stored) c.self.view_is;
-        opening = ap (λ (f : Flushed g.row.D.Denot). f.opening) c.self.view_is;
-        left = ap (λ (f : Flushed g.row.D.Denot). f.left) c.self.view_is;
-      }));
-  stops = (refl, ap (λ (s : FlushSeatValue). s.stopped) c.stop.ensures);
-  cause = let it = c.self.inside in
-      let before = g.D.Disk.failures it.journal.disk in
-      let after = g.D.Disk.failures c.compact.new.self.disk in
-      subst (λ (f : Flushed g.row.D.Denot). IsFlushCaused {T = Unit {0}} (g.D.Disk.failures f.disk) after (Err c.from.result)) c.self.view_is
-      (subst (λ (fault : FlushFault). IsFlushCaused {T = Unit {0}} before after (Err fault)) (sym c.from.ensures)
-      (caused_so (Unit {0}) c.in-Err.fault before after (subst (λ (r : Result (Unit {0}) AreaFault). IsCaused {T = Unit {0}} before after r) c.in-Err.is c.compact.ensures.breaks.cause)));
-}
-
-pub returns-then-self-clause-any_moment : goal.returns-then-self-clause-any_moment
-returns-then-self-clause-any_moment g c = λ honest whole. absurd (cc (ap (λ (f : Flushed g.row.D.Denot). f.broken) (sym c.self.view_is) ∙ c.if-self.true, whole))
-
-pub returns-then-self-clause-compacts : goal.returns-then-self-clause-compacts
-returns-then-self-clause-compacts g c = tt
-
-pub returns-then-self-clause-refuses : goal.returns-then-self-clause-refuses
-returns-then-self-clause-refuses g c = record {
-  full = λ is. absurd (cc is);
-  no_room = λ honest is. absurd (cc is);
-}
-
-pub returns-then-self-clause-breaks : goal.returns-then-self-clause-breaks
-returns-then-self-clause-breaks g c = record {
-  outcome = (ap (λ (f : Flushed g.row.D.Denot). f.broken) (sym c.self.view_is) ∙ c.if-self.true, refl);
-  stops = subst (λ (f : Flushed g.row.D.Denot). (f.broken ≡ true) × (f.seat.stopped ≡ true)) c.self.view_is (c.if-self.true, c.self.invariant.0.stopped c.if-self.true);
-  cause = refl;
-}
-
-pub returns-then-self-clause-lasts : goal.returns-then-self-clause-lasts
-returns-then-self-clause-lasts g c = lasts_same g.D.Disk c.args.self.now.disk c.args.self.now.disk refl
-
-pub returns-in-Ok-clause-lasts : goal.returns-in-Ok-clause-lasts
-returns-in-Ok-clause-lasts g c = subst (λ (f : Flushed g.row.D.Denot). Lasts g.D.Disk f.disk c.compact.new.self.disk) c.self.view_is c.compact.ensures.lasts
-
-pub returns-in-Err-clause-lasts : goal.returns-in-Err-clause-lasts
-returns-in-Err-clause-lasts g c = subst (λ (f : Flushed g.row.D.Denot). Lasts g.D.Disk f.disk c.compact.new.self.disk) c.self.view_is c.compact.ensures.lasts
+pub returns-clause-lasts : goal.returns-clause-lasts
+returns-clause-lasts g c = c.compact_journal.ensures.lasts

@@ -12,36 +12,36 @@ use Rattle.flush_core.proofs.Taken.{length_commands}
 use Rattle.flush_core.proofs.flusher.Flusher.fitting.Goals as goal
 
 pub returns-clause-within : goal.returns-clause-within
-returns-clause-within g c = λ whole.
+returns-clause-within g c =
     let it = c.self.inside in
-    let w : it.broken ≡ false = ap (λ (f : Flushed g.row.D.Denot). f.broken) c.self.view_is ∙ whole in
+    let w : it.broken ≡ false = ap (λ (f : Flushed g.row.D.Denot). f.broken) c.self.view_is ∙ c.requires.whole in
     let is : commands c.deref.result.now ≡ from_on it.seat it.stored = ap (λ l. commands l) c.deref.ensures.value ∙ (c.self.invariant.1 w).batch_is in
     subst (λ (f : Flushed g.row.D.Denot). c.count_fitting.result ≤ length (gathered f)) c.self.view_is
     (omega (arith, c.count_fitting.ensures.within, length_commands c.deref.result.now, ap (λ (l : List CommandValue). length l) is))
 
 pub returns-clause-some : goal.returns-clause-some
-returns-clause-some g c = λ whole there.
+returns-clause-some g c =
     let it = c.self.inside in
-    let w : it.broken ≡ false = ap (λ (f : Flushed g.row.D.Denot). f.broken) c.self.view_is ∙ whole in
+    let w : it.broken ≡ false = ap (λ (f : Flushed g.row.D.Denot). f.broken) c.self.view_is ∙ c.requires.whole in
     let is : commands c.deref.result.now ≡ from_on it.seat it.stored = ap (λ l. commands l) c.deref.ensures.value ∙ (c.self.invariant.1 w).batch_is in
     elim (cases_lt 0 (length c.deref.result.now)) [
       | inl some ↦ c.count_fitting.ensures.some some
-      | inr none ↦ absurd (there (subst (λ (f : Flushed g.row.D.Denot). gathered f ≡ []) c.self.view_is
+      | inr none ↦ absurd (c.requires.some (subst (λ (f : Flushed g.row.D.Denot). gathered f ≡ []) c.self.view_is
           (sym is ∙ ap (λ (l : List (EntryValue SenderValue)). commands l) (nothing c.deref.result.now (omega (arith, none))))))
     ]
 
 pub returns-clause-one : goal.returns-clause-one
-returns-clause-one g c = λ whole.
+returns-clause-one g c =
     let it = c.self.inside in
-    let w : it.broken ≡ false = ap (λ (f : Flushed g.row.D.Denot). f.broken) c.self.view_is ∙ whole in
+    let w : it.broken ≡ false = ap (λ (f : Flushed g.row.D.Denot). f.broken) c.self.view_is ∙ c.requires.whole in
     let is : commands c.deref.result.now ≡ from_on it.seat it.stored = ap (λ l. commands l) c.deref.ensures.value ∙ (c.self.invariant.1 w).batch_is in
     subst (λ (f : Flushed g.row.D.Denot). IsTooLong f.size f.used (take c.count_fitting.result (gathered f)) → IsTooLong f.size f.used (take 1 (gathered f))) c.self.view_is
     (subst (λ (z : ℕ × ℕ × List CommandValue). IsTooLong z.0 z.1 (take c.count_fitting.result z.2) → IsTooLong z.0 z.1 (take 1 z.2)) (λ i. (c.size.ensures i, c.used.ensures i, is i)) c.count_fitting.ensures.one)
 
 pub returns-clause-more : goal.returns-clause-more
-returns-clause-more g c = λ whole.
+returns-clause-more g c =
     let it = c.self.inside in
-    let w : it.broken ≡ false = ap (λ (f : Flushed g.row.D.Denot). f.broken) c.self.view_is ∙ whole in
+    let w : it.broken ≡ false = ap (λ (f : Flushed g.row.D.Denot). f.broken) c.self.view_is ∙ c.requires.whole in
     let is : commands c.deref.result.now ≡ from_on it.seat it.stored = ap (λ l. commands l) c.deref.ensures.value ∙ (c.self.invariant.1 w).batch_is in
     let more : c.count_fitting.result < length (commands c.deref.result.now) → IsTooLong c.size.result c.used.result (take (c.count_fitting.result + 1) (commands c.deref.result.now)) =
     λ less. c.count_fitting.ensures.more (omega (arith, less, length_commands c.deref.result.now)) in

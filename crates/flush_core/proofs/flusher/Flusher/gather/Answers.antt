@@ -1,134 +1,43 @@
-use Rattle.std.proofs.Common.{arith, ap, append_assoc, refl, sym, subst, true, ◌∙◌, ◌++◌, ◌≡◌, ◌≤◌, List, ℕ}
-use Rattle.area_core.specs.Areas.{commands}
-use Rattle.command_core.specs.Commands.{CommandValue}
-use Rattle.command_core.specs.Entries.{EntryValue}
-use Rattle.outbox_core.specs.Boxes.{SenderValue}
-use Rattle.claim_core.specs.Seats.{FlushSeatValue, when_stopped}
-use Rattle.flush_core.specs.Batches.{IsBatch, from_on, block_bytes, with_more}
-use Rattle.flush_core.specs.Flushed.{Flushed, flushed}
-use Rattle.flush_core.specs.Outcomes.{taking}
-use Rattle.flush_core.proofs.Keeping.{all_brought, fails, held_more, takes}
-use Rattle.flush_core.proofs.Sessions.{commands_both}
-use Rattle.flush_core.proofs.Taken.{from_more}
+use Rattle.std.proofs.Common.{◌≡◌, ◌∙◌, refl, sym, true}
 use Rattle.flush_core.proofs.flusher.Flusher.gather.Goals as goal
 
-pub invariant_of-self : goal.invariant_of-self
-invariant_of-self g c =
-    let it = c.self.inside in
-    let f = flushed it.journal it.seat it.opening.value.state it.stored it.executed (it.done.items ++ it.batch.items) it.broker it.outlet.boxes it.outlet.ended.items it.outlet.past.items it.outlet.waiting.items it.outlet.left.items it.broken it.won in
-    let kept = c.self.invariant.0 in
-    let held = c.self.invariant.1 c.if-self.false in
-    let took = c.in-Ok.ensures.taken in
-    let more = commands took.0 in
-    let seat : c.fill.new.seat ≡ with_more it.seat more = took.2 in
-    let is : commands c.fill.new.batch.items ≡ from_on c.fill.new.seat it.stored =
-    ap (λ (l : List (EntryValue SenderValue)). commands l) took.3 ∙ (commands_both it.batch.items took.0
-    ∙ (ap (λ (l : List CommandValue). l ++ more) held.batch_is ∙ (sym (from_more it.seat more it.stored kept.stored) ∙ ap (λ (s : FlushSeatValue). from_on s it.stored) (sym seat)))) in
-    let begun : it.seat.base ≤ it.executed = omega (arith, kept.begun, kept.marked) in
-    let now = held_more it.seat c.fill.new.seat more it.stored it.executed _ it.batch.items it.done.items c.fill.new.batch.items it.bytes c.fill.new.bytes _ _ _ seat is c.fill.ensures.bytes kept.executed kept.stored begun held in
-    let brought = all_brought c.fill.new.seat it.stored it.executed _ c.fill.new.batch.items it.done.items c.fill.new.bytes _ _ _ (omega (arith, begun, ap (λ (s : FlushSeatValue). s.base) seat)) kept.executed now in (
-      takes g.D.Disk.honest g.D.Disk.images f c.fill.new.seat more (it.done.items ++ c.fill.new.batch.items) seat brought c.if-self.false kept,
-      λ _. now,
-      c.self.invariant.2,
-      λ _. subst (λ n. IsBatch g.W.Width.COMMANDS n (commands c.fill.new.batch.items))
-          (c.bytes_wanted-wanted.ensures.wanted ∙ ap (λ (f : Flushed g.row.D.Denot). block_bytes f.size g.W.Width.BYTES) (sym c.self.view_is)) c.fill.ensures.batch,
-    )
+pub take_batch-requires-clause-whole : goal.take_batch-requires-clause-whole
+take_batch-requires-clause-whole g c = sym c.is_broken.ensures.value ∙ c.if-is_broken.false
 
-pub invariant_of-self-in-Err : goal.invariant_of-self-in-Err
-invariant_of-self-in-Err g c =
-    let it = c.self.inside in
-    let f = flushed it.journal it.seat it.opening.value.state it.stored it.executed (it.done.items ++ it.batch.items) it.broker it.outlet.boxes it.outlet.ended.items it.outlet.past.items it.outlet.waiting.items it.outlet.left.items it.broken it.won in (
-      fails g.D.Disk.honest g.D.Disk.images f c.stop.new.seat (it.done.items ++ c.fill.new.batch.items) it.broker it.outlet.boxes it.outlet.ended.items it.outlet.past.items it.outlet.waiting.items it.outlet.left.items
-          (c.stop.ensures ∙ ap (λ (s : FlushSeatValue). when_stopped s) c.in-Err.ensures.refused) refl c.self.invariant.0,
-      λ w. absurd (cc w),
-      λ w. absurd (cc w),
-      λ w. absurd (cc w),
-    )
+pub returns-then-is_broken-clause-taken : goal.returns-then-is_broken-clause-taken
+returns-then-is_broken-clause-taken g c = tt
 
-pub returns-in-Ok-clause-batch : goal.returns-in-Ok-clause-batch
-returns-in-Ok-clause-batch g c =
-    let it = c.self.inside in
-    let held = c.self.invariant.1 c.if-self.false in
-    let took = c.in-Ok.ensures.taken in
-    let more = commands took.0 in
-    let is : commands c.fill.new.batch.items ≡ from_on c.fill.new.seat it.stored =
-    ap (λ (l : List (EntryValue SenderValue)). commands l) took.3 ∙ (commands_both it.batch.items took.0
-    ∙ (ap (λ (l : List CommandValue). l ++ more) held.batch_is ∙ (sym (from_more it.seat more it.stored c.self.invariant.0.stored) ∙ ap (λ (s : FlushSeatValue). from_on s it.stored) (sym took.2)))) in
-    subst (λ (z : ℕ × List CommandValue). IsBatch g.W.Width.COMMANDS z.0 z.1) (λ i. (c.bytes_wanted-wanted.ensures.wanted i, is i)) c.fill.ensures.batch
+pub returns-then-is_broken-clause-batch : goal.returns-then-is_broken-clause-batch
+returns-then-is_broken-clause-batch g c = tt
 
-pub returns-then-self-clause-taken : goal.returns-then-self-clause-taken
-returns-then-self-clause-taken g c = tt
+pub returns-then-is_broken-clause-untouched : goal.returns-then-is_broken-clause-untouched
+returns-then-is_broken-clause-untouched g c = (refl, refl)
 
-pub returns-then-self-clause-batch : goal.returns-then-self-clause-batch
-returns-then-self-clause-batch g c = tt
+pub returns-then-is_broken-clause-outcome : goal.returns-then-is_broken-clause-outcome
+returns-then-is_broken-clause-outcome g c = (sym c.is_broken.ensures.value ∙ c.if-is_broken.true, refl)
 
-pub returns-then-self-clause-untouched : goal.returns-then-self-clause-untouched
-returns-then-self-clause-untouched g c = (refl, refl)
+pub returns-then-is_broken-clause-stops : goal.returns-then-is_broken-clause-stops
+returns-then-is_broken-clause-stops g c =
+    let broken : c.args.self.now.broken ≡ true = sym c.is_broken.ensures.value ∙ c.if-is_broken.true in
+    (broken, c.is_broken.ensures.kept.stopped broken)
 
-pub returns-then-self-clause-outcome : goal.returns-then-self-clause-outcome
-returns-then-self-clause-outcome g c = (ap (λ (f : Flushed g.row.D.Denot). f.broken) (sym c.self.view_is) ∙ c.if-self.true, refl)
+pub returns-then-is_broken-clause-fault : goal.returns-then-is_broken-clause-fault
+returns-then-is_broken-clause-fault g c = tt
 
-pub returns-then-self-clause-stops : goal.returns-then-self-clause-stops
-returns-then-self-clause-stops g c = subst (λ (f : Flushed g.row.D.Denot). (f.broken ≡ true) × (f.seat.stopped ≡ true)) c.self.view_is (c.if-self.true, c.self.invariant.0.stopped c.if-self.true)
+pub returns-clause-taken : goal.returns-clause-taken
+returns-clause-taken g c = c.take_batch.ensures.taken
 
-pub returns-then-self-clause-fault : goal.returns-then-self-clause-fault
-returns-then-self-clause-fault g c = tt
+pub returns-clause-batch : goal.returns-clause-batch
+returns-clause-batch g c = c.take_batch.ensures.batch
 
-pub returns-in-Ok-clause-taken : goal.returns-in-Ok-clause-taken
-returns-in-Ok-clause-taken g c =
-    let it = c.self.inside in
-    let f = flushed it.journal it.seat it.opening.value.state it.stored it.executed (it.done.items ++ it.batch.items) it.broker it.outlet.boxes it.outlet.ended.items it.outlet.past.items it.outlet.waiting.items it.outlet.left.items it.broken it.won in
-    let took = c.in-Ok.ensures.taken in (
-      took.0,
-      took.1,
-      (λ i. record f { seat = took.2 i; brought = (ap (λ (l : List (EntryValue SenderValue)). it.done.items ++ l) took.3 ∙ sym (append_assoc it.done.items it.batch.items took.0)) i })
-          ∙ ap (λ (f : Flushed g.row.D.Denot). taking f took.0) c.self.view_is,
-    )
+pub returns-clause-untouched : goal.returns-clause-untouched
+returns-clause-untouched g c = c.take_batch.ensures.untouched
 
-pub returns-in-Ok-clause-untouched : goal.returns-in-Ok-clause-untouched
-returns-in-Ok-clause-untouched g c = tt
+pub returns-clause-outcome : goal.returns-clause-outcome
+returns-clause-outcome g c = c.take_batch.ensures.outcome
 
-pub returns-in-Ok-clause-outcome : goal.returns-in-Ok-clause-outcome
-returns-in-Ok-clause-outcome g c = (ap (λ (f : Flushed g.row.D.Denot). f.broken) (sym c.self.view_is) ∙ c.if-self.false, c.if-self.false)
+pub returns-clause-stops : goal.returns-clause-stops
+returns-clause-stops g c = c.take_batch.ensures.stops
 
-pub returns-in-Ok-clause-stops : goal.returns-in-Ok-clause-stops
-returns-in-Ok-clause-stops g c = tt
-
-pub returns-in-Ok-clause-fault : goal.returns-in-Ok-clause-fault
-returns-in-Ok-clause-fault g c = tt
-
-pub returns-in-Err-clause-taken : goal.returns-in-Err-clause-taken
-returns-in-Err-clause-taken g c = tt
-
-pub returns-in-Err-clause-batch : goal.returns-in-Err-clause-batch
-returns-in-Err-clause-batch g c = tt
-
-pub returns-in-Err-clause-untouched : goal.returns-in-Err-clause-untouched
-returns-in-Err-clause-untouched g c = (
-  ap (λ (f : Flushed g.row.D.Denot). f.disk) c.self.view_is,
-  ap (λ (s : FlushSeatValue). s.taken) c.stop.ensures ∙ (ap (λ (s : FlushSeatValue). s.taken) c.in-Err.ensures.refused ∙ ap (λ (f : Flushed g.row.D.Denot). f.seat.taken) c.self.view_is),
-)
-
-pub returns-in-Err-clause-outcome : goal.returns-in-Err-clause-outcome
-returns-in-Err-clause-outcome g c = record {
-  was = ap (λ (f : Flushed g.row.D.Denot). f.broken) (sym c.self.view_is) ∙ c.if-self.false;
-  now = refl;
-  seat = c.stop.ensures ∙ ap (λ (s : FlushSeatValue). when_stopped s) (c.in-Err.ensures.refused ∙ ap (λ (f : Flushed g.row.D.Denot). f.seat) c.self.view_is);
-  stored = ap (λ (f : Flushed g.row.D.Denot). f.stored) c.self.view_is;
-  opening = ap (λ (f : Flushed g.row.D.Denot). f.opening) c.self.view_is;
-  left = ap (λ (f : Flushed g.row.D.Denot). f.left) c.self.view_is;
-}
-
-pub returns-in-Err-clause-stops : goal.returns-in-Err-clause-stops
-returns-in-Err-clause-stops g c = (refl, ap (λ (s : FlushSeatValue). s.stopped) c.stop.ensures)
-
-pub returns-in-Err-clause-fault : goal.returns-in-Err-clause-fault
-returns-in-Err-clause-fault g c = tt
-
-pub fill-requires-clause-bytes : goal.fill-requires-clause-bytes
-fill-requires-clause-bytes g c = (c.self.invariant.1 c.if-self.false).bytes_is
-
-pub fill-requires-clause-batch : goal.fill-requires-clause-batch
-fill-requires-clause-batch g c =
-    subst (λ n. IsBatch g.W.Width.COMMANDS n (commands c.self.inside.batch.items))
-    (sym (c.bytes_wanted-wanted.ensures.wanted ∙ ap (λ (f : Flushed g.row.D.Denot). block_bytes f.size g.W.Width.BYTES) (sym c.self.view_is))) (c.self.invariant.3 c.if-self.false)
+pub returns-clause-fault : goal.returns-clause-fault
+returns-clause-fault g c = c.take_batch.ensures.fault

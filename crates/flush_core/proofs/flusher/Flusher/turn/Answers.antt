@@ -43,7 +43,7 @@ returns-then-is_broken-clause-lasts g c = lasts_same g.D.Disk c.args.self.now.di
 pub returns-in_err-count-clause-any_moment : goal.returns-in_err-count-clause-any_moment
 returns-in_err-count-clause-any_moment g c honest whole =
     let now = c.args.self.now in
-    let new = c.gather.new.self in
+    let new = c.take_batch.new.self in
     let same = failed_keeps ℕ now new _ c.in_err-count.ensures.outcome in
     let p = err_from_is_err_and c.from_residual.result c.from_residual.ensures.1 in
     let is : c.from_residual.result ≡ Err c.in_err-count.field-0.0 = cc (p.1, p.2) in
@@ -58,7 +58,7 @@ pub returns-in_err-count-clause-turns : goal.returns-in_err-count-clause-turns
 returns-in_err-count-clause-turns g c =
     let p = err_from_is_err_and c.from_residual.result c.from_residual.ensures.1 in
     let is : c.from_residual.result ≡ Err c.in_err-count.field-0.0 = cc (p.1, p.2) in
-    subst (λ (r : Result ℕ FlushFault). IfOk r (HasTurned g.D.Disk g.W.Width.COMMANDS g.W.Width.BYTES c.args.self.now c.gather.new.self)) (sym is) tt
+    subst (λ (r : Result ℕ FlushFault). IfOk r (HasTurned g.D.Disk g.W.Width.COMMANDS g.W.Width.BYTES c.args.self.now c.take_batch.new.self)) (sym is) tt
 
 pub returns-in_err-count-clause-nothing : goal.returns-in_err-count-clause-nothing
 returns-in_err-count-clause-nothing g c = λ none. c.in_err-count.ensures.untouched.0
@@ -66,7 +66,7 @@ returns-in_err-count-clause-nothing g c = λ none. c.in_err-count.ensures.untouc
 pub returns-in_err-count-clause-refuses : goal.returns-in_err-count-clause-refuses
 returns-in_err-count-clause-refuses g c =
     let now = c.args.self.now in
-    let new = c.gather.new.self in
+    let new = c.take_batch.new.self in
     let p = err_from_is_err_and c.from_residual.result c.from_residual.ensures.1 in
     let is : c.from_residual.result ≡ Err c.in_err-count.field-0.0 = cc (p.1, p.2) in
     subst (λ (r : Result ℕ FlushFault). RefusesTurn g.D.Disk g.W.Width.COMMANDS g.W.Width.BYTES now new r) (sym is)
@@ -75,155 +75,163 @@ returns-in_err-count-clause-refuses g c =
 pub returns-in_err-count-clause-breaks : goal.returns-in_err-count-clause-breaks
 returns-in_err-count-clause-breaks g c =
     let now = c.args.self.now in
-    let new = c.gather.new.self in
+    let new = c.take_batch.new.self in
     let p = err_from_is_err_and c.from_residual.result c.from_residual.ensures.1 in
     let is : c.from_residual.result ≡ Err c.in_err-count.field-0.0 = cc (p.1, p.2) in
     subst (λ (r : Result ℕ FlushFault). TurnBreaks g.D.Disk now new r) (sym is)
     (gather_breaks g.D.Disk now new c.in_err-count.field-0.0 c.in_err-count.ensures.fault c.in_err-count.ensures.untouched.0 c.in_err-count.ensures.outcome c.in_err-count.ensures.stops)
 
 pub returns-in_err-count-clause-lasts : goal.returns-in_err-count-clause-lasts
-returns-in_err-count-clause-lasts g c = lasts_same g.D.Disk c.args.self.now.disk c.gather.new.self.disk c.in_err-count.ensures.untouched.0
+returns-in_err-count-clause-lasts g c = lasts_same g.D.Disk c.args.self.now.disk c.take_batch.new.self.disk c.in_err-count.ensures.untouched.0
 
-pub store-requires-clause-ring : goal.store-requires-clause-ring
-store-requires-clause-ring g c = ap (λ (f : Flushed g.row.D.Denot). f.seat.ring) c.in_ok-count.ensures.taken.2 ∙ c.requires.ring
+pub store_gathered-requires-clause-ring : goal.store_gathered-requires-clause-ring
+store_gathered-requires-clause-ring g c = ap (λ (f : Flushed g.row.D.Denot). f.seat.ring) c.in_ok-count.ensures.taken.2 ∙ c.requires.ring
 
-pub store-requires-clause-executed : goal.store-requires-clause-executed
-store-requires-clause-executed g c = λ whole.
-    subst (λ (f : Flushed g.row.D.Denot). f.executed ≡ f.stored) (sym c.in_ok-count.ensures.taken.2) (c.requires.executed c.in_ok-count.ensures.outcome.0)
+pub take_batch-requires-clause-whole : goal.take_batch-requires-clause-whole
+take_batch-requires-clause-whole g c = sym c.is_broken.ensures.value ∙ c.if-is_broken.false
 
-pub returns-in_err-store-clause-any_moment : goal.returns-in_err-store-clause-any_moment
-returns-in_err-store-clause-any_moment g c honest whole =
+pub execute_stored-requires-clause-whole : goal.execute_stored-requires-clause-whole
+execute_stored-requires-clause-whole g c = c.in_ok-store_gathered.ensures.breaks.outcome.1
+
+pub store_gathered-requires-clause-done : goal.store_gathered-requires-clause-done
+store_gathered-requires-clause-done g c = (
+  c.in_ok-count.ensures.outcome.1,
+  subst (λ (f : Flushed g.row.D.Denot). f.executed ≡ f.stored) (sym c.in_ok-count.ensures.taken.2) (c.requires.executed c.in_ok-count.ensures.outcome.0),
+)
+
+pub returns-in_err-store_gathered-clause-any_moment : goal.returns-in_err-store_gathered-clause-any_moment
+returns-in_err-store_gathered-clause-any_moment g c honest whole =
     let now = c.args.self.now in
     let took = c.in_ok-count.ensures.taken in
-    let there = c.store.ensures.any_moment (subst (λ (f : Flushed g.row.D.Denot). g.D.Disk.honest f.disk) (sym took.2) honest) c.in_ok-count.ensures.outcome.1 in
-    let new = c.store.new.self in
-    let same = failed_keeps (Unit {0}) c.gather.new.self new _ c.in_err-store.ensures.breaks.outcome in
-    let p = err_from_is_err_and c.from_residual-in_err-store.result c.from_residual-in_err-store.ensures.1 in
-    let is : c.from_residual-in_err-store.result ≡ Err c.in_err-store.field-0.0 = cc (p.1, p.2) in
+    let there = c.store_gathered.ensures.any_moment (subst (λ (f : Flushed g.row.D.Denot). g.D.Disk.honest f.disk) (sym took.2) honest) c.in_ok-count.ensures.outcome.1 in
+    let new = c.store_gathered.new.self in
+    let same = failed_keeps (Unit {0}) c.take_batch.new.self new _ c.in_err-store_gathered.ensures.breaks.outcome in
+    let p = err_from_is_err_and c.from_residual-in_err-store_gathered.result c.from_residual-in_err-store_gathered.ensures.1 in
+    let is : c.from_residual-in_err-store_gathered.result ≡ Err c.in_err-store_gathered.field-0.0 = cc (p.1, p.2) in
     record {
       number = there.number;
-      next = next_taken g.D.Disk now c.gather.new.self took.0 there.number new.seat c.is_broken.ensures.kept took.2 same.1 same.2 there.next;
+      next = next_taken g.D.Disk now c.take_batch.new.self took.0 there.number new.seat c.is_broken.ensures.kept took.2 same.1 same.2 there.next;
       end = subst (λ (r : Result ℕ FlushFault). OnOk r (there.number ≡ new.stored)) (sym is) tt;
-      leaves = stored g.D.Disk now c.gather.new.self took.0 there.number new.disk new.disk new.opening new.seat c.is_broken.ensures.kept whole took.2 (λ h w. there.leaves) refl same.0 same.1 same.2 honest;
+      leaves = stored g.D.Disk now c.take_batch.new.self took.0 there.number new.disk new.disk new.opening new.seat c.is_broken.ensures.kept whole took.2 (λ h w. there.leaves) refl same.0 same.1 same.2 honest;
     }
 
-pub returns-in_err-store-clause-turns : goal.returns-in_err-store-clause-turns
-returns-in_err-store-clause-turns g c =
-    let p = err_from_is_err_and c.from_residual-in_err-store.result c.from_residual-in_err-store.ensures.1 in
-    let is : c.from_residual-in_err-store.result ≡ Err c.in_err-store.field-0.0 = cc (p.1, p.2) in
-    subst (λ (r : Result ℕ FlushFault). IfOk r (HasTurned g.D.Disk g.W.Width.COMMANDS g.W.Width.BYTES c.args.self.now c.store.new.self)) (sym is) tt
+pub returns-in_err-store_gathered-clause-turns : goal.returns-in_err-store_gathered-clause-turns
+returns-in_err-store_gathered-clause-turns g c =
+    let p = err_from_is_err_and c.from_residual-in_err-store_gathered.result c.from_residual-in_err-store_gathered.ensures.1 in
+    let is : c.from_residual-in_err-store_gathered.result ≡ Err c.in_err-store_gathered.field-0.0 = cc (p.1, p.2) in
+    subst (λ (r : Result ℕ FlushFault). IfOk r (HasTurned g.D.Disk g.W.Width.COMMANDS g.W.Width.BYTES c.args.self.now c.store_gathered.new.self)) (sym is) tt
 
-pub returns-in_err-store-clause-nothing : goal.returns-in_err-store-clause-nothing
-returns-in_err-store-clause-nothing g c none =
+pub returns-in_err-store_gathered-clause-nothing : goal.returns-in_err-store_gathered-clause-nothing
+returns-in_err-store_gathered-clause-nothing g c none =
     let took = c.in_ok-count.ensures.taken in
-    let waits : gathered c.gather.new.self ≡ [] = gathered_stays g.D.Disk c.args.self.now c.gather.new.self c.store.new.self took.0 _ c.is_broken.ensures.kept took.2 c.in_err-store.ensures.breaks.outcome ∙ none in
-    absurd (false≢true (c.in_err-store.ensures.refuses.nothing c.in_ok-count.ensures.outcome.1 waits).0)
+    let waits : gathered c.take_batch.new.self ≡ [] = gathered_stays g.D.Disk c.args.self.now c.take_batch.new.self c.store_gathered.new.self took.0 _ c.is_broken.ensures.kept took.2 c.in_err-store_gathered.ensures.breaks.outcome ∙ none in
+    absurd (false≢true (c.in_err-store_gathered.ensures.refuses.nothing c.in_ok-count.ensures.outcome.1 waits).0)
 
-pub returns-in_err-store-clause-refuses : goal.returns-in_err-store-clause-refuses
-returns-in_err-store-clause-refuses g c =
+pub returns-in_err-store_gathered-clause-refuses : goal.returns-in_err-store_gathered-clause-refuses
+returns-in_err-store_gathered-clause-refuses g c =
     let took = c.in_ok-count.ensures.taken in
     let now = c.args.self.now in
-    let new = c.store.new.self in
-    let p = err_from_is_err_and c.from_residual-in_err-store.result c.from_residual-in_err-store.ensures.1 in
-    let is : c.from_residual-in_err-store.result ≡ Err c.in_err-store.field-0.0 = cc (p.1, p.2) in
+    let new = c.store_gathered.new.self in
+    let p = err_from_is_err_and c.from_residual-in_err-store_gathered.result c.from_residual-in_err-store_gathered.ensures.1 in
+    let is : c.from_residual-in_err-store_gathered.result ≡ Err c.in_err-store_gathered.field-0.0 = cc (p.1, p.2) in
     subst (λ (r : Result ℕ FlushFault). RefusesTurn g.D.Disk g.W.Width.COMMANDS g.W.Width.BYTES now new r) (sym is)
-    (refuses_turn g.D.Disk now c.gather.new.self new took.0 c.in_err-store.field-0.0 c.is_broken.ensures.kept took.2 c.in_err-store.ensures.breaks.outcome g.W.Width.COMMANDS g.W.Width.BYTES
-    c.in_ok-count.ensures.outcome.1 c.in_ok-count.ensures.batch c.in_err-store.ensures.refuses)
+    (refuses_turn g.D.Disk now c.take_batch.new.self new took.0 c.in_err-store_gathered.field-0.0 c.is_broken.ensures.kept took.2 c.in_err-store_gathered.ensures.breaks.outcome g.W.Width.COMMANDS g.W.Width.BYTES
+    c.in_ok-count.ensures.outcome.1 c.in_ok-count.ensures.batch c.in_err-store_gathered.ensures.refuses)
 
-pub returns-in_err-store-clause-breaks : goal.returns-in_err-store-clause-breaks
-returns-in_err-store-clause-breaks g c =
+pub returns-in_err-store_gathered-clause-breaks : goal.returns-in_err-store_gathered-clause-breaks
+returns-in_err-store_gathered-clause-breaks g c =
     let took = c.in_ok-count.ensures.taken in
     let now = c.args.self.now in
-    let new = c.store.new.self in
-    let p = err_from_is_err_and c.from_residual-in_err-store.result c.from_residual-in_err-store.ensures.1 in
-    let is : c.from_residual-in_err-store.result ≡ Err c.in_err-store.field-0.0 = cc (p.1, p.2) in
+    let new = c.store_gathered.new.self in
+    let p = err_from_is_err_and c.from_residual-in_err-store_gathered.result c.from_residual-in_err-store_gathered.ensures.1 in
+    let is : c.from_residual-in_err-store_gathered.result ≡ Err c.in_err-store_gathered.field-0.0 = cc (p.1, p.2) in
     subst (λ (r : Result ℕ FlushFault). TurnBreaks g.D.Disk now new r) (sym is)
-    (store_breaks g.D.Disk now c.gather.new.self new took.0 c.in_err-store.field-0.0 c.in_ok-count.ensures.outcome.0 c.in_ok-count.ensures.outcome.1 took.2 c.in_err-store.ensures.breaks)
+    (store_breaks g.D.Disk now c.take_batch.new.self new took.0 c.in_err-store_gathered.field-0.0 c.in_ok-count.ensures.outcome.0 c.in_ok-count.ensures.outcome.1 took.2 c.in_err-store_gathered.ensures.breaks)
 
-pub returns-in_err-store-clause-lasts : goal.returns-in_err-store-clause-lasts
-returns-in_err-store-clause-lasts g c = subst (λ (f : Flushed g.row.D.Denot). Lasts g.D.Disk f.disk c.store.new.self.disk) c.in_ok-count.ensures.taken.2 c.store.ensures.lasts
+pub returns-in_err-store_gathered-clause-lasts : goal.returns-in_err-store_gathered-clause-lasts
+returns-in_err-store_gathered-clause-lasts g c = subst (λ (f : Flushed g.row.D.Denot). Lasts g.D.Disk f.disk c.store_gathered.new.self.disk) c.in_ok-count.ensures.taken.2 c.store_gathered.ensures.lasts
 
-pub returns-in_err-execute-clause-any_moment : goal.returns-in_err-execute-clause-any_moment
-returns-in_err-execute-clause-any_moment g c honest whole =
+pub returns-in_err-execute_stored-clause-any_moment : goal.returns-in_err-execute_stored-clause-any_moment
+returns-in_err-execute_stored-clause-any_moment g c honest whole =
     let now = c.args.self.now in
     let took = c.in_ok-count.ensures.taken in
-    let there = c.store.ensures.any_moment (subst (λ (f : Flushed g.row.D.Denot). g.D.Disk.honest f.disk) (sym took.2) honest) c.in_ok-count.ensures.outcome.1 in
-    let new = c.execute.new.self in
-    let did = c.in_ok-store.ensures.stores.stored in
-    let failed = failed_keeps (Unit {0}) c.store.new.self new _ c.in_err-execute.ensures.outcome in
-    let opened : new.opening ≡ c.gather.new.self.opening = failed.0 ∙ ap (λ (f : Flushed g.row.D.Denot). f.opening) did in
-    let taken : new.seat.taken ≡ c.gather.new.self.seat.taken = failed.1 ∙ ap (λ (f : Flushed g.row.D.Denot). f.seat.taken) did in
-    let base : new.seat.base ≡ c.gather.new.self.seat.base = failed.2 ∙ ap (λ (f : Flushed g.row.D.Denot). f.seat.base) did in
-    let p = err_from_is_err_and c.from_residual-in_err-execute.result c.from_residual-in_err-execute.ensures.1 in
-    let is : c.from_residual-in_err-execute.result ≡ Err c.in_err-execute.field-0.0 = cc (p.1, p.2) in
+    let there = c.store_gathered.ensures.any_moment (subst (λ (f : Flushed g.row.D.Denot). g.D.Disk.honest f.disk) (sym took.2) honest) c.in_ok-count.ensures.outcome.1 in
+    let new = c.execute_stored.new.self in
+    let did = c.in_ok-store_gathered.ensures.stores.stored in
+    let failed = failed_keeps (Unit {0}) c.store_gathered.new.self new _ c.in_err-execute_stored.ensures.outcome in
+    let opened : new.opening ≡ c.take_batch.new.self.opening = failed.0 ∙ ap (λ (f : Flushed g.row.D.Denot). f.opening) did in
+    let taken : new.seat.taken ≡ c.take_batch.new.self.seat.taken = failed.1 ∙ ap (λ (f : Flushed g.row.D.Denot). f.seat.taken) did in
+    let base : new.seat.base ≡ c.take_batch.new.self.seat.base = failed.2 ∙ ap (λ (f : Flushed g.row.D.Denot). f.seat.base) did in
+    let p = err_from_is_err_and c.from_residual-in_err-execute_stored.result c.from_residual-in_err-execute_stored.ensures.1 in
+    let is : c.from_residual-in_err-execute_stored.result ≡ Err c.in_err-execute_stored.field-0.0 = cc (p.1, p.2) in
     record {
       number = there.number;
-      next = next_taken g.D.Disk now c.gather.new.self took.0 there.number new.seat c.is_broken.ensures.kept took.2 taken base there.next;
+      next = next_taken g.D.Disk now c.take_batch.new.self took.0 there.number new.seat c.is_broken.ensures.kept took.2 taken base there.next;
       end = subst (λ (r : Result ℕ FlushFault). OnOk r (there.number ≡ new.stored)) (sym is) tt;
-      leaves = stored g.D.Disk now c.gather.new.self took.0 there.number c.store.new.self.disk new.disk new.opening new.seat c.is_broken.ensures.kept whole took.2 (λ h w. there.leaves) c.execute.ensures.untouched opened taken base honest;
+      leaves = stored g.D.Disk now c.take_batch.new.self took.0 there.number c.store_gathered.new.self.disk new.disk new.opening new.seat c.is_broken.ensures.kept whole took.2 (λ h w. there.leaves) c.execute_stored.ensures.untouched opened taken base honest;
     }
 
-pub returns-in_err-execute-clause-turns : goal.returns-in_err-execute-clause-turns
-returns-in_err-execute-clause-turns g c =
-    let p = err_from_is_err_and c.from_residual-in_err-execute.result c.from_residual-in_err-execute.ensures.1 in
-    let is : c.from_residual-in_err-execute.result ≡ Err c.in_err-execute.field-0.0 = cc (p.1, p.2) in
-    subst (λ (r : Result ℕ FlushFault). IfOk r (HasTurned g.D.Disk g.W.Width.COMMANDS g.W.Width.BYTES c.args.self.now c.execute.new.self)) (sym is) tt
+pub returns-in_err-execute_stored-clause-turns : goal.returns-in_err-execute_stored-clause-turns
+returns-in_err-execute_stored-clause-turns g c =
+    let p = err_from_is_err_and c.from_residual-in_err-execute_stored.result c.from_residual-in_err-execute_stored.ensures.1 in
+    let is : c.from_residual-in_err-execute_stored.result ≡ Err c.in_err-execute_stored.field-0.0 = cc (p.1, p.2) in
+    subst (λ (r : Result ℕ FlushFault). IfOk r (HasTurned g.D.Disk g.W.Width.COMMANDS g.W.Width.BYTES c.args.self.now c.execute_stored.new.self)) (sym is) tt
 
-pub returns-in_err-execute-clause-nothing : goal.returns-in_err-execute-clause-nothing
-returns-in_err-execute-clause-nothing g c none =
+pub returns-in_err-execute_stored-clause-nothing : goal.returns-in_err-execute_stored-clause-nothing
+returns-in_err-execute_stored-clause-nothing g c none =
     let took = c.in_ok-count.ensures.taken in
-    still_unexecuted c.args.self.now c.gather.new.self c.store.new.self took.0 _ _ _ _ _ took.2 c.in_ok-store.ensures.stores.stored (λ waits. (c.store.ensures.refuses.nothing c.in_ok-count.ensures.outcome.1 waits).1)
-    c.execute.new.self _ c.in_err-execute.ensures.outcome c.execute.ensures.untouched none
+    still_unexecuted c.args.self.now c.take_batch.new.self c.store_gathered.new.self took.0 _ _ _ _ _ took.2 c.in_ok-store_gathered.ensures.stores.stored (λ waits. (c.store_gathered.ensures.refuses.nothing c.in_ok-count.ensures.outcome.1 waits).1)
+    c.execute_stored.new.self _ c.in_err-execute_stored.ensures.outcome c.execute_stored.ensures.untouched none
 
-pub returns-in_err-execute-clause-refuses : goal.returns-in_err-execute-clause-refuses
-returns-in_err-execute-clause-refuses g c =
+pub returns-in_err-execute_stored-clause-refuses : goal.returns-in_err-execute_stored-clause-refuses
+returns-in_err-execute_stored-clause-refuses g c =
     let now = c.args.self.now in
-    let new = c.execute.new.self in
-    let p = err_from_is_err_and c.from_residual-in_err-execute.result c.from_residual-in_err-execute.ensures.1 in
-    let is : c.from_residual-in_err-execute.result ≡ Err c.in_err-execute.field-0.0 = cc (p.1, p.2) in
+    let new = c.execute_stored.new.self in
+    let p = err_from_is_err_and c.from_residual-in_err-execute_stored.result c.from_residual-in_err-execute_stored.ensures.1 in
+    let is : c.from_residual-in_err-execute_stored.result ≡ Err c.in_err-execute_stored.field-0.0 = cc (p.1, p.2) in
     subst (λ (r : Result ℕ FlushFault). RefusesTurn g.D.Disk g.W.Width.COMMANDS g.W.Width.BYTES now new r) (sym is)
-    (refuses_none g.D.Disk (Unit {0}) g.W.Width.COMMANDS g.W.Width.BYTES now new c.in_err-execute.field-0.0 c.in_err-execute.ensures.fault)
+    (refuses_none g.D.Disk (Unit {0}) g.W.Width.COMMANDS g.W.Width.BYTES now new c.in_err-execute_stored.field-0.0 c.in_err-execute_stored.ensures.fault)
 
-pub returns-in_err-execute-clause-breaks : goal.returns-in_err-execute-clause-breaks
-returns-in_err-execute-clause-breaks g c =
+pub returns-in_err-execute_stored-clause-breaks : goal.returns-in_err-execute_stored-clause-breaks
+returns-in_err-execute_stored-clause-breaks g c =
     let took = c.in_ok-count.ensures.taken in
     let now = c.args.self.now in
-    let new = c.execute.new.self in
-    let fault = c.in_err-execute.field-0.0 in
-    let p = err_from_is_err_and c.from_residual-in_err-execute.result c.from_residual-in_err-execute.ensures.1 in
-    let is : c.from_residual-in_err-execute.result ≡ Err c.in_err-execute.field-0.0 = cc (p.1, p.2) in
+    let new = c.execute_stored.new.self in
+    let fault = c.in_err-execute_stored.field-0.0 in
+    let p = err_from_is_err_and c.from_residual-in_err-execute_stored.result c.from_residual-in_err-execute_stored.ensures.1 in
+    let is : c.from_residual-in_err-execute_stored.result ≡ Err c.in_err-execute_stored.field-0.0 = cc (p.1, p.2) in
     subst (λ (r : Result ℕ FlushFault). TurnBreaks g.D.Disk now new r) (sym is) (record {
-      outcome = execute_falls now c.gather.new.self c.store.new.self new took.0 _ _ _ _ _ c.in_ok-count.ensures.outcome.0 took.2 c.in_ok-store.ensures.stores.stored
-          ℕ fault c.in_ok-store.ensures.breaks.outcome.1 c.in_err-execute.ensures.outcome;
-      stops = c.in_err-execute.ensures.stops;
-      cause = caused_none (Unit {0}) ℕ fault (g.D.Disk.failures now.disk) (g.D.Disk.failures new.disk) c.in_err-execute.ensures.fault
-          (ap (λ d. g.D.Disk.failures d) c.execute.ensures.untouched ∙ (c.in_ok-store.ensures.breaks.cause ∙ ap (λ (f : Flushed g.row.D.Denot). g.D.Disk.failures f.disk) took.2));
+      outcome = execute_falls now c.take_batch.new.self c.store_gathered.new.self new took.0 _ _ _ _ _ c.in_ok-count.ensures.outcome.0 took.2 c.in_ok-store_gathered.ensures.stores.stored
+          ℕ fault c.in_ok-store_gathered.ensures.breaks.outcome.1 c.in_err-execute_stored.ensures.outcome;
+      stops = c.in_err-execute_stored.ensures.stops;
+      cause = caused_none (Unit {0}) ℕ fault (g.D.Disk.failures now.disk) (g.D.Disk.failures new.disk) c.in_err-execute_stored.ensures.fault
+          (ap (λ d. g.D.Disk.failures d) c.execute_stored.ensures.untouched ∙ (c.in_ok-store_gathered.ensures.breaks.cause ∙ ap (λ (f : Flushed g.row.D.Denot). g.D.Disk.failures f.disk) took.2));
     })
 
-pub returns-in_err-execute-clause-lasts : goal.returns-in_err-execute-clause-lasts
-returns-in_err-execute-clause-lasts g c =
-    lasts_more g.D.Disk c.args.self.now.disk c.store.new.self.disk c.execute.new.self.disk (subst (λ (f : Flushed g.row.D.Denot). Lasts g.D.Disk f.disk c.store.new.self.disk) c.in_ok-count.ensures.taken.2 c.store.ensures.lasts)
-    (lasts_same g.D.Disk c.store.new.self.disk c.execute.new.self.disk c.execute.ensures.untouched)
+pub returns-in_err-execute_stored-clause-lasts : goal.returns-in_err-execute_stored-clause-lasts
+returns-in_err-execute_stored-clause-lasts g c =
+    lasts_more g.D.Disk c.args.self.now.disk c.store_gathered.new.self.disk c.execute_stored.new.self.disk (subst (λ (f : Flushed g.row.D.Denot). Lasts g.D.Disk f.disk c.store_gathered.new.self.disk) c.in_ok-count.ensures.taken.2 c.store_gathered.ensures.lasts)
+    (lasts_same g.D.Disk c.store_gathered.new.self.disk c.execute_stored.new.self.disk c.execute_stored.ensures.untouched)
 
 pub returns-clause-any_moment : goal.returns-clause-any_moment
 returns-clause-any_moment g c honest whole =
     let now = c.args.self.now in
     let took = c.in_ok-count.ensures.taken in
-    let there = c.in_ok-store.ensures.any_moment (subst (λ (f : Flushed g.row.D.Denot). g.D.Disk.honest f.disk) (sym took.2) honest) c.in_ok-count.ensures.outcome.1 in
+    let there = c.in_ok-store_gathered.ensures.any_moment (subst (λ (f : Flushed g.row.D.Denot). g.D.Disk.honest f.disk) (sym took.2) honest) c.in_ok-count.ensures.outcome.1 in
     let new = c.publish.new.self in
-    let did = c.in_ok-store.ensures.stores.stored in
-    let executed = c.in_ok-execute.ensures.executed in
+    let did = c.in_ok-store_gathered.ensures.stores.stored in
+    let executed = c.in_ok-execute_stored.ensures.executed in
     let published = c.publish.ensures.published in
-    let opened : new.opening ≡ c.gather.new.self.opening = ap (λ (f : Flushed g.row.D.Denot). f.opening) published ∙ (ap (λ (f : Flushed g.row.D.Denot). f.opening) executed ∙ ap (λ (f : Flushed g.row.D.Denot). f.opening) did) in
-    let taken : new.seat.taken ≡ c.gather.new.self.seat.taken = ap (λ (f : Flushed g.row.D.Denot). f.seat.taken) published ∙ (ap (λ (f : Flushed g.row.D.Denot). f.seat.taken) executed ∙ ap (λ (f : Flushed g.row.D.Denot). f.seat.taken) did) in
-    let base : new.seat.base ≡ c.gather.new.self.seat.base = ap (λ (f : Flushed g.row.D.Denot). f.seat.base) published ∙ (ap (λ (f : Flushed g.row.D.Denot). f.seat.base) executed ∙ ap (λ (f : Flushed g.row.D.Denot). f.seat.base) did) in
-    let number : new.stored ≡ c.store.new.self.stored = ap (λ (f : Flushed g.row.D.Denot). f.stored) published ∙ ap (λ (f : Flushed g.row.D.Denot). f.stored) executed in
+    let opened : new.opening ≡ c.take_batch.new.self.opening = ap (λ (f : Flushed g.row.D.Denot). f.opening) published ∙ (ap (λ (f : Flushed g.row.D.Denot). f.opening) executed ∙ ap (λ (f : Flushed g.row.D.Denot). f.opening) did) in
+    let taken : new.seat.taken ≡ c.take_batch.new.self.seat.taken = ap (λ (f : Flushed g.row.D.Denot). f.seat.taken) published ∙ (ap (λ (f : Flushed g.row.D.Denot). f.seat.taken) executed ∙ ap (λ (f : Flushed g.row.D.Denot). f.seat.taken) did) in
+    let base : new.seat.base ≡ c.take_batch.new.self.seat.base = ap (λ (f : Flushed g.row.D.Denot). f.seat.base) published ∙ (ap (λ (f : Flushed g.row.D.Denot). f.seat.base) executed ∙ ap (λ (f : Flushed g.row.D.Denot). f.seat.base) did) in
+    let number : new.stored ≡ c.store_gathered.new.self.stored = ap (λ (f : Flushed g.row.D.Denot). f.stored) published ∙ ap (λ (f : Flushed g.row.D.Denot). f.stored) executed in
     record {
       number = there.number;
-      next = next_taken g.D.Disk now c.gather.new.self took.0 there.number new.seat c.is_broken.ensures.kept took.2 taken base there.next;
+      next = next_taken g.D.Disk now c.take_batch.new.self took.0 there.number new.seat c.is_broken.ensures.kept took.2 taken base there.next;
       end = there.end ∙ sym number;
-      leaves = stored g.D.Disk now c.gather.new.self took.0 there.number c.store.new.self.disk new.disk new.opening new.seat c.is_broken.ensures.kept whole took.2 (λ h w. there.leaves)
-          (ap (λ (f : Flushed g.row.D.Denot). f.disk) published ∙ c.execute.ensures.untouched) opened taken base honest;
+      leaves = stored g.D.Disk now c.take_batch.new.self took.0 there.number c.store_gathered.new.self.disk new.disk new.opening new.seat c.is_broken.ensures.kept whole took.2 (λ h w. there.leaves)
+          (ap (λ (f : Flushed g.row.D.Denot). f.disk) published ∙ c.execute_stored.ensures.untouched) opened taken base honest;
     }
 
 pub returns-clause-turns : goal.returns-clause-turns
@@ -232,31 +240,31 @@ returns-clause-turns g c =
     let now = c.args.self.now in
     let new = c.publish.new.self in
     let whole = c.in_ok-count.ensures.outcome.0 in
-    let did = c.in_ok-store.ensures.stores in
-    let executed = c.in_ok-execute.ensures.executed in
+    let did = c.in_ok-store_gathered.ensures.stores in
+    let executed = c.in_ok-execute_stored.ensures.executed in
     let published = c.publish.ensures.published in
     let before = ap (λ (f : Flushed g.row.D.Denot). f.stored) took.2 in
     let end = ap (λ (f : Flushed g.row.D.Denot). next_ticket f.seat) took.2 in
     record {
       more = took.0;
       many = took.1;
-      turned = turned g.D.Disk now c.gather.new.self c.store.new.self c.execute.new.self new took.0 c.store.new.self.stored c.store.new.self.disk c.store.new.self.size c.store.new.self.used c.store.new.self.won
+      turned = turned g.D.Disk now c.take_batch.new.self c.store_gathered.new.self c.execute_stored.new.self new took.0 c.store_gathered.new.self.stored c.store_gathered.new.self.disk c.store_gathered.new.self.size c.store_gathered.new.self.used c.store_gathered.new.self.won
           (c.requires.executed whole) (omega (arith, before, did.within.0)) (omega (arith, end, did.within.1)) took.2 did.stored executed published c.publish.ensures.given;
-      batch = subst (λ (l : List CommandValue). IsBatch g.W.Width.COMMANDS (block_bytes now.size g.W.Width.BYTES) l) (taken_stays c.args.self.now c.gather.new.self c.store.new.self took.0 _ _ _ _ _ took.2 did.stored (λ waits. (c.store.ensures.refuses.nothing c.in_ok-count.ensures.outcome.1 waits).1) c.execute.new.self c.publish.new.self executed published) c.in_ok-count.ensures.batch;
+      batch = subst (λ (l : List CommandValue). IsBatch g.W.Width.COMMANDS (block_bytes now.size g.W.Width.BYTES) l) (taken_stays c.args.self.now c.take_batch.new.self c.store_gathered.new.self took.0 _ _ _ _ _ took.2 did.stored (λ waits. (c.store_gathered.ensures.refuses.nothing c.in_ok-count.ensures.outcome.1 waits).1) c.execute_stored.new.self c.publish.new.self executed published) c.in_ok-count.ensures.batch;
       stores = record {
-        stands = λ honest. stands_so g.D.Disk c.gather.new.self c.store.new.self c.execute.new.self new c.store.new.self.stored _ _ _ _ did.stored executed c.execute.ensures.untouched published
+        stands = λ honest. stands_so g.D.Disk c.take_batch.new.self c.store_gathered.new.self c.execute_stored.new.self new c.store_gathered.new.self.stored _ _ _ _ did.stored executed c.execute_stored.ensures.untouched published
             (did.next.stands (subst (λ (f : Flushed g.row.D.Denot). g.D.Disk.honest f.disk) (sym took.2) honest));
-        behind = came_behind c.args.self.now c.gather.new.self c.store.new.self took.0 _ _ _ _ _ took.2 did.stored (λ waits. (c.store.ensures.refuses.nothing c.in_ok-count.ensures.outcome.1 waits).1) c.execute.new.self c.publish.new.self executed published did.next.behind;
-        afresh = came_afresh c.args.self.now c.gather.new.self c.store.new.self took.0 _ _ _ _ _ took.2 did.stored (λ waits. (c.store.ensures.refuses.nothing c.in_ok-count.ensures.outcome.1 waits).1) c.execute.new.self c.publish.new.self executed published c.is_broken.ensures.kept.stored did.next.afresh;
+        behind = came_behind c.args.self.now c.take_batch.new.self c.store_gathered.new.self took.0 _ _ _ _ _ took.2 did.stored (λ waits. (c.store_gathered.ensures.refuses.nothing c.in_ok-count.ensures.outcome.1 waits).1) c.execute_stored.new.self c.publish.new.self executed published did.next.behind;
+        afresh = came_afresh c.args.self.now c.take_batch.new.self c.store_gathered.new.self took.0 _ _ _ _ _ took.2 did.stored (λ waits. (c.store_gathered.ensures.refuses.nothing c.in_ok-count.ensures.outcome.1 waits).1) c.execute_stored.new.self c.publish.new.self executed published c.is_broken.ensures.kept.stored did.next.afresh;
       };
-      idle = none_won c.args.self.now c.gather.new.self c.store.new.self took.0 _ _ _ _ _ took.2 did.stored (λ waits. (c.store.ensures.refuses.nothing c.in_ok-count.ensures.outcome.1 waits).1) c.execute.new.self c.publish.new.self executed published;
+      idle = none_won c.args.self.now c.take_batch.new.self c.store_gathered.new.self took.0 _ _ _ _ _ took.2 did.stored (λ waits. (c.store_gathered.ensures.refuses.nothing c.in_ok-count.ensures.outcome.1 waits).1) c.execute_stored.new.self c.publish.new.self executed published;
     }
 
 pub returns-clause-nothing : goal.returns-clause-nothing
 returns-clause-nothing g c none =
     let took = c.in_ok-count.ensures.taken in
-    still_published c.args.self.now c.gather.new.self c.store.new.self took.0 _ _ _ _ _ took.2 c.in_ok-store.ensures.stores.stored (λ waits. (c.store.ensures.refuses.nothing c.in_ok-count.ensures.outcome.1 waits).1)
-    c.execute.new.self c.publish.new.self c.in_ok-execute.ensures.executed c.execute.ensures.untouched c.publish.ensures.published none
+    still_published c.args.self.now c.take_batch.new.self c.store_gathered.new.self took.0 _ _ _ _ _ took.2 c.in_ok-store_gathered.ensures.stores.stored (λ waits. (c.store_gathered.ensures.refuses.nothing c.in_ok-count.ensures.outcome.1 waits).1)
+    c.execute_stored.new.self c.publish.new.self c.in_ok-execute_stored.ensures.executed c.execute_stored.ensures.untouched c.publish.ensures.published none
 
 pub returns-clause-refuses : goal.returns-clause-refuses
 returns-clause-refuses g c = record {
@@ -269,12 +277,12 @@ returns-clause-breaks g c =
     let took = c.in_ok-count.ensures.taken in
     let published = c.publish.ensures.published in
     record {
-      outcome = (c.in_ok-count.ensures.outcome.0, ap (λ (f : Flushed g.row.D.Denot). f.broken) published ∙ c.in_ok-execute.ensures.outcome.1);
+      outcome = (c.in_ok-count.ensures.outcome.0, ap (λ (f : Flushed g.row.D.Denot). f.broken) published ∙ c.in_ok-execute_stored.ensures.outcome.1);
       stops = tt;
-      cause = ap (λ d. g.D.Disk.failures d) (ap (λ (f : Flushed g.row.D.Denot). f.disk) c.publish.ensures.published ∙ c.execute.ensures.untouched) ∙ (c.in_ok-store.ensures.breaks.cause ∙ ap (λ (f : Flushed g.row.D.Denot). g.D.Disk.failures f.disk) took.2);
+      cause = ap (λ d. g.D.Disk.failures d) (ap (λ (f : Flushed g.row.D.Denot). f.disk) c.publish.ensures.published ∙ c.execute_stored.ensures.untouched) ∙ (c.in_ok-store_gathered.ensures.breaks.cause ∙ ap (λ (f : Flushed g.row.D.Denot). g.D.Disk.failures f.disk) took.2);
     }
 
 pub returns-clause-lasts : goal.returns-clause-lasts
 returns-clause-lasts g c =
-    lasts_more g.D.Disk c.args.self.now.disk c.store.new.self.disk c.publish.new.self.disk (subst (λ (f : Flushed g.row.D.Denot). Lasts g.D.Disk f.disk c.store.new.self.disk) c.in_ok-count.ensures.taken.2 c.store.ensures.lasts)
-    (lasts_same g.D.Disk c.store.new.self.disk c.publish.new.self.disk (ap (λ (f : Flushed g.row.D.Denot). f.disk) c.publish.ensures.published ∙ c.execute.ensures.untouched))
+    lasts_more g.D.Disk c.args.self.now.disk c.store_gathered.new.self.disk c.publish.new.self.disk (subst (λ (f : Flushed g.row.D.Denot). Lasts g.D.Disk f.disk c.store_gathered.new.self.disk) c.in_ok-count.ensures.taken.2 c.store_gathered.ensures.lasts)
+    (lasts_same g.D.Disk c.store_gathered.new.self.disk c.publish.new.self.disk (ap (λ (f : Flushed g.row.D.Denot). f.disk) c.publish.ensures.published ∙ c.execute_stored.ensures.untouched))

@@ -1,50 +1,42 @@
-use Rattle.std.proofs.Common.{◌≡◌, inl, refl, sym, ◌∙◌, false}
-use Rattle.std.proofs.lemmas.Bool.{false≢true}
+use Rattle.std.proofs.Common.{inl, refl}
 use Rattle.flush_core.specs.Calls.{FlushBreaks}
 use Rattle.flush_core.proofs.Calls.{lasts_same}
 use Rattle.flush_core.proofs.RoomWon.{calm_so, on_err, stays_so, was_compacted}
-use Rattle.flush_core.proofs.flusher.Flusher.win_room.Goals.{then-is_broken-via-then-is_broken, then-is_broken-via-else-is_broken+then-has_room}
 use Rattle.flush_core.proofs.flusher.Flusher.win_room.Goals as goal
 
-pub returns-then-is_broken-clause-any_moment : goal.returns-then-is_broken-clause-any_moment
-returns-then-is_broken-clause-any_moment g c = λ honest whole.
-    stays_so g.D.Disk c.args.self.now c.is_broken.ensures.kept whole (g.met.D.Disk.only_now c.args.self.now.disk) honest
+pub returns-then-has_room-clause-any_moment : goal.returns-then-has_room-clause-any_moment
+returns-then-has_room-clause-any_moment g c = λ honest whole.
+    stays_so g.D.Disk c.args.self.now c.has_room.ensures.kept whole (g.met.D.Disk.only_now c.args.self.now.disk) honest
 
-pub returns-then-is_broken-clause-wins : goal.returns-then-is_broken-clause-wins
-returns-then-is_broken-clause-wins g c = record {
-  made = inl (record {
-    same = refl;
-    fits = λ whole some. elim c.then-is_broken.branch [
-      | then-is_broken-via-then-is_broken w ↦ absurd (false≢true (sym whole ∙ (sym c.is_broken.ensures.value ∙ w.if-is_broken.true)))
-      | then-is_broken-via-else-is_broken+then-has_room w ↦ w.has_room.ensures.fits w.if-has_room.true some
-    ];
-  });
+pub returns-then-has_room-clause-wins : goal.returns-then-has_room-clause-wins
+returns-then-has_room-clause-wins g c = record {
+  made = inl (record { same = refl; fits = c.has_room.ensures.fits c.if-has_room.true });
   needed = tt;
 }
 
-pub returns-then-is_broken-clause-refuses : goal.returns-then-is_broken-clause-refuses
-returns-then-is_broken-clause-refuses g c = record { full = λ is. absurd (cc is); no_room = λ honest is. absurd (cc is) }
+pub returns-then-has_room-clause-refuses : goal.returns-then-has_room-clause-refuses
+returns-then-has_room-clause-refuses g c = record { full = λ is. absurd (cc is); no_room = λ honest is. absurd (cc is) }
 
-pub returns-then-is_broken-clause-breaks : goal.returns-then-is_broken-clause-breaks
-returns-then-is_broken-clause-breaks g c = tt
+pub returns-then-has_room-clause-breaks : goal.returns-then-has_room-clause-breaks
+returns-then-has_room-clause-breaks g c = tt
 
-pub returns-then-is_broken-clause-calm : goal.returns-then-is_broken-clause-calm
-returns-then-is_broken-clause-calm g c = refl
+pub returns-then-has_room-clause-calm : goal.returns-then-has_room-clause-calm
+returns-then-has_room-clause-calm g c = refl
 
-pub returns-then-is_broken-clause-lasts : goal.returns-then-is_broken-clause-lasts
-returns-then-is_broken-clause-lasts g c = lasts_same g.D.Disk c.args.self.now.disk c.args.self.now.disk refl
+pub returns-then-has_room-clause-lasts : goal.returns-then-has_room-clause-lasts
+returns-then-has_room-clause-lasts g c = lasts_same g.D.Disk c.args.self.now.disk c.args.self.now.disk refl
 
-pub returns-clause-wins : goal.returns-clause-wins
-returns-clause-wins g c =
-    let whole : c.args.self.now.broken ≡ false = sym c.is_broken.ensures.value ∙ c.if-is_broken.false in
-    let lacks = c.has_room.ensures.none c.if-has_room.false in
-    was_compacted g.D.Disk c.args.self.now c.compact.new.self c.compact.result whole lacks.0 lacks.1 c.compact.ensures.compacts
+pub returns-else-has_room-clause-wins : goal.returns-else-has_room-clause-wins
+returns-else-has_room-clause-wins g c =
+    was_compacted g.D.Disk c.args.self.now c.compact_journal.new.self c.compact_journal.result c.requires.done.0
+    (c.has_room.ensures.long c.if-has_room.false) c.compact_journal.ensures.compacts
 
-pub returns-clause-refuses : goal.returns-clause-refuses
-returns-clause-refuses g c = c.compact.ensures.refuses
+pub returns-else-has_room-clause-refuses : goal.returns-else-has_room-clause-refuses
+returns-else-has_room-clause-refuses g c = c.compact_journal.ensures.refuses
 
-pub returns-clause-breaks : goal.returns-clause-breaks
-returns-clause-breaks g c = on_err c.compact.result (FlushBreaks g.D.Disk c.args.self.now c.compact.new.self c.compact.result) c.compact.ensures.breaks
+pub returns-else-has_room-clause-breaks : goal.returns-else-has_room-clause-breaks
+returns-else-has_room-clause-breaks g c =
+    on_err c.compact_journal.result (FlushBreaks g.D.Disk c.args.self.now c.compact_journal.new.self c.compact_journal.result) c.compact_journal.ensures.breaks
 
-pub returns-clause-calm : goal.returns-clause-calm
-returns-clause-calm g c = calm_so g.D.Disk c.args.self.now c.compact.new.self c.compact.result c.compact.ensures.breaks
+pub returns-else-has_room-clause-calm : goal.returns-else-has_room-clause-calm
+returns-else-has_room-clause-calm g c = calm_so g.D.Disk c.args.self.now c.compact_journal.new.self c.compact_journal.result c.compact_journal.ensures.breaks

@@ -1,0 +1,118 @@
+use Rattle.std.proofs.Common.{arith, ap, refl, subst, sym, ◌∙◌, ◌++◌, ◌≡◌, Err, List, Result, false}
+use Rattle.area_core.specs.Areas.{commands}
+use Rattle.broker_core.specs.States.{BrokerValue}
+use Rattle.broker_core.specs.Steps.{outs_of, state_after}
+use Rattle.command_core.specs.Commands.{CommandValue}
+use Rattle.command_core.specs.Entries.{EntryValue}
+use Rattle.outbox_core.specs.Boxes.{SenderValue}
+use Rattle.claim_core.specs.Seats.{FlushSeatValue, when_stopped}
+use Rattle.flush_core.specs.declared.faults.FlushFault.{FlushFault}
+use Rattle.flush_core.specs.Faults.{IsMemory}
+use Rattle.flush_core.proofs.StoreFaults.{fell_for_memory, needs_memory}
+use Rattle.flush_core.specs.Flushed.{Flushed, flushed}
+use Rattle.flush_core.specs.Outcomes.{executing}
+use Rattle.flush_core.specs.Sessions.{boxes_after, ended_of}
+use Rattle.flush_core.proofs.Keeping.{broker_count, counts, fails, held_executed, executed_entries, executes, executing_is}
+use Rattle.flush_core.proofs.flusher.Flusher.execute_stored.Goals as goal
+
+pub execute_all-requires-clause-count : goal.execute_all-requires-clause-count
+execute_all-requires-clause-count g c =
+    let it = c.self.inside in
+    let whole : it.broken ≡ false = ap (λ (f : Flushed g.row.D.Denot). f.broken) c.self.view_is ∙ c.requires.whole in
+    let f = flushed it.journal it.seat it.opening.value.state it.stored it.executed (it.done.items ++ it.batch.items) it.broker it.outlet.boxes it.outlet.ended.items it.outlet.past.items it.outlet.waiting.items it.outlet.left.items it.broken it.won in
+    let held = c.self.invariant.1 whole in
+    counts g.D.Disk.honest g.D.Disk.images f it.done.items whole c.self.invariant.0 held.done_is held.few
+
+pub invariant_of-self : goal.invariant_of-self
+invariant_of-self g c =
+    let it = c.self.inside in
+    let whole : it.broken ≡ false = ap (λ (f : Flushed g.row.D.Denot). f.broken) c.self.view_is ∙ c.requires.whole in
+    let f = flushed it.journal it.seat it.opening.value.state it.stored it.executed (it.done.items ++ it.batch.items) it.broker it.outlet.boxes it.outlet.ended.items it.outlet.past.items it.outlet.waiting.items it.outlet.left.items it.broken it.won in
+    let held = c.self.invariant.1 whole in
+    let did = c.in-Ok.ensures in
+    let now = c.execute_all.new in (
+      executes g.D.Disk.honest g.D.Disk.images f (now.done.items ++ it.batch.items) now.broker now.outlet.boxes now.outlet.ended.items now.outlet.past.items now.outlet.waiting.items now.outlet.left.items
+          (ap (λ (l : List (EntryValue SenderValue)). commands (l ++ it.batch.items)) did.same.0 ∙ held.batch_is)
+          (did.done.broker ∙ ap (λ (l : List CommandValue). record { state = state_after it.broker.state l; broken = false }) held.done_is)
+          (did.done.outs ∙ ap (λ (l : List CommandValue). it.outlet.waiting.items ++ outs_of it.broker.state l) held.done_is)
+          c.execute_all.ensures.same.2 whole c.self.invariant.0,
+      λ w. held_executed it.seat it.stored it.executed _ it.batch.items it.done.items now.done.items it.bytes _ _ _ _ _ _ did.same.0 did.room.behind held,
+      λ w. record { none = did.room.none; room_is = did.room.beside },
+      c.self.invariant.3,
+    )
+
+pub invariant_of-self-in-Err : goal.invariant_of-self-in-Err
+invariant_of-self-in-Err g c =
+    let it = c.self.inside in
+    let f = flushed it.journal it.seat it.opening.value.state it.stored it.executed (it.done.items ++ it.batch.items) it.broker it.outlet.boxes it.outlet.ended.items it.outlet.past.items it.outlet.waiting.items it.outlet.left.items it.broken it.won in
+    let now = c.execute_all.new in (
+      fails g.D.Disk.honest g.D.Disk.images f c.stop.new.seat (now.done.items ++ it.batch.items) now.broker now.outlet.boxes now.outlet.ended.items now.outlet.past.items now.outlet.waiting.items now.outlet.left.items
+          c.stop.ensures c.execute_all.ensures.same.2 c.self.invariant.0,
+      λ w. absurd (cc w),
+      λ w. absurd (cc w),
+      λ w. absurd (cc w),
+    )
+
+pub returns-in-Ok-clause-executed : goal.returns-in-Ok-clause-executed
+returns-in-Ok-clause-executed g c =
+    let it = c.self.inside in
+    let whole : it.broken ≡ false = ap (λ (f : Flushed g.row.D.Denot). f.broken) c.self.view_is ∙ c.requires.whole in
+    let f = flushed it.journal it.seat it.opening.value.state it.stored it.executed (it.done.items ++ it.batch.items) it.broker it.outlet.boxes it.outlet.ended.items it.outlet.past.items it.outlet.waiting.items it.outlet.left.items it.broken it.won in
+    let kept = c.self.invariant.0 in
+    let held = c.self.invariant.1 whole in
+    let did = c.in-Ok.ensures in
+    let now = c.execute_all.new in
+    let entries = executed_entries it.seat it.stored it.executed _ it.batch.items it.done.items _ _ _ _ (omega (arith, kept.begun, kept.marked)) kept.executed kept.stored held in
+    executing_is g.D.Disk.honest g.D.Disk.images f (now.done.items ++ it.batch.items) now.broker now.outlet.boxes now.outlet.ended.items now.outlet.past.items now.outlet.waiting.items now.outlet.left.items whole kept
+    (ap (λ (l : List (EntryValue SenderValue)). l ++ it.batch.items) did.same.0 ∙ sym entries.1)
+    (did.done.boxes_are ∙ (λ i. boxes_after (broker_count g.D.Disk.honest g.D.Disk.images f whole kept i) it.outlet.boxes ((sym entries.0) i)))
+    (did.done.ended_are ∙ ap (λ (l : List CommandValue). it.outlet.ended.items ++ ended_of it.broker.state l) held.done_is)
+    (λ i. (c.execute_all.ensures.same.1 i).items)
+    (did.done.broker ∙ ap (λ (l : List CommandValue). record { state = state_after it.broker.state l; broken = false }) held.done_is)
+    (did.done.outs ∙ ap (λ (l : List CommandValue). it.outlet.waiting.items ++ outs_of it.broker.state l) held.done_is)
+    c.execute_all.ensures.same.2
+    ∙ ap (λ (f : Flushed g.row.D.Denot). executing f) c.self.view_is
+
+pub returns-in-Ok-clause-untouched : goal.returns-in-Ok-clause-untouched
+returns-in-Ok-clause-untouched g c = ap (λ (f : Flushed g.row.D.Denot). f.disk) c.self.view_is
+
+pub returns-in-Ok-clause-outcome : goal.returns-in-Ok-clause-outcome
+returns-in-Ok-clause-outcome g c = (c.requires.whole, (ap (λ (f : Flushed g.row.D.Denot). f.broken) c.self.view_is ∙ c.requires.whole))
+
+pub returns-in-Ok-clause-stops : goal.returns-in-Ok-clause-stops
+returns-in-Ok-clause-stops g c = tt
+
+pub returns-in-Ok-clause-fault : goal.returns-in-Ok-clause-fault
+returns-in-Ok-clause-fault g c = tt
+
+pub returns-in-Err-clause-executed : goal.returns-in-Err-clause-executed
+returns-in-Err-clause-executed g c = tt
+
+pub returns-in-Err-clause-untouched : goal.returns-in-Err-clause-untouched
+returns-in-Err-clause-untouched g c = ap (λ (f : Flushed g.row.D.Denot). f.disk) c.self.view_is
+
+pub returns-in-Err-clause-outcome : goal.returns-in-Err-clause-outcome
+returns-in-Err-clause-outcome g c =
+    let memory : IsMemory {T = Unit {0}} (Err c.in-Err.fault) = subst (λ (r : Result (Unit {0}) FlushFault). IsMemory {T = Unit {0}} r) c.in-Err.is c.execute_all.ensures.fault in
+    fell_for_memory c.in-Err.fault _ _ memory (record {
+      was = c.requires.whole;
+      now = refl;
+      seat = c.stop.ensures ∙ ap (λ (f : Flushed g.row.D.Denot). when_stopped f.seat) c.self.view_is;
+      stored = ap (λ (f : Flushed g.row.D.Denot). f.stored) c.self.view_is;
+      opening = ap (λ (f : Flushed g.row.D.Denot). f.opening) c.self.view_is;
+      left = c.execute_all.ensures.same.2 ∙ ap (λ (f : Flushed g.row.D.Denot). f.left) c.self.view_is;
+    })
+
+pub returns-in-Err-clause-stops : goal.returns-in-Err-clause-stops
+returns-in-Err-clause-stops g c = (refl, ap (λ (s : FlushSeatValue). s.stopped) c.stop.ensures)
+
+pub returns-in-Err-clause-fault : goal.returns-in-Err-clause-fault
+returns-in-Err-clause-fault g c =
+    let memory : IsMemory {T = Unit {0}} (Err c.in-Err.fault) = subst (λ (r : Result (Unit {0}) FlushFault). IsMemory {T = Unit {0}} r) c.in-Err.is c.execute_all.ensures.fault in
+    needs_memory c.in-Err.fault memory
+
+pub execute_all-requires-clause-whole : goal.execute_all-requires-clause-whole
+execute_all-requires-clause-whole g c = ap (λ (b : BrokerValue). b.broken) (c.self.invariant.0.running (ap (λ (f : Flushed g.row.D.Denot). f.broken) c.self.view_is ∙ c.requires.whole)).broker
+
+pub execute_all-requires-clause-none : goal.execute_all-requires-clause-none
+execute_all-requires-clause-none g c = (c.self.invariant.2 (ap (λ (f : Flushed g.row.D.Denot). f.broken) c.self.view_is ∙ c.requires.whole)).none
