@@ -3,8 +3,9 @@
 
     python3 tests/program/ending.py [PROGRAM]
 
-Each client hears 1001, also one that has no session yet and one to which much is still to be written; the server ends with status 0 within five
-seconds; and what was receipted is there when it is started again. Clients that answer no close and take nothing do not keep it.
+A server that is asked to end at once tells so too. Each client hears 1001, also one that has no session yet and one to which much is still to be
+written; the server ends with status 0 within five seconds; and what was receipted is there when it is started again. Clients that answer no close and
+take nothing do not keep it.
 """
 
 import pathlib
@@ -22,6 +23,8 @@ JOURNAL_BYTES = "67108896"
 LONGEST = 5.0
 QUIET, SENDERS, DEAF = 200, 16, 8
 MOST = 250
+# How many servers are asked to end at once.
+STARTS = 60
 
 
 class Sender:
@@ -77,13 +80,23 @@ def ended(process):
 def idle(program, journal, checks):
     """a server that nobody has come to"""
     process = begun(program, journal, scenario.free_port())
-    # One that is asked to end before it has told that may tell neither (docs/PROMISES.md, "What is open").
     started = process.stderr.readline().decode()
     checks.check("it says that it started", " started: " in started, started)
     status, seconds, told = ended(process)
     checks.same("a server without clients ends with status 0", status, 0)
     checks.check("and at once", seconds < 2, seconds)
     checks.check("it says that it was asked to", " ending: asked to\n" in told, told)
+
+
+def at_once(program, journal, checks):
+    """asked to end at its start"""
+    silent = 0
+    for _ in range(STARTS):
+        port = scenario.free_port()
+        words = [program, "serve", journal, str(port), "--until-eof"]
+        ran = subprocess.run(words, stdin=subprocess.DEVNULL, capture_output=True, text=True, timeout=30)
+        silent += ran.returncode != 0 or not ran.stderr.endswith(" ending: asked to\n")
+    checks.same(f"{STARTS} servers that are asked to end at once end so, and tell it last", silent, 0)
 
 
 def at_work(program, journal, checks):
@@ -130,7 +143,7 @@ def at_work(program, journal, checks):
 def main():
     program = scenario.words_of(__doc__).parse_args().program
     checks = scenario.Checks()
-    for part in (idle, at_work):
+    for part in (idle, at_once, at_work):
         with tempfile.TemporaryDirectory(prefix="ending-") as folder:
             journal = pathlib.Path(folder) / "journal"
             subprocess.run([program, "format", "--sparse", journal, JOURNAL_BYTES], check=True)

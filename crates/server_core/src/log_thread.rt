@@ -19,11 +19,20 @@ const SHORT: u64 = 1_000;
 
 const LONG: u64 = 60_000;
 
+/// How often a server that ends looks whether its last lines are written, and for how many milliseconds it waits in between, unless one is
+/// written. Nobody may read them, and then it ends without.
+const LOOKS: u32 = 100;
+
+const LOOK: u64 = 5;
+
 /// Takes what happens from the other threads, which never wait for it, and tells it in a thread of its own. It tells events at once,
 /// counts once a second at most, and how the server does once a minute at most, if it did something.
 #[derive(Drop)]
 pub(crate) struct LogThread {
     untold: ArrayQueue<Event>,
+    // How many events were taken to be told, and how many of them were told.
+    taken: AtomicU64,
+    told: AtomicU64,
     counts: [AtomicU64; KINDS],
     // What the flusher said last: how many commands the journal counts, and how many bytes are held and used. Also how many frames were
     // published, and how many of these say that there is no room.
@@ -33,12 +42,16 @@ pub(crate) struct LogThread {
     held: AtomicU64,
     used: AtomicU64,
     thread: Parker,
+    // The sleep of what ends the server, until all is told.
+    ender: Parker,
 }
 
 impl LogThread {
     pub(crate) fn new(alloc: Global) -> Result<LogThread, AllocError> {
         Ok(LogThread {
             untold: ArrayQueue::new(alloc, UNTOLD)?,
+            taken: AtomicU64::new(0),
+            told: AtomicU64::new(0),
             counts: [
                 AtomicU64::new(0),
                 AtomicU64::new(0),
@@ -62,14 +75,28 @@ impl LogThread {
             held: AtomicU64::new(0),
             used: AtomicU64::new(0),
             thread: Parker::new(),
+            ender: Parker::new(),
         })
     }
 
     /// Has an event told, unless as many wait as may.
     pub(crate) fn note<R: Wait>(&self, rt: &R, event: Event) {
         match self.untold.push(rt, event) {
-            Ok(()) => self.thread.unpark(),
+            Ok(()) => {
+                self.taken.fetch_add(1, Ordering::SeqCst);
+                self.thread.unpark();
+            }
             Err(_) => self.count(Kind::LeftOut),
+        }
+    }
+
+    /// Returns once each event that was noted is told, or after half a second.
+    pub(crate) fn await_told<R: Wait>(&self, rt: &R) {
+        for _look in 0..LOOKS {
+            if self.told.load(Ordering::SeqCst) >= self.taken.load(Ordering::SeqCst) {
+                return;
+            }
+            self.ender.park_timeout(rt, Duration::from_millis(LOOK));
         }
     }
 
@@ -122,7 +149,11 @@ impl LogThread {
     fn tell_events<R: Wait + Clock, W: Write>(&self, alloc: Global, rt: &R, writer: &mut W) {
         for _event in 0..UNTOLD {
             match self.untold.pop(rt) {
-                Some(event) => tell(alloc, rt, event, writer),
+                Some(event) => {
+                    tell(alloc, rt, event, writer);
+                    self.told.fetch_add(1, Ordering::SeqCst);
+                    self.ender.unpark();
+                }
                 None => return,
             }
         }

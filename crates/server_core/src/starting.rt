@@ -200,9 +200,9 @@ fn move_one(seats: &mut Vec<ServerSeat>, its: &mut Vec<ServerSeat>)
 }
 
 impl<R: Threads + Wait + Drop> Server<R> {
-    /// Ends the server. Its workers tell their clients that the broker stops, for some seconds at most. Their seats come back to the
-    /// hub, which is closed with them and the flusher. Then the disk goes, with its lock. `None` if memory was refused for that, or not
-    /// all workers had started; the server has ended all the same.
+    /// Ends the server. Its workers tell their clients that the broker stops, for some seconds at most, and what the operator is told is
+    /// written. Their seats come back to the hub, which is closed with them and the flusher. Then the disk goes, with its lock. `None` if
+    /// memory was refused for that, or not all workers had started; the server has ended all the same.
     pub fn close(self, rt: &R) -> Option<Closed<FileDisk>>
         ensures { IfSome result (IsClosed self.flusher) }
     {
@@ -217,6 +217,7 @@ impl<R: Threads + Wait + Drop> Server<R> {
             workers,
         } = self;
         shared.wakeups.end();
+        shared.wakeups.log().await_told(rt);
         drop(acceptor);
         drop(setups);
         match join_promised(rt, workers) {
