@@ -105,14 +105,14 @@ impl Clients {
         if number < CLIENTS { Some(number) } else { None }
     }
 
-    /// Takes a client in, under the next number. It has a turn next.
+    /// Takes a client in, under the next number. It has a turn next. If memory is refused, nothing has changed but how many have room.
     pub fn admit(
         &mut self,
         greeting: Greeting<ReadBudget<TcpStream>>,
         now: u64,
     ) -> Result<(), AllocError>
         ensures ok { OnOk result (Admits now self.old self.new (record { standing = Standing.Greeting greeting; deadlines = fresh now; is_short = false })) }
-        ensures err { OnErr result (self.new ≡ record self.old { all = self.new.all }) }
+        ensures err { OnErr result (self.new ≡ record self.old { all = record self.old.all { capacity = self.new.all.capacity } }) }
     {
         let client = Client {
             standing: Standing::Greeting(greeting),

@@ -60,7 +60,7 @@ fn spend(left: &mut u64) -> bool
 }
 
 impl<D: Disk> Disk for FuseDisk<D> {
-    ghost use Rattle.disk_core.specs.Fuse.{Burns, fused, all_failures};
+    ghost use Rattle.disk_core.specs.Fuse.{Burns, fused, calls_left, all_failures};
 
     ghost content = { λ f. D.content f.disk };
 
@@ -91,8 +91,10 @@ impl<D: Disk> Disk for FuseDisk<D> {
         ensures reads { ReadsAt D.Disk at into.old into.new (fused self.old) (fused self.new) result }
         ensures cause { HasCause (all_failures D.failures self.old) (all_failures D.failures self.new) result }
         ensures burns { Burns D.failures self.old self.new result }
+        ensures nothing { calls_left self.old ≡ 0 → fused self.new ≡ fused self.old }
     {
         if !spend(&mut self.left) {
+            // Nothing is read.
             return fail(&mut self.failed);
         }
         self.disk.read_at(at, into)
@@ -116,6 +118,7 @@ impl<D: Disk> Disk for FuseDisk<D> {
         ensures syncs { Syncs D.Disk (fused self.old) (fused self.new) result }
         ensures cause { HasCause (all_failures D.failures self.old) (all_failures D.failures self.new) result }
         ensures burns { Burns D.failures self.old self.new result }
+        ensures nothing { calls_left self.old ≡ 0 → fused self.new ≡ fused self.old }
     {
         if !spend(&mut self.left) {
             // Nothing becomes stable.
