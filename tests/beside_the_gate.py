@@ -134,6 +134,9 @@ def main():
         run_side_by_side([it.call(program, it.light) for it in light if it.waits], endings)
     else:
         run_alone([it.call(program, it.words, words.kills) for it in scripts], endings)
+    if not endings:
+        print("beside_the_gate: no script was run", file=sys.stderr)
+        return 1
     print()
     for name, status, seconds in endings:
         how = "ok" if status == 0 else "LACKS A PACKAGE" if status == LACKS else f"FAILED with status {status}"

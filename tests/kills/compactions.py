@@ -17,6 +17,7 @@ import fcntl
 import os
 import random
 import re
+import shutil
 import signal
 import subprocess
 import sys
@@ -263,6 +264,8 @@ def one_kill(broker, name, chance, aimed):
     broker.kill()
     within = broker.runs
     join(talkers)
+    if broker.has_failed():
+        raise RuntimeError(f"the broker had ended by itself, with status {broker.process.returncode}")
     broker.serve()
     judged = [faults_of_a_talker(broker.port, one) for one in talkers]
     return within, [fault for faults, _ in judged for fault in faults], sum(count for _, count in judged)
@@ -289,6 +292,9 @@ def main():
     parser.add_argument("--kills", type=int, default=100)
     parser.add_argument("--seed", type=int, default=random.randrange(2**32), help="of the moments and of what is sent")
     words = parser.parse_args()
+    if shutil.which("strace") is None:
+        print("compactions.py needs strace", file=sys.stderr)
+        return 2
     print(f"seed {words.seed}", flush=True)
     chance, checks = random.Random(words.seed), scenario.Checks()
     with scenario.serving(words.program, JOURNAL_BYTES, Watched) as broker:

@@ -67,6 +67,10 @@ class Broker:
         self.process.stdout.close()
         self.process.stderr.close()
 
+    def has_failed(self):
+        """Whether one that was killed had ended by itself before."""
+        return self.process.returncode != -signal.SIGKILL
+
     def again(self):
         """Kills it and serves the same file at the same port."""
         self.kill()

@@ -99,7 +99,9 @@ def one_gone_without_a_word(broker, checks):
     start = time.perf_counter()
     holder.close()
     checks.same("another is handed it", other.receive().body, "x")
-    checks.tell(f"after {(time.perf_counter() - start) * 1000:.1f} ms")
+    taken = time.perf_counter() - start
+    checks.check("at once", taken < 1, taken)
+    checks.tell(f"after {taken * 1000:.1f} ms")
     other.disconnect()
 
 

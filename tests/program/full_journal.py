@@ -63,13 +63,18 @@ def all_at_once(program, checks):
     with scenario.serving(program, JOURNAL_BYTES) as broker:
         eager = Client(broker.port).connect()
         for number in range(UNASKED):
-            eager.send("SEND", [("destination", "/queue/full"), ("receipt", f"{number}")], LONG_BODY)
+            eager.send("SEND", [("destination", "/queue/full"), ("receipt", f"{number}")], f"{number} {LONG_BODY}")
         heard, code = eager.to_the_end()
         receipted = [frame.headers["receipt-id"] for frame in heard]
         checks.same("who sends without waiting for receipts hears 1001", code, 1001)
         checks.same("after the receipts of its first messages", receipted, [f"{number}" for number in range(len(receipted))])
         checks.check("of some and not of all", 0 < len(receipted) < UNASKED, len(receipted))
         checks.same("the broker ends with status 1", broker.process.wait(timeout=10), 1)
+        broker.again()
+        reader = Client(broker.port).connect()
+        found = [frame.body.split(" ")[0] for frame in reader.subscribe("r", "/queue/full")]
+        checks.same("started again, it has each that was receipted, in order", found[: len(receipted)], receipted)
+        reader.close()
 
 
 def main():

@@ -92,16 +92,23 @@ def let_go(port):
     return ends
 
 
+# Between how many seconds a client that goes on so is let go: after 20 seconds without the next part of its handshake, 60 without a session, and
+# 80 without a word, with three more until this looks again.
+ENDS = {
+    "says nothing": (18, 30),
+    "sends its request slowly": (57, 70),
+    "has its WebSocket and says no more": (57, 70),
+    "sends line ends now and then": (57, 70),
+    "has its session, and answers no ping": (77, 91),
+}
+
+
 def is_in_time(way, end):
     """Whether a client that goes on so was let go when it had to be, or kept."""
-    if way == "has its session, and sends a pong now and then":
+    if way not in ENDS:
         return end is None
-    if end is None:
-        return False
-    # A pause of over 20 seconds within the handshake ends it before.
-    if way in ("has its WebSocket and says no more", "sends line ends now and then"):
-        return 57 <= end <= 70
-    return way != "has its session, and answers no ping" or end >= 77
+    least, most = ENDS[way]
+    return end is not None and least <= end <= most
 
 
 def main():

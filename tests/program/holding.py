@@ -85,7 +85,8 @@ def seconds_to_the_end(client, longest):
 
 def has_neighbours(broker, checks):
     """one that sends empty fragments as fast as it can, and one that answers a close so, hold up nobody at their workers"""
-    flooder, parting = Client(broker.port).connect(), Client(broker.port).connect()
+    # Nothing but the server ends these.
+    flooder, parting = (Client(broker.port, timeout=60).connect() for _ in range(2))
     parting.send("DISCONNECT", [("receipt", "bye")])
     parting.receipt("bye")
     start = time.monotonic()

@@ -172,7 +172,10 @@ def reads_in_vain(program, checks):
             client.disconnect()
             tracer.send_signal(signal.SIGINT)
             tracer.wait()
-        vain = collections.Counter(re.findall(r"= -1 (\w+)", trace.read_text(errors="replace")))
+        told = trace.read_text(errors="replace")
+        vain = collections.Counter(re.findall(r"= -1 (\w+)", told))
+        read = len(re.findall(r"= [1-9]\d*$", told, re.M))
+    checks.check("its reads were traced", read >= LONE, (read, tracer.stderr.read()))
     checks.tell(f"{LONE} lone receipts: {dict(vain)}")
     checks.check(f"at most {IN_VAIN} reads of {LONE} lone receipts are in vain", vain["EAGAIN"] <= IN_VAIN, vain)
 

@@ -114,6 +114,8 @@ def faults(head, body, status):
     if status == 101:
         if named.get("sec-websocket-accept") != "s3pPLMBiTxaQ9kYGzzhZRbK+xOo=":
             wrong.append("another accept key than that of RFC 6455, section 1.3")
+        if (named.get("upgrade", "").lower(), "upgrade" in tokens) != ("websocket", True):
+            wrong.append("no Upgrade: websocket, or no Connection: Upgrade")
         return wrong
     if "close" not in tokens:
         wrong.append("no Connection: close")

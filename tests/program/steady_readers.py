@@ -89,6 +89,8 @@ def read_steadily(broker, checks):
     for reader in readers:
         reader.join(WATCHED + 10)
         checks.same(f"one that reads {reader.rate} bytes a second is there after {WATCHED} seconds", reader.ended, None)
+        least = min(0.9 * reader.rate * WATCHED, MESSAGES * len(BODY))
+        checks.check("and has read at its rate, or all that there was", reader.count >= least, reader.count)
         checks.tell(f"{reader.count} bytes read, {reader.pings} pings answered")
 
 

@@ -99,8 +99,9 @@ def starts(program, checks):
 def counts(program, checks):
     """refusals that are counted"""
     with serving(program) as server:
-        start = time.monotonic()
+        start, asked = time.monotonic(), 0
         while time.monotonic() - start < 3.5:
+            asked += 1
             refused(server.port, b"GET / HTTP/1.1\r\nHost: x\r\n\r\n")
             answer = refused(server.port, handshake(server.port, offer="v10.stomp, v11.stomp"))
         checks.check("a client of other versions is told which is spoken", "v12.stomp" in answer and " 400 " in answer, answer)
@@ -108,6 +109,8 @@ def counts(program, checks):
         for word, least in (("no WebSocket (426)", 3), ("v12.stomp (400)", 3)):
             moments = [moment for moment, line in server.lines if word in line]
             checks.check(f"{word}: told again and again, while it comes", least <= len(moments) <= 7, len(moments))
+            told = sum(int(re.search(r" refused (\d+) ", line)[1]) for _, line in server.lines if word in line)
+            checks.same(f"{word}: all are counted", told, asked)
             gaps = [after - before for before, after in zip(moments, moments[1:])]
             checks.check(f"{word}: at most once a second", all(gap > 0.5 for gap in gaps), gaps)
 

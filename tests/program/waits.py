@@ -34,7 +34,7 @@ class Talker:
         self.client, self.number, self.chance = Client(port).connect(), number, chance
         self.topic = f"/topic/room{number // ROOM}"
         self.client.subscribe("r", self.topic)
-        self.count, self.waits_since = 0, None
+        self.count, self.heard, self.waits_since = 0, 0, None
         self.next = time.monotonic() + chance.uniform(0, LONGEST_PAUSE)
 
     def send(self, sent):
@@ -51,6 +51,7 @@ class Talker:
             assert frame.command in ("MESSAGE", "RECEIPT"), frame
             name = frame.body if frame.command == "MESSAGE" else frame.headers["receipt-id"]
             waits.append(now - sent[name])
+            self.heard += frame.command == "MESSAGE"
             if frame.command == "RECEIPT":
                 self.waits_since, self.next = None, now + self.chance.uniform(0, LONGEST_PAUSE)
             if not self.client.buffer and not self.client.hears_within(0):
@@ -91,6 +92,9 @@ def main():
         waits = talk(talkers, 60 * words.minutes)
     least = words.clients * words.minutes * 60 / LONGEST_PAUSE
     checks.check("they talked: each sent as often as its pauses allow", len(waits) >= least, len(waits))
+    # What was sent last may be under way at the end.
+    sent, heard = sum(one.count for one in talkers), sum(one.heard for one in talkers)
+    checks.check("each message was heard by all of its room", heard >= ROOM * (sent - 2 * len(talkers)), (sent, heard))
     over = [wait for wait in waits if wait > LONGEST_WAIT]
     checks.same(f"no wait is over {LONGEST_WAIT} s", len(over), 0)
     half, most = waits[len(waits) // 2], waits[len(waits) * 99 // 100]
