@@ -100,7 +100,7 @@ def one_gone_without_a_word(broker, checks):
     holder.close()
     checks.same("another is handed it", other.receive().body, "x")
     taken = time.perf_counter() - start
-    checks.check("at once", taken < 1, taken)
+    checks.check("at once", taken < 2, taken)
     checks.tell(f"after {taken * 1000:.1f} ms")
     other.disconnect()
 
