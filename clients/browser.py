@@ -338,7 +338,8 @@ def lines_with_stomp_js(broker, checks, browser, library):
     page.value(f"var heard = []; console.log = (...words) => {{ {told} }}; (0, eval)({json.dumps(lines)}); 0")
     page.comes("heard.length == 2")
     checks.same("the README's lines for stomp.js hear what they say", page.value("heard"), ["somebody said: hello", "it is on disk: first"])
-    works = lines_below("docs/CLIENTS.md", "With stomp.js") + "\nclient.send('/queue/jobs', {}, 'sweep');"
+    # The page of the module has a worker at its queue.
+    works = (lines_below("docs/CLIENTS.md", "With stomp.js") + "\nclient.send('/queue/jobs', {}, 'sweep');").replace("/queue/jobs", "/queue/other-jobs")
     page.value(f"((client) => {{ {works} }})(stomp); 0")
     page.comes("heard.length == 3")
     checks.same("a worker's line for stomp.js acknowledges", page.value("heard[2]"), "it is on disk: done")
