@@ -426,7 +426,9 @@ def main():
         finally:
             server.shutdown()
             browser.close()
-    return 1 if checks.failed else 0
+    if checks.failed:
+        return 1
+    return 2 if words.stomp_js is None and not words.picture else 0
 
 
 if __name__ == "__main__":

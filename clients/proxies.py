@@ -436,7 +436,7 @@ def main():
     for name in wanted.keys() - there.keys():
         print(f"{name}: skipped, since {wanted[name][0]} or openssl is missing")
     print(f"{len(lanes)} recipes tried, {len(wanted) - len(there)} skipped; {time.monotonic() - start:.0f} s")
-    return 1 if any(lane.failed for lane in lanes) else 2 if not lanes else 0
+    return 1 if any(lane.failed for lane in lanes) else 2 if len(lanes) < len(wanted) or not wanted else 0
 
 
 if __name__ == "__main__":

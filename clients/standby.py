@@ -157,7 +157,7 @@ def main():
             broker.serve()
     if not has_volumes():
         checks.tell("no volumes were tried: that needs root, loop devices and mkfs.ext4")
-        return 1 if checks.failed else 0
+        return 1 if checks.failed else 2
     for _ in range(words.rounds):
         hand_over_volume(words.program, checks, words.early)
     return 1 if checks.failed else 0
