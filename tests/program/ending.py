@@ -8,6 +8,8 @@ written; the server ends with status 0 within five seconds; and what was receipt
 take nothing do not keep it.
 """
 
+import fcntl
+import os
 import pathlib
 import subprocess
 import sys
@@ -99,6 +101,20 @@ def at_once(program, journal, checks):
     checks.same(f"{STARTS} servers that are asked to end at once end so, and tell it last", silent, 0)
 
 
+def unread(program, journal, checks):
+    """asked to end while nobody reads what it tells"""
+    reading, writing = os.pipe()
+    os.write(writing, b"x" * fcntl.fcntl(writing, fcntl.F_SETPIPE_SZ, 4096))
+    words = [program, "serve", journal, str(scenario.free_port()), "--until-eof"]
+    start = time.monotonic()
+    status = subprocess.run(words, stdin=subprocess.DEVNULL, stdout=subprocess.DEVNULL, stderr=writing, timeout=4 * LONGEST).returncode
+    seconds = time.monotonic() - start
+    checks.same("a server whose standard error is full ends with status 0", status, 0)
+    checks.check(f"within {LONGEST} s", seconds <= LONGEST, seconds)
+    os.close(reading)
+    os.close(writing)
+
+
 def at_work(program, journal, checks):
     """a server with clients of all kinds"""
     port = scenario.free_port()
@@ -143,7 +159,7 @@ def at_work(program, journal, checks):
 def main():
     program = scenario.words_of(__doc__).parse_args().program
     checks = scenario.Checks()
-    for part in (idle, at_once, at_work):
+    for part in (idle, at_once, unread, at_work):
         with tempfile.TemporaryDirectory(prefix="ending-") as folder:
             journal = pathlib.Path(folder) / "journal"
             subprocess.run([program, "format", "--sparse", journal, JOURNAL_BYTES], check=True)

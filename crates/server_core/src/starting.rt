@@ -201,8 +201,9 @@ fn move_one(seats: &mut Vec<ServerSeat>, its: &mut Vec<ServerSeat>)
 
 impl<R: Threads + Wait + Drop> Server<R> {
     /// Ends the server. Its workers tell their clients that the broker stops, for some seconds at most, and what the operator is told is
-    /// written. Their seats come back to the hub, which is closed with them and the flusher. Then the disk goes, with its lock. `None` if
-    /// memory was refused for that, or not all workers had started; the server has ended all the same.
+    /// written, if that takes less than half a second. Their seats come back to the hub, which is closed with them and the flusher. Then
+    /// the disk goes, with its lock. `None` if memory was refused for that, or not all workers had started; the server has ended all the
+    /// same.
     pub fn close(self, rt: &R) -> Option<Closed<FileDisk>>
         ensures { IfSome result (IsClosed self.flusher) }
     {
