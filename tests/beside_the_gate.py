@@ -4,7 +4,7 @@ memory, traces of its system calls, and the clients. Its last line counts what p
 
     python3 tests/beside_the_gate.py [PROGRAM] [--light] [--kills N] [--only WORD]
 
-PROGRAM is the built program; without it, bin/stompd builds it if that is needed. Needs Python 3; strace for the traces, `rt` and a C compiler for
+PROGRAM is the built program; without it, it is what `bin/build --any` makes. Needs Python 3; strace for the traces, `rt` and a C compiler for
 refused memory, Chromium and Debian's python3-stomp and python3-websocket for two of the clients, Node for the module, dpkg and root for the package,
 and nginx, HAProxy, Caddy, Apache and Docker for the recipes of deploy/. It takes some thirty minutes, and ends with status 0
 only if nothing failed. With --light it runs the part that needs none of these, with fewer kills, in less than ten minutes; those that mostly wait run
@@ -19,8 +19,6 @@ import sys
 import time
 
 TOP = pathlib.Path(__file__).resolve().parent.parent
-BUILT = TOP / "crates" / "stompd" / "out" / "stompd"
-
 # Debian's own Python has Debian's packages.
 DEBIAN_PYTHON = pathlib.Path("/usr/bin/python3")
 
@@ -66,6 +64,7 @@ SCRIPTS = [
     Script("tests/attack/soak.py", "--minutes 1"),
     Script("tests/program/waits.py", "--minutes 10", light="--minutes 1"),
     Script("tests/program/readiness.py"),
+    Script("tests/program/unproved.py"),
     Script("tests/program/packing.py"),
     Script("tests/program/rooms.py"),
     Script("tests/program/crowd.py", light=""),
@@ -96,15 +95,15 @@ LACKS = 2
 
 
 def built_program():
-    """The program of this checkout, built if it is missing or older than its sources."""
-    subprocess.run([TOP / "bin" / "stompd", "script"], stdin=subprocess.DEVNULL, check=True)
-    return BUILT
+    """A program of this checkout that is current: the proved one, or else the unproved one, compiled if it is missing or old."""
+    made = subprocess.run([TOP / "bin" / "build", "--any"], stdin=subprocess.DEVNULL, stdout=subprocess.PIPE, text=True, check=True)
+    return pathlib.Path(made.stdout.strip())
 
 
 def run_alone(calls, endings):
     """Runs these, one after another."""
-    for name, words in calls:
-        print(f"\n== {name}", flush=True)
+    for number, (name, words) in enumerate(calls, 1):
+        print(f"\n== {number} of {len(calls)}: {name}", flush=True)
         start = time.monotonic()
         status = subprocess.run(words).returncode
         endings.append((name, status, time.monotonic() - start))

@@ -23,6 +23,7 @@ from lib.scenario import TOP
 from lib.stomp_client import Client
 
 LINK = re.compile(r"\]\(([^)#\s:]+)(?:#[^)\s]*)?\)")
+VERSION = re.compile(r"stompd \d+\.\d+\.\d+\+git[0-9a-f]{12}(-changed)?, given, and not known to be proved\n")
 # Scripts run outside of the folder, with its path in DPKG_ROOT, since there is no shell in it.
 DPKG = ["dpkg", "--force-script-chrootless", "--force-depends"]
 
@@ -46,6 +47,7 @@ def try_archive(archive, program, folder, checks):
     checks.same("its sums are those of its files", sums, {it: hashlib.sha256((base / it).read_bytes()).hexdigest() for it in ("stompd", "serve")})
     checks.same("the program is the one that was given", (base / "stompd").read_bytes(), program.read_bytes())
     checks.check("and FROM says so", "was given, and not built" in (base / "FROM").read_text())
+    checks.check("VERSION has the program's number, the commit, and that it was given", VERSION.fullmatch((base / "VERSION").read_text()))
     checks.check("both may be run", all(os.access(base / it, os.X_OK) for it in ("stompd", "serve")))
 
 
@@ -74,6 +76,7 @@ def try_package(package, program, root, checks):
     dpkg(root, "-i", package)
     status = (root / "var/lib/dpkg/status").read_text()
     checks.check("it is installed", "Status: install ok installed" in status, status)
+    checks.check("its version has the commit", re.search(r"^Version: \d+\.\d+\.\d+\+git[0-9a-f]{12}(\.changed)?$", status, re.M), status)
     user = next((line.split(":") for line in (root / "etc/passwd").read_text().splitlines() if line.startswith("stompd:")), None)
     checks.check("it has a user of its own, who can't log in", user and user[-1].endswith("nologin"), user)
     folder = root / "var/lib/stompd"

@@ -10,7 +10,10 @@ that stop within their work. Needs Linux and Python 3 alone; the gate does not r
 - What a killed first start has left is not taken for a journal, nor does it stand in the way of the next start.
 - What the server tells on standard error is told while it runs, and the origins that are named are passed on.
 - A server whose journal is full is started again, by the same program, after a pause that grows; if not even a start fits it is not.
-- A build that fails or is broken off ends it.
+- A build that fails or is broken off ends it. Nothing is built for a port that is taken or a folder that isn't there, and with --proved only a proved
+  program serves.
+- It goes on if nobody reads what it tells any more, ends soon after its server though what that told is unread, and ends in good order if a signal
+  comes to all of its process group.
 
 PROGRAM is the built program; without it, the one that bin/stompd leaves in crates/stompd/out. With --few there are fewer moments and pairs, since each
 first start writes 512 MiB.
@@ -39,6 +42,8 @@ LOCKED = "stompd: cannot open: FILE: another server has its lock\n"
 SMALL_JOURNAL = "131104"
 # What a running server tells has its moment in front.
 EVENT = re.compile(r"stompd: \d{4}-\d\d-\d\dT")
+# The version of the program, if a file beside the program has it.
+VERSION = re.compile(r"serve: stompd \d+\.")
 # What is told of a journal's making that takes over a second.
 WRITTEN = re.compile(r"stompd: \d+ of \d+ MiB are written$")
 # A first start writes and syncs 512 MiB, which a busy disk takes its time for. In seconds.
@@ -93,12 +98,12 @@ class Start:
         return bool(select.select([self.process.stdout], [], [], seconds)[0]) and self.process.stdout.readline().startswith("listening ")
 
     def end(self, sent=None, seconds=PATIENCE):
-        """The status, and what was told besides the events of a running server and how far a journal is made, once it has ended by itself or by that
-        signal."""
+        """The status, and what was told besides the program's version, the events of a running server and how far a journal is made, once it has ended
+        by itself or by that signal."""
         if sent:
             self.process.send_signal(sent)
         _, told = self.process.communicate(timeout=seconds)
-        return self.process.returncode, "".join(line for line in told.splitlines(keepends=True) if not (EVENT.match(line) or WRITTEN.match(line)))
+        return self.process.returncode, "".join(line for line in told.splitlines(keepends=True) if not any(it.match(line) for it in (VERSION, EVENT, WRITTEN)))
 
     def kill_all(self):
         """Ends it and all that it has started, as a lost machine does."""
@@ -161,7 +166,7 @@ def words_and_programs(checks):
         taken.bind(("127.0.0.1", 0))
         taken.listen()
         status, told = Start(checks.program, file, taken.getsockname()[1]).end()
-        checks.same("a port in use is told", (status, told), (1, "stompd: cannot open: PORT: another program listens there\n"))
+        checks.same("a port in use is told", (status, told), (1, f"serve: port {taken.getsockname()[1]}: another program listens there\n"))
     checks.same("and nothing is made", list(file.parent.iterdir()), [])
     link = file.parent / "link"
     link.symlink_to(file.parent / "nothing")
@@ -170,7 +175,9 @@ def words_and_programs(checks):
     link.unlink()
     nowhere = file.parent / "none" / "rooms.journal"
     status, told = Start(checks.program, nowhere, free_port()).end()
-    checks.check("a folder that isn't there is told", status == 1 and str(nowhere) in told, (status, told))
+    checks.same("a folder that isn't there is told", (status, told), (1, f"serve: {nowhere}: there is no folder {nowhere.parent}\n"))
+    status, told = Start(checks.program, file.parent, free_port()).end()
+    checks.same("a folder in the place of a file is told", (status, told), (1, f"serve: {file.parent}: this is a folder\n"))
 
 
 def a_first_start(checks):
@@ -322,6 +329,48 @@ fi""")
     checks.same("it ends as ever", start.end(signal.SIGTERM), (143, ""))
 
 
+def child_with(start, word):
+    """The process of a start's group among whose words that one stands, and that is no shell."""
+    for words in pathlib.Path("/proc").glob("[0-9]*/cmdline"):
+        with contextlib.suppress(OSError, ProcessLookupError):
+            said = words.read_bytes().split(b"\0")
+            if word.encode() in said and os.getpgid(int(words.parent.name)) == start.process.pid and not said[0].endswith(b"sh"):
+                return int(words.parent.name)
+    return None
+
+
+def nobody_reads(checks):
+    file, port = new_file(checks), free_port()
+    start = Start(checks.program, file, port)
+    checks.check("it serves", start.listens())
+    start.process.stdout.close()
+    start.process.stderr.close()
+    publish(port, "though nobody reads")
+    checks.same("it goes on if its reader has left", (start.process.poll(), found_in(port)), (None, ["though nobody reads"]))
+    start.process.send_signal(signal.SIGTERM)
+    checks.same("and ends in good order", start.process.wait(PATIENCE), 143)
+    # More than the script's own pipe takes, and less than that and the server's together.
+    program = checks.stand_in("""if [ "$1" = serve ]; then
+    head -c 100000 /dev/zero | tr '\\0' x | fold -w 1000 >&2
+    exit 1
+fi""")
+    began = time.monotonic()
+    start = Start(program, file, port)
+    checks.same("it ends if what its server told is not read", start.process.wait(PATIENCE), 1)
+    checks.check("soon", time.monotonic() - began < 10, time.monotonic() - began)
+
+
+def a_signal_to_the_group(checks):
+    for sent, status in STATUSES.items():
+        file, port = new_file(checks), free_port()
+        start = Start(checks.program, file, port)
+        checks.check("it serves", start.listens())
+        client = Client(port).connect()
+        os.killpg(start.process.pid, sent)
+        checks.same(f"{sent.name} to its group: its clients hear 1001", client.to_the_end()[1], 1001)
+        checks.same("it ends as by one to itself", start.end(), (status, f"serve: made the journal {file}\n"))
+
+
 def builds(checks):
     """A copy of the script stands beside a stand-in for bin/build."""
     top, file, port = pathlib.Path(tempfile.mkdtemp(dir=checks.folder)), new_file(checks), free_port()
@@ -330,10 +379,10 @@ def builds(checks):
     script, build = shutil.copy2(SERVE, top / "bin"), top / "bin" / "build"
     (top / "crates" / "stompd" / "out" / "stompd").symlink_to(checks.program)
 
-    def with_build(text):
+    def with_build(text, *words):
         build.write_text(f"#!/bin/sh\n{text}\n", encoding="utf-8")
         build.chmod(0o755)
-        return Start(None, file, port, script=script)
+        return Start(None, *words, file, port, script=script)
 
     checks.same("a build that fails ends it", with_build("echo 'stompd: the build of x failed' >&2; exit 1").end(), (1, "stompd: the build of x failed\n"))
     for sent, status in STATUSES.items():
@@ -343,6 +392,28 @@ def builds(checks):
         checks.same(f"{sent.name} while it builds", start.end(sent), (status, ""))
         checks.check("the build is told to end, and has ended", heard.exists())
     checks.check("no journal was made", not file.exists())
+    asked = file.parent / "asked"
+    asks = f"echo \"$*\" >> '{asked}'"
+    with socket.socket() as taken:
+        taken.bind(("127.0.0.1", 0))
+        taken.listen()
+        build.write_text(f"#!/bin/sh\n{asks}\n", encoding="utf-8")
+        checks.same("a taken port ends it", Start(None, file, taken.getsockname()[1], script=script).end()[0], 1)
+        checks.same("so does a folder that isn't there", Start(None, file.parent / "none" / "x", port, script=script).end()[0], 1)
+        checks.check("and nothing is built before", not asked.exists())
+    unproved = file.parent / "unproved"
+    unproved.mkdir()
+    shutil.copy2(checks.program, unproved / "stompd")
+    (unproved / "VERSION").write_text("stompd 1.2.3, not proved\n", encoding="utf-8")
+    start = with_build(f"{asks}; echo '{unproved}/stompd'")
+    checks.check("a program whose path the build prints serves", start.listens())
+    checks.same("it is that program", os.readlink(f"/proc/{child_with(start, 'serve')}/exe"), str(unproved / "stompd"))
+    start.process.send_signal(signal.SIGTERM)
+    checks.check("its version is told", start.process.communicate()[1].startswith("serve: stompd 1.2.3, not proved\n"))
+    start = with_build(asks, "--proved")
+    checks.check("with --proved what was built serves", start.listens())
+    checks.same("and ends", start.end(signal.SIGTERM)[0], 143)
+    checks.same("the build was asked for any program, and then for the proved one", asked.read_text().splitlines(), ["--any", ""])
     start = with_build("exit 0")
     checks.check("what was built serves", start.listens())
     checks.same("and ends", start.end(signal.SIGTERM)[0], 143)
@@ -362,6 +433,8 @@ SCENARIOS = [
     a_killed_first_start,
     a_full_journal,
     what_the_server_tells,
+    nobody_reads,
+    a_signal_to_the_group,
     builds,
 ]
 

@@ -37,7 +37,7 @@ NUMBERS = told("BYTES is a decimal number under 2^64, and PORT one from 1 to 655
 THREADS = told("the N of --threads is a decimal number from 1 to 64")
 MEMORY = told("the BYTES of --memory are a decimal number from 16777216 on, and under 2^64")
 ORIGINS = told("an ORIGIN is what a browser sends: SCHEME://HOST or SCHEME://HOST:PORT in small letters, with nothing after it")
-VERSION = "stompd 0.1.0\n"
+VERSION = "stompd 0.2.0\n"
 # Areas of 4,096 bytes.
 SMALLEST = 8_224
 

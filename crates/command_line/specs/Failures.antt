@@ -43,7 +43,7 @@ Untouched unread left before after = (left ≡ unread) × (after ≡ before)
 
 -- the program, and its version
 abbrev pub version_line : List ℕ
-version_line = codes "stompd 0.1.0\n"
+version_line = codes "stompd 0.2.0\n"
 
 -- A subcommand is done. A script was read to its end, and what it prints is written. Or the version is written, or what a journal shows or
 -- holds. Or a file has bytes enough for a journal. A server is never done, and a ping is done by another call (`end_ping`). No contract can

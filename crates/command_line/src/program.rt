@@ -215,7 +215,7 @@ fn version<W: Write>(writer: &mut W) -> Result<(), Failure>
     ensures ok { OnOk result (Appends (W.contents writer.old) (W.contents writer.new) version_line) }
     ensures err { IfErr result (λ failure. failure ≡ Failure.File (FileFault.Show ShowFault.Output)) }
 {
-    match writer.write_all(b"stompd 0.1.0\n") {
+    match writer.write_all(b"stompd 0.2.0\n") {
         Ok(()) => Ok(()),
         Err(_) => Err(Failure::File(FileFault::Show(ShowFault::Output))),
     }
