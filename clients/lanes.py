@@ -147,7 +147,7 @@ def start_cookie(lane, instead, origin=PAGE):
     shutil.copytree(TOP / "examples", lane.folder / "chat")
     users = [example.line_of("alice", "secret", ["red"]), example.line_of("bob", "hidden", ["red", "blue"])]
     (lane.folder / "groups").write_text("\n".join(users) + "\n")
-    lane.start(sys.executable, DEPLOY / "login.py", lane.folder / "groups", str(port))
+    lane.start(sys.executable, DEPLOY / "login.py", lane.folder / "groups", str(port), origin)
     lane.wait_for(port)
     places = [("127.0.0.1:8081", f"{HERE}:{red.port}"), ("127.0.0.1:8082", f"{HERE}:{blue.port}"), ("127.0.0.1:8090", f"{HERE}:{port}")]
     start_nginx(lane, "nginx-cookie.conf", instead, [*places, ("/var/www/chat", f"{lane.folder}/chat")])

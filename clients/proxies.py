@@ -228,7 +228,7 @@ def try_proxy(lane, start, has_limits, instead):
 def cookie_of(port, name, password):
     """What a login is answered with: its status, and its cookie."""
     form = urllib.parse.urlencode({"name": name, "password": password}).encode()
-    head = f"POST /login HTTP/1.0\r\nHost: localhost\r\nContent-Type: application/x-www-form-urlencoded\r\nContent-Length: {len(form)}\r\n\r\n"
+    head = f"POST /login HTTP/1.0\r\nHost: localhost\r\nOrigin: {PAGE}\r\nContent-Type: application/x-www-form-urlencoded\r\nContent-Length: {len(form)}\r\n\r\n"
     with socket.create_connection((HERE, port), 30) as plain, SecureClient.context.wrap_socket(plain, server_hostname="localhost") as stream:
         stream.sendall(head.encode() + form)
         heard = b""
@@ -248,8 +248,8 @@ def try_cookie(lane, instead):
     alice = [("Cookie", cookie.split(";")[0]), ("Origin", PAGE)]
     bob = [("Cookie", cookie_of(lane.port, "bob", "hidden")[1].split(";")[0]), ("Origin", PAGE)]
     name, until, sum_ = alice[0][1].split("=")[1].split(".")
-    later = [("Cookie", f"rooms={name}.{int(until) + 1}.{sum_}"), ("Origin", PAGE)]
-    another = [("Cookie", f"rooms={b'bob'.hex()}.{until}.{sum_}"), ("Origin", PAGE)]
+    later = [("Cookie", f"__Host-rooms={name}.{int(until) + 1}.{sum_}"), ("Origin", PAGE)]
+    another = [("Cookie", f"__Host-rooms={b'bob'.hex()}.{until}.{sum_}"), ("Origin", PAGE)]
     for what, headers, path, expected in [
         ("without a cookie: 401", [("Origin", PAGE)], "/rooms/red", "401"),
         ("with one that was made to last longer: 401", later, "/rooms/red", "401"),

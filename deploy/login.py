@@ -1,24 +1,26 @@
 #!/usr/bin/env python3
 """A login by cookie, as an example of what nginx asks (nginx-cookie.conf). Needs Python 3 alone.
 
-    python3 login.py USERS PORT         serves at http://127.0.0.1:PORT
-    python3 login.py NAME GROUP..       asks for a password, and prints the line of USERS for that user
+    python3 login.py USERS PORT ORIGIN..      serves at http://127.0.0.1:PORT, for pages of these origins
+    python3 login.py NAME GROUP..             asks for a password, and prints the line of USERS for that user
 
-`POST /login` with the form's fields `name` and `password` answers with the cookie `rooms`: who it is, until when, and a sum that only this program
-can make. `GET /may` with that cookie and the header `X-Group` answers 200 if the user is in that group, 403 if not, and 401 if the cookie is none
-of its own or has run out. The secret of the sums is made at the start, so a restart ends all logins; connections that stand go on.
+`POST /login` with the form's fields `name` and `password` answers with the cookie `__Host-rooms`: who it is, until when, and a sum that only this
+program can make. By that name no other host, and no page over plain HTTP, can set it. A page of another origin is answered 403, so that nobody is
+logged in under a name of somebody else's choice. `GET /may` with that cookie and the header `X-Group` answers 200 if the user is in that group, 403
+if not, and 401 if there is no such cookie, or several, or it is none of its own or has run out. The secret of the sums is made at the start, so a
+restart ends all logins; connections that stand go on.
 """
 
 import getpass
 import hashlib
 import hmac
-import http.cookies
 import http.server
 import os
 import sys
 import time
 import urllib.parse
 
+COOKIE = "__Host-rooms"
 HOURS = 12
 SECRET = os.urandom(32)
 
@@ -53,14 +55,20 @@ def ticket(name, until):
     return signed(f"{name.encode().hex()}.{until}")
 
 
+def values_in(cookies):
+    """The values of the cookies of this program's name. Others are passed over, whatever their form is (RFC 6265, 4.2.1)."""
+    pairs = (it.strip().partition("=") for it in cookies.split(";"))
+    return [value for name, _, value in pairs if name == COOKIE]
+
+
 def name_in(cookies):
-    """The user that a cookie of this program names, or none."""
+    """The user that the one cookie of this program names, or none."""
     try:
-        text = http.cookies.SimpleCookie(cookies)["rooms"].value
+        (text,) = values_in(cookies)
         name, until, _ = text.split(".")
         is_own = hmac.compare_digest(signed(f"{name}.{until}").encode(), text.encode())
         return bytes.fromhex(name).decode() if is_own and int(until) > time.time() else None
-    except (KeyError, ValueError, http.cookies.CookieError):
+    except ValueError:
         return None
 
 
@@ -77,11 +85,14 @@ class Answers(http.server.BaseHTTPRequestHandler):
         size = self.headers.get("Content-Length", "")
         if self.path != "/login" or not size.isdigit() or int(size) > 4096:
             return self.answer(400)
+        # A browser names the page's origin with each POST.
+        if self.headers.get("Origin") not in sys.argv[3:]:
+            return self.answer(403)
         form = urllib.parse.parse_qs(self.rfile.read(int(size)).decode(errors="replace"))
         name, password = (form.get(it, [""])[0] for it in ("name", "password"))
         if not may_log_in(users_of(sys.argv[1]), name, password):
             return self.answer(401)
-        cookie = f"rooms={ticket(name, int(time.time()) + 3600 * HOURS)}; Path=/; Max-Age={3600 * HOURS}; HttpOnly; Secure; SameSite=Strict"
+        cookie = f"{COOKIE}={ticket(name, int(time.time()) + 3600 * HOURS)}; Path=/; Max-Age={3600 * HOURS}; HttpOnly; Secure; SameSite=Strict"
         self.answer(303, [("Set-Cookie", cookie), ("Location", "/")])
 
     def do_GET(self):
@@ -92,7 +103,7 @@ class Answers(http.server.BaseHTTPRequestHandler):
 
 
 if __name__ == "__main__":
-    if len(sys.argv) < 3:
+    if len(sys.argv) < 3 or sys.argv[2].isdigit() and len(sys.argv) < 4:
         sys.exit(__doc__)
     if not sys.argv[2].isdigit():
         print(line_of(sys.argv[1], getpass.getpass(), sys.argv[2:]))

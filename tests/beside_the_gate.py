@@ -51,6 +51,7 @@ SCRIPTS = [
     Script("tests/program/ending.py", light=""),
     Script("tests/program/telling.py", light=""),
     Script("tests/program/serve_script.py", light="--few"),
+    Script("tests/program/logins.py", light=""),
     Script("tests/program/trace_format.sh"),
     Script("tests/program/trace_serve.py"),
     Script("tests/program/failing_disk.py"),
