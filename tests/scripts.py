@@ -2,7 +2,7 @@
 """Runs each script of tests/scripts over the built program, all in parallel, and prints a diff for each that does not print what stands beside it. Its last
 line counts those that passed and that failed. It takes seconds, and needs Python 3 alone.
 
-    python3 tests/scripts.py [PROGRAM] [--only WORD]
+    python3 tests/scripts.py [PROGRAM] [--only WORD] [--everywhere]
 
 PROGRAM is the built program; without it, the one that bin/stompd leaves in crates/stompd/out. With --only it runs those in whose folder or name the word
 stands. It ends with status 0 only if all passed and at least one ran.
@@ -13,7 +13,8 @@ long for a file are made by tests/lib/long_scripts.py. A missing or a further fi
 
 Each script runs whole, and then with each text cut into pieces of one byte and of seven, a line for each: a broker has to answer the same however a stream
 is cut. Only the number of a line that is not understood is another then, and it is counted here. A script of more than 300,000 bytes runs whole alone, since
-it would be as many lines; so does the one that has a line over the limit, which is none once it is cut.
+it would be as many lines; so does the one that has a line over the limit, which is none once it is cut. With --everywhere scripts of less than 20,000 bytes
+run too with each text cut in two at its first byte, at its second, and so on: some 8,000 runs, a minute or two.
 """
 
 import argparse
@@ -34,8 +35,8 @@ FOLDER = pathlib.Path(__file__).resolve().parent / "scripts"
 KINDS = {".script", ".txt", ".out", ".err", ".status"}
 # What a file may have, in bytes; a longer script is made.
 MOST_OF_A_FILE = 200_000
-# The bytes of a piece, and what a script may have to be cut. With None it runs as it stands.
-CUTS, MOST_THAT_IS_CUT = (None, 1, 7), 300_000
+# The bytes of a script that is still cut into pieces, and of one that is cut in two everywhere.
+MOST_IN_PIECES, MOST_EVERYWHERE = 300_000, 20_000
 # In seconds.
 PATIENCE = 120
 
@@ -96,19 +97,39 @@ def made_cases():
         yield Case(it.name, it.rule, script.encode(), out, it.err, it.status)
 
 
-def pieces_of(line, size):
-    """A line as the lines of its pieces: each has so many bytes of the text that a connection receives."""
+def split_text(line):
+    """The connection that receives a text and the bytes of the text; of another line nothing."""
     text = TEXT.fullmatch(line)
-    if not text or not text[2]:
-        return [line]
-    found = BYTE.findall(text[2])
-    return [text[1] + b" " + b"".join(found[at : at + size]) for at in range(0, len(found), size)]
+    return (text[1] + b" ", BYTE.findall(text[2])) if text and text[2] else (b"", [])
 
 
-def cut(case, size):
-    """The script in such pieces, and what is told of it then: the line that is not understood has moved."""
+def by_size(size):
+    return lambda text: [text[at : at + size] for at in range(0, len(text), size)]
+
+
+def in_two(place):
+    return lambda text: [it for it in (text[:place], text[place:]) if it]
+
+
+def ways_of(case, is_everywhere):
+    """How a script runs: in words, and how each of its texts is cut."""
+    yield "whole", None
+    if len(case.script) <= MOST_IN_PIECES:
+        yield "in pieces of one byte", by_size(1)
+        yield "in pieces of seven bytes", by_size(7)
+    if is_everywhere and len(case.script) <= MOST_EVERYWHERE:
+        longest = max((len(split_text(it)[1]) for it in case.script.split(b"\n")), default=0)
+        for place in range(1, longest):
+            yield f"with each text cut in two after {place} bytes", in_two(place)
+
+
+def cut(case, way):
+    """The script with its texts cut so, and what is told of it then: the line that is not understood has moved."""
     *lines, rest = case.script.split(b"\n")
-    pieces = [pieces_of(it, size) for it in lines]
+    pieces = []
+    for line in lines:
+        connection, text = split_text(line)
+        pieces.append([connection + b"".join(it) for it in way(text)] or [line])
     script = b"".join(piece + b"\n" for them in pieces for piece in them) + rest
     moved = lambda told: f"line {1 + sum(map(len, pieces[: int(told[1]) - 1]))} not understood"
     return script, NOT_UNDERSTOOD.sub(moved, case.err)
@@ -119,9 +140,9 @@ def difference(kind, wanted, seen):
     return "".join(it if it.endswith("\n") else it + "\n" for it in difflib.unified_diff(wanted.splitlines(True), seen.splitlines(True), **named))
 
 
-def run(program, case, size):
-    """What is wrong with the script in pieces of that size."""
-    script, err = (case.script, case.err) if size is None else cut(case, size)
+def run(program, case, way):
+    """What is wrong with the script that is cut so."""
+    script, err = (case.script, case.err) if way is None else cut(case, way)
     try:
         ended = subprocess.run([program, "script"], input=script, capture_output=True, timeout=PATIENCE)
     except subprocess.TimeoutExpired:
@@ -131,12 +152,11 @@ def run(program, case, size):
     return found if ended.returncode == case.status else f"{found}the status is {ended.returncode} and not {case.status}\n"
 
 
-def run_case(program, case):
-    """The first that is wrong with a script, in which pieces it runs so; or nothing."""
-    for size in CUTS if len(case.script) <= MOST_THAT_IS_CUT else CUTS[:1]:
-        found = run(program, case, size)
+def run_case(program, case, is_everywhere):
+    """What is wrong with the first way in which a script does not print what it should; or nothing."""
+    for how, way in ways_of(case, is_everywhere):
+        found = run(program, case, way)
         if found:
-            how = "whole" if size is None else f"in pieces of {size} byte{'s' if size > 1 else ''}"
             return f"== {case.name}, {how}: {case.rule}\n{found}"
     return ""
 
@@ -144,13 +164,14 @@ def run_case(program, case):
 def main():
     parser = words_of(__doc__, BUILT)
     parser.add_argument("--only", default="", metavar="WORD", help="only the scripts in whose folder or name this stands")
+    parser.add_argument("--everywhere", action="store_true", help="cut each text in two at each of its bytes too")
     words = parser.parse_args()
     program, start = built_program(words), time.monotonic()
     paths = sorted(FOLDER.glob("*/*.script"))
     wrong = [f"== {it}\n" for it in [*strays(), *(f"{path.parent.name}: {fault}" for path in paths for fault in faults_of(path))]]
     cases = [it for it in [*map(case_of, paths), *made_cases()] if words.only in it.name]
     with concurrent.futures.ThreadPoolExecutor(os.cpu_count()) as threads:
-        found = list(threads.map(lambda it: run_case(program, it), cases))
+        found = list(threads.map(lambda it: run_case(program, it, words.everywhere), cases))
     passed = found.count("")
     print("".join([*wrong, *found]), end="")
     print(f"{time.monotonic() - start:.1f} s")

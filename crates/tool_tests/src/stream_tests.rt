@@ -1,6 +1,6 @@
 //! Streams that fail, that give or take a byte at a time, and that are interrupted.
 
-use crate::words_tests::{CONNECT, SEND_WITH_RECEIPT, compare, text_of_parts};
+use crate::texts::{CONNECT, SEND_WITH_RECEIPT, compare, text_of_parts};
 use command_line::tool;
 use std::alloc::Global;
 use std::fs::File;
