@@ -88,7 +88,8 @@ def strays():
 
 def case_of(path):
     name = str(path.relative_to(FOLDER).with_suffix(""))
-    return Case(name, (text_beside(path, ".txt") or "").strip(), path.read_bytes(), text_beside(path, ".out") or "", text_beside(path, ".err") or "", int(text_beside(path, ".status") or 0))
+    rule, out, err, status = (text_beside(path, it) or "" for it in (".txt", ".out", ".err", ".status"))
+    return Case(name, rule.strip(), path.read_bytes(), out, err, int(status or 0))
 
 
 def made_cases():

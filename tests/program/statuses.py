@@ -226,6 +226,15 @@ def words(checks, folder):
     none = ([], ["flash"], ["--flash"], ["script", "x"], ["show"], ["show", file, "x"], ["format", file], ["format", file, "1", "2"])
     for bad in (*none, ["serve", file], ["serve", file, "80", "x"], ["--help"], ["show", "--help"]):
         checks.run(bad, 2, NOTHING, SOME)
+    unknown = f"error: unrecognized subcommand 'relay'\n\nUsage: {pathlib.Path(checks.program).name} <COMMAND>\n\nFor more information, try '--help'.\n"
+    checks.run(["relay"], 2, NOTHING, unknown)
+    for bad in (["relay"], ["script", "more"], ["--help"], ["show"]):
+        with tempfile.TemporaryFile() as given:
+            given.write(b"flush\n")
+            given.seek(0)
+            subprocess.run([checks.program, *bad], stdin=given, stdout=subprocess.DEVNULL, stderr=subprocess.DEVNULL, timeout=60)
+            read = os.lseek(given.fileno(), 0, os.SEEK_CUR)
+        checks.expect(f"{bad} read nothing", read == 0, read)
     for bad in ([b"\xff"], ["script", b"\xff"], ["show", b"\xff"], ["format", b"\xff", str(SMALLEST)], ["serve", b"\xff", "80"]):
         checks.run(bad, 2, NOTHING, NOTHING)
 
