@@ -45,6 +45,7 @@ class Script:
 
 
 SCRIPTS = [
+    Script("tests/scripts.py", "--everywhere", light=""),
     Script("tests/program/statuses.py", light=""),
     Script("tests/program/ping.py", light=""),
     Script("tests/program/closed_streams.py", light=""),

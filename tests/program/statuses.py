@@ -16,7 +16,7 @@ import subprocess
 import sys
 import tempfile
 
-from lib.old_journal import area, journal
+from lib.old_journal import area, journal, open_operation, record, send_operation, subscribe_operation
 from lib.scenario import BUILT, built_program, free_port, words_of
 
 # What may be written: just this text, some text that is not ours to say, or nothing. Of None nothing is looked at.
@@ -38,6 +38,7 @@ THREADS = told("the N of --threads is a decimal number from 1 to 64")
 MEMORY = told("the BYTES of --memory are a decimal number from 16777216 on, and under 2^64")
 ORIGINS = told("an ORIGIN is what a browser sends: SCHEME://HOST or SCHEME://HOST:PORT in small letters, with nothing after it")
 VERSION = "stompd 0.2.0\n"
+EMPTY = "messages 0 of 4096\nbytes 0 of 16777216\n"
 # Areas of 4,096 bytes.
 SMALLEST = 8_224
 
@@ -62,107 +63,11 @@ class Checks:
 
 
 def scripts(checks):
+    """What a script prints is compared by tests/scripts.py."""
     checks.run(["script"], 0, NOTHING, NOTHING)
-    checks.run(["script"], 0, NOTHING, NOTHING, b"\n\n0 \nflush\n")
-    connect, connected = b"0 CONNECT%0Aaccept-version:1.2%0A%0A%00\n", "0 CONNECTED%0Aversion:1.2%0Asession:0%0Aheart-beat:0,0%0A%0A%00\n"
-    checks.run(["script"], 0, connected, NOTHING, connect + b"flush\n" + connect)
-    checks.run(["script"], 1, connected, told("line 4 not understood"), connect + b"flush\n\nflash\nflush\n")
-    checks.run(["script"], 1, NOTHING, told("line 1 not understood"), b"0")
-    checks.run(["script"], 1, NOTHING, told("line 1 not understood"), b"64 x\n")
     checks.run(["script"], 1, NOTHING, told("line 1 not understood"), b"0 " + b"%0A" * 400_000 + b"\n")
-    send = b"0 SEND%0Adestination:/queue/q%0A%0A" + b"x" * 60_000 + b"%00\n"
-    checks.run(["script"], 1, connected, told("J4 journal full"), connect + b"flush\n" + 18 * send + b"flush\n")
     with open("/dev/full", "wb") as full:
-        checks.run(["script"], 1, NOTHING, told("input or output failed"), connect + b"flush\n", full)
-
-
-def text_of(lines):
-    """Lines, in which `~` stands for the end of a frame with no body."""
-    return "".join(f"{line}\n" for line in lines).replace("~", "%0A%0A%00")
-
-
-# Two messages are sent in a transaction after a flush, and wait.
-TRANSACTION = (
-    "0 CONNECT%0Aaccept-version:1.2~",
-    "flush",
-    "0 BEGIN%0Atransaction:t~",
-    "0 SEND%0Adestination:/queue/q%0Atransaction:t%0A%0Ax%00",
-    "0 SEND%0Adestination:/queue/q%0Atransaction:t%0A%0Ay%00",
-    "0 COMMIT%0Atransaction:t~",
-)
-CONNECTED = "0 CONNECTED%0Aversion:1.2%0Asession:0%0Aheart-beat:0,0~"
-# The disk stops after so many calls, and its unsynced bytes hold what they held before, or the byte: what is opened then.
-STOPS = (
-    ("crash 0", "open 1 0"),
-    ("crash 0 00", "open 1 0"),
-    ("crash 0 01", "open 1 0"),
-    ("crash 0 37", "open 1 0"),
-    ("crash 1", "open 1 0"),
-    ("crash 1 00", "open 1 0"),
-    ("crash 1 01", "open 1 0"),
-    ("crash 1 37", "open 1 0"),
-    ("crash 2", "open 1 0"),
-    ("crash 2 00", "open 1 0"),
-    ("crash 2 01", "open 2 2"),
-    ("crash 2 37", "open 1 0"),
-    ("crash 3", "open 1 0"),
-    ("crash 3 00", "open 1 0"),
-    ("crash 3 01", "open 2 2"),
-    ("crash 3 37", "open 1 0"),
-    ("crash 4", "open 2 2"),
-    ("crash 4 00", "open 2 2"),
-    ("crash 4 01", "open 2 2"),
-    ("crash 4 37", "open 2 2"),
-)
-
-DURABLE_SUBSCRIBER = (
-    "0 CONNECT%0Aaccept-version:1.2%0Aclient-id:c1~",
-    "0 SUBSCRIBE%0Aid:d%0Adestination:/topic/t%0Aack:client%0Aactivemq.subscriptionName:n~",
-    "flush",
-)
-# What a durable subscriber finds after an opening and after a crash: lines of one script, and what they print.
-DURABLE = (
-    (DURABLE_SUBSCRIBER, (CONNECTED,)),
-    (
-        (
-            "lost 0",
-            "1 CONNECT%0Aaccept-version:1.2~",
-            "1 SEND%0Adestination:/topic/t%0A%0Ax%00",
-            "1 SEND%0Adestination:/topic/t%0A%0Ay%00",
-            "1 SEND%0Adestination:/topic/t%0A%0Az%00",
-            "flush",
-        ),
-        ("1 CONNECTED%0Aversion:1.2%0Asession:3%0Aheart-beat:0,0~",),
-    ),
-    (("open",), ("open 7 3",)),
-    (
-        DURABLE_SUBSCRIBER,
-        (
-            "0 CONNECTED%0Aversion:1.2%0Asession:7%0Aheart-beat:0,0~",
-            "0 MESSAGE%0Asubscription:d%0Amessage-id:4.0%0Adestination:/topic/t%0Aack:0%0Acontent-length:1%0A%0Ax%00",
-            "0 MESSAGE%0Asubscription:d%0Amessage-id:5.0%0Adestination:/topic/t%0Aack:1%0Acontent-length:1%0A%0Ay%00",
-            "0 MESSAGE%0Asubscription:d%0Amessage-id:6.0%0Adestination:/topic/t%0Aack:2%0Acontent-length:1%0A%0Az%00",
-        ),
-    ),
-    (("0 ACK%0Aid:0~", "flush"), ()),
-    (("crash 0", "open"), ("open 10 2",)),
-    (
-        DURABLE_SUBSCRIBER,
-        (
-            "0 CONNECTED%0Aversion:1.2%0Asession:10%0Aheart-beat:0,0~",
-            "0 MESSAGE%0Asubscription:d%0Amessage-id:5.0%0Adestination:/topic/t%0Aack:3%0Acontent-length:1%0A%0Ay%00",
-            "0 MESSAGE%0Asubscription:d%0Amessage-id:6.0%0Adestination:/topic/t%0Aack:4%0Acontent-length:1%0A%0Az%00",
-        ),
-    ),
-)
-
-
-def crashes(checks):
-    for crash, opened in STOPS:
-        given = text_of((*TRANSACTION, crash, "open"))
-        checks.run(["script"], 0, text_of((CONNECTED, opened)), NOTHING, given.encode())
-    given, printed = ("".join(map(text_of, column)) for column in zip(*DURABLE))
-    checks.run(["script"], 0, printed, NOTHING, given.encode())
+        checks.run(["script"], 1, NOTHING, told("input or output failed"), b"0 CONNECT%0Aaccept-version:1.2%0A%0A%00\nflush\n", full)
 
 
 def word(length):
@@ -177,7 +82,9 @@ def formats(checks, folder):
     front = b"STOMPJ02" + struct.pack(">Q", 4_096) + bytes(16) + word(32) + bytes(33)
     checks.expect("the bytes of an empty journal", made == front + bytes(SMALLEST - len(front)), made[:80])
     checks.expect("only its owner may read a journal", os.stat(file).st_mode & 0o777 == 0o600, oct(os.stat(file).st_mode))
-    checks.run(["format", file, str(SMALLEST)], 1, NOTHING, unopened("FILE: it is there already"))
+    # After -- no word is an option, and a port or size may have leading zeros.
+    for again in ([file, str(SMALLEST)], ["--", file, str(SMALLEST)], [file, "--", str(SMALLEST)], [file, str(SMALLEST), "--"], [file, "18446744073709551615"]):
+        checks.run(["format", *again], 1, NOTHING, unopened("FILE: it is there already"))
     for few in (str(SMALLEST - 1), "31", "0"):
         checks.run(["format", other, few], 1, NOTHING, told("J8 disk too small"))
         checks.run(["format", file, few], 1, NOTHING, told("J8 disk too small"))
@@ -196,6 +103,11 @@ def formats(checks, folder):
     checks.run(["format", "--", after, str(SMALLEST)], 0, NOTHING, NOTHING)
     checks.expect("after -- a word is a file", pathlib.Path(after).read_bytes() == made)
     checks.expect("a byte over is there, and no area has it", pathlib.Path(odd).read_bytes() == made + b"\0")
+    for size in (100_000, 100_001):
+        path = folder / str(size)
+        checks.run(["format", str(path), str(size)], 0, NOTHING, NOTHING)
+        data = path.read_bytes()
+        checks.expect(f"{size} bytes have two areas of 49,984", len(data) == size and data[8:16] == struct.pack(">Q", 49_984), data[:16])
 
 
 def broken(folder):
@@ -227,8 +139,11 @@ def shows(checks, folder):
     before = (folder / "journal").read_bytes()
     checks.run(["show", str(folder / "journal")], 0, shown, NOTHING)
     checks.expect("show writes nothing into the file", (folder / "journal").read_bytes() == before)
-    checks.run(["held", str(folder / "journal")], 0, "messages 0 of 4096\nbytes 0 of 16777216\n", NOTHING)
+    checks.run(["held", str(folder / "journal")], 0, EMPTY, NOTHING)
     checks.expect("held writes nothing into the file", (folder / "journal").read_bytes() == before)
+    for further in (["--", str(folder / "journal")], [str(folder / "journal"), "--"]):
+        checks.run(["show", *further], 0, shown, NOTHING)
+    checks.run(["show", "--", "--no-such-file"], 1, NOTHING, MISSING)
     for command in ("show", "held"):
         with open("/dev/full", "wb") as full:
             checks.run([command, str(folder / "journal")], 1, NOTHING, told("input or output failed"), sink=full)
@@ -240,9 +155,10 @@ def shows(checks, folder):
 
 
 def old_journal(folder):
-    """A journal of the first version, which a server rewrites as one of the second."""
+    """A journal of the first version, which a server rewrites as one of the second. A client subscribes durably to a topic, and sends there and to a queue."""
     path = folder / "old"
-    path.write_bytes(journal(4_096, area([]), b""))
+    operations = (open_operation("c1"), subscribe_operation("d", "/topic/t", "client", "n"), send_operation("/topic/t", [], "x"), send_operation("/queue/q", [], "y"))
+    path.write_bytes(journal(4_096, area([b"".join(record(0, it) for it in operations)]), b""))
     return path
 
 
@@ -252,11 +168,15 @@ def serves(checks, folder):
         taken.listen()
         port = str(taken.getsockname()[1])
         before = old_journal(folder).read_bytes()
+        # Used are a snapshot of 32 bytes and a block of 109, each with its length before it and its gate after it.
+        checks.run(["show", str(folder / "old")], 0, "version 1\narea 0\nused 159\ncount 4\nheld 2\n", NOTHING)
         in_use = unopened("PORT: another program listens there")
         for name in ("missing", "journal", "old"):
             checks.run(["serve", str(folder / name), port], 1, NOTHING, in_use)
         checks.expect("a start that fails leaves an old journal as it was", (folder / "old").read_bytes() == before)
-    checks.run(["serve", str(folder / "missing"), port], 1, NOTHING, MISSING)
+    missing = str(folder / "missing")
+    for further in ([missing, port], [missing, f"0{port}"], [missing, "65535"], ["--", missing, port], [missing, "--", port], [missing, port, "--"]):
+        checks.run(["serve", *further], 1, NOTHING, MISSING)
     checks.run(["serve", str(folder), port], 1, NOTHING, unopened("FILE: it is a directory"))
     for path, data, text in broken(folder):
         checks.run(["serve", str(path), port], 1, NOTHING, text)
@@ -281,6 +201,9 @@ def serves(checks, folder):
         checks.expect("a connection that says nothing ends no server", serving.poll() is None)
         locked = unopened("FILE: another server has its lock")
         checks.run(["serve", str(folder / "journal"), str(free_port())], 1, NOTHING, locked)
+        # A reader of the journal alone asks for no lock.
+        checks.run(["held", str(folder / "journal")], 0, EMPTY, NOTHING)
+        checks.run(["show", str(folder / "journal")], 0, SOME, NOTHING)
     finally:
         serving.kill()
         serving.wait()
@@ -303,6 +226,15 @@ def words(checks, folder):
     none = ([], ["flash"], ["--flash"], ["script", "x"], ["show"], ["show", file, "x"], ["format", file], ["format", file, "1", "2"])
     for bad in (*none, ["serve", file], ["serve", file, "80", "x"], ["--help"], ["show", "--help"]):
         checks.run(bad, 2, NOTHING, SOME)
+    unknown = f"error: unrecognized subcommand 'relay'\n\nUsage: {pathlib.Path(checks.program).name} <COMMAND>\n\nFor more information, try '--help'.\n"
+    checks.run(["relay"], 2, NOTHING, unknown)
+    for bad in (["relay"], ["script", "more"], ["--help"], ["show"]):
+        with tempfile.TemporaryFile() as given:
+            given.write(b"flush\n")
+            given.seek(0)
+            subprocess.run([checks.program, *bad], stdin=given, stdout=subprocess.DEVNULL, stderr=subprocess.DEVNULL, timeout=60)
+            read = os.lseek(given.fileno(), 0, os.SEEK_CUR)
+        checks.expect(f"{bad} read nothing", read == 0, read)
     for bad in ([b"\xff"], ["script", b"\xff"], ["show", b"\xff"], ["format", b"\xff", str(SMALLEST)], ["serve", b"\xff", "80"]):
         checks.run(bad, 2, NOTHING, NOTHING)
 
@@ -312,7 +244,6 @@ def main():
     with tempfile.TemporaryDirectory() as name:
         folder = pathlib.Path(name)
         scripts(checks)
-        crashes(checks)
         formats(checks, folder)
         shows(checks, folder)
         serves(checks, folder)

@@ -1,18 +1,9 @@
+use crate::records::execute;
 use broker_core::Broker;
-use command_core::decode;
 use record_core::DecodeFault;
 use snapshot_core::{decode_state, encode_state};
 use std::alloc::{AllocError, Global};
 use std::test::Fail;
-
-fn execute(alloc: Global, broker: &mut Broker, record: &[u8]) -> Result<(), Fail> {
-    if broker.count() >= 1 << 62 {
-        return Err(Fail::from("too many commands"));
-    }
-    let (command, _) = decode(alloc, record)?;
-    let _outs = broker.step(alloc, command)?;
-    Ok(())
-}
 
 // The snapshot of a broker.
 fn snapshot(alloc: Global, broker: &Broker) -> Result<Vec<u8>, Fail> {
@@ -34,10 +25,10 @@ fn snapshot_of(
     last: &[u8],
 ) -> Result<Vec<u8>, Fail> {
     for record in records {
-        execute(alloc, broker, record)?;
+        let _outs = execute(alloc, broker, record)?;
     }
     for _ in 0..times {
-        execute(alloc, broker, last)?;
+        let _outs = execute(alloc, broker, last)?;
     }
     snapshot(alloc, broker)
 }

@@ -184,31 +184,6 @@ pub fn link_of_rounds(
     }
 }
 
-/// A link whose messages are so many bytes of these texts, and the rest of them.
-pub fn link_of_cut(alloc: Global, texts: &[&[u8]], at: usize) -> Option<MemLink> {
-    let stream = joined(alloc, texts).ok()?;
-    let at = at.min(stream.len());
-    let (front, rest) = stream.split_at(at);
-    link_of(alloc, &[front, rest])
-}
-
-fn joined(alloc: Global, texts: &[&[u8]]) -> Result<Vec<u8>, AllocError> {
-    let mut stream = Vec::new(alloc);
-    for text in texts {
-        stream.extend_from_slice(text)?;
-    }
-    Ok(stream)
-}
-
-/// How many bytes the texts have.
-pub fn length_of(texts: &[&[u8]]) -> usize {
-    let mut length = 0_usize;
-    for text in texts {
-        length = length.saturating_add(text.len());
-    }
-    length
-}
-
 fn push_rounds(
     alloc: Global,
     messages: &mut Vec<Vec<u8>>,

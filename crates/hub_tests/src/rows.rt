@@ -4,8 +4,7 @@ ghost use Rattle.std.specs.Prelude.{◌≡◌, IfSome};
 ghost use Rattle.hub_tests.specs.Parties.{AreTogether};
 
 use crate::hubs::{
-    AREA, HubFlusher, HubRing, HubSeat, Party, SMALL_AREA, first_wrong, link_of_cut,
-    link_of_rounds, new_party,
+    AREA, HubFlusher, HubRing, HubSeat, Party, SMALL_AREA, first_wrong, link_of_rounds, new_party,
 };
 use crate::links::{NO_SHORTAGE, Scarce, ScriptedLink, Shortage};
 use crate::paces::{Awaited, Noting};
@@ -28,7 +27,7 @@ pub const TURNS: u64 = 5_000;
 /// how often memory is refused. Then what is to come of it: how the worker ends, if it does, with which code it closes, what it sends (or
 /// whether its outbox overflows: then the journal is roomy, and the messages are counted), how many commands were appended
 /// where the journal has room for them, and what the pace hears (commands, a full window, a flusher that stopped; and that
-/// memory was refused). With a cut its texts are two messages: so many bytes of them, and the rest.
+/// memory was refused).
 #[derive(Clone, Copy)]
 pub struct Row {
     pub texts: &'static [&'static [u8]],
@@ -47,7 +46,6 @@ pub struct Row {
     pub heard: [bool; 3],
     pub awaits: Option<Awaited>,
     pub shortage: Shortage,
-    pub cut: Option<usize>,
 }
 
 /// A client that says nothing.
@@ -68,18 +66,10 @@ pub const SILENT: Row = Row {
     heard: [false, false, false],
     awaits: None,
     shortage: NO_SHORTAGE,
-    cut: None,
 };
 
-fn link_of(alloc: Global, row: &Row) -> Option<MemLink> {
-    match row.cut {
-        Some(at) => link_of_cut(alloc, row.texts, at),
-        None => link_of_rounds(alloc, row.texts, row.round, row.rounds),
-    }
-}
-
 fn scripted(alloc: Global, row: &Row) -> Option<ScriptedLink> {
-    match link_of(alloc, row) {
+    match link_of_rounds(alloc, row.texts, row.round, row.rounds) {
         Some(link) => Some(ScriptedLink {
             link,
             closes: row.closes,

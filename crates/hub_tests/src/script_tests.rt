@@ -1,4 +1,3 @@
-use crate::hubs::length_of;
 use crate::links::Shortage;
 use crate::paces::{Awaited, Noting};
 use crate::rows::{Row, SILENT, first_wrong_row};
@@ -8,11 +7,7 @@ use crate::texts::{
     THREE_MESSAGES, TRANSACTION, TWENTY_RECEIPTED, TWENTY_SENDS,
 };
 use connection_core::Ended;
-use std::alloc::Global;
-use std::sync::Wait;
 use std::test::Fail;
-use std::thread::Threads;
-use std::time::Clock;
 
 const ROWS: [Row; 11] = [
     // A subscriber that acknowledges a message twice.
@@ -199,43 +194,5 @@ fn all_that_may_leave_is_sent_in_one_turn(rt: HostRuntime) -> Result<(), Fail> {
 fn what_memory_was_refused_for_is_done_in_a_later_turn(rt: HostRuntime) -> Result<(), Fail> {
     let pace = Noting::new(rt.clone()?);
     assert_eq!(rt; first_wrong_row(&rt, rt.alloc(), &SCARCE, &pace), None);
-    Ok(())
-}
-
-// The rows that are cut, and every how many bytes: a subscriber that acknowledges twice, more commands than the window lets in,
-// a DISCONNECT, and a frame that a new session may not send.
-const CUT: [(usize, usize); 4] = [(0, 1), (1, 19), (3, 1), (4, 1)];
-
-// The first byte at which the row, cut there, comes out otherwise.
-fn first_wrong_cut<R: Threads + Wait + Clock + Sync>(
-    rt: &R,
-    alloc: Global,
-    row: Row,
-    step: usize,
-    pace: &Noting<R>,
-) -> Option<usize> {
-    let mut at = 0;
-    for _ in 0..length_of(row.texts) {
-        if at < length_of(row.texts) {
-            let cut = Row {
-                cut: Some(at),
-                ..row
-            };
-            if first_wrong_row(rt, alloc, &[cut], pace).is_some() {
-                return Some(at);
-            }
-            at = at.saturating_add(step);
-        }
-    }
-    None
-}
-
-#[test]
-fn each_connection_ends_so_however_its_bytes_are_cut(rt: HostRuntime) -> Result<(), Fail> {
-    let pace = Noting::new(rt.clone()?);
-    for (place, step) in CUT {
-        let wrong = first_wrong_cut(&rt, rt.alloc(), ROWS[place], step, &pace);
-        assert_eq!(rt; wrong, None, "row {place}");
-    }
     Ok(())
 }

@@ -1,186 +1,51 @@
-//! Frames, read from streams and written.
+//! Frames that are read in pieces and written. What a client's streams come to is tried by `tests/scripts.py`.
 
-use crate::telling::{frame as tell_frame, word};
-use command_core::{Fault, fault_text};
 use frame_core::{
-    Bytes, Fed, FeedFault, Frame, FrameReader, Headers, Text, Verb, first, read_pieces, writable,
-    write_frame,
+    Bytes, Fed, FeedFault, Frame, FrameFault, FrameReader, Headers, Text, Verb, first, read_pieces,
+    writable, write_frame,
 };
 use std::alloc::{AllocError, Global};
+use std::fs;
 use std::test::Fail;
 
-// Streams, the frames that are read of them, and the fault after these.
-pub const STREAMS: [(&[u8], &str); 39] = [
-    (b"", ""),
-    // A counted body may have a NUL, and another length ends without one.
-    (
-        b"SEND\ndestination:/queue/a\ncontent-length:3\n\na\0b\0",
-        "SEND destination=/queue/a content-length=3 'a\0b' ",
-    ),
-    (
-        b"SEND\ncontent-length:0000000001\n\na\0",
-        "SEND content-length=0000000001 'a' ",
-    ),
-    // Headers are read without their escapes, but those of CONNECT stand as they are. Blanks are kept.
-    (b"SEND\nk:a\\cb\\\\n\n\n\0", "SEND k=a:b\\n '' "),
-    (
-        b"CONNECT\nclient-id:a\\cb\n\n\0",
-        "CONNECT client-id=a\\cb '' ",
-    ),
-    (b"SEND\n k : v:w \n\n\0", "SEND  k = v:w  '' "),
-    // Names may have escapes, and texts all of UTF-8.
-    (b"SEND\na\\cb:\xc3\xa9\n\n\0", "SEND a:b=\u{e9} '' "),
-    // Ends of lines, of either form, and between frames.
-    (
-        b"\r\nSEND\ndestination:/queue/a\n\nhi\0\n\r\nSEND\r\n\r\n\0\n",
-        "SEND destination=/queue/a 'hi' SEND '' ",
-    ),
-    // Of a repeated header the first counts, and all are kept.
-    (
-        b"SEND\ncontent-length:3\nk:1\nk:2\ncontent-length:1\n\na\0b\0",
-        "SEND content-length=3 k=1 k=2 content-length=1 'a\0b' ",
-    ),
-    (
-        b"ACK\nid:0\ncontent-length:0\n\n\0",
-        "ACK id=0 content-length=0 '' ",
-    ),
-    // A lone CR, and a NUL, between frames and in a head.
-    (b"SEND\n\n\0\rS", "SEND '' E1 malformed frame "),
-    (b"\r\0", "E1 malformed frame "),
-    (b"\0", "E1 malformed frame "),
-    (b"SEND\nk:v\0", "E1 malformed frame "),
-    (b"SEND\rk", "E1 malformed frame "),
-    (b"SEND\n\r\r", "E1 malformed frame "),
-    // Lines are refused at their end: the command's line, and a header's.
-    (b"send\n", "E4 unknown command "),
-    (b"SE\xffND\n", "E20 bad header value "),
-    (b"SEND\nkey\n", "E1 malformed frame "),
-    (b"SEND\n:value\n", "E1 malformed frame "),
-    (b"SEND\nx:a\\tb\n", "E3 undefined escape "),
-    (b"SEND\nx\\:a\n", "E3 undefined escape "),
-    (b"SEND\n\xff:a\\t\n", "E3 undefined escape "),
-    (b"SEND\nx:\xff\n", "E20 bad header value "),
-    // A length has one to ten digits; at the empty line the order is E20, E2, E19.
-    (
-        b"SEND\ncontent-length:00000000003\n\n",
-        "E20 bad header value ",
-    ),
-    (b"SEND\ncontent-length:\n\n", "E20 bad header value "),
-    (b"SEND\ncontent-length:+3\n\n", "E20 bad header value "),
-    (b"SEND\ncontent-length: 3\n\n", "E20 bad header value "),
-    (
-        b"ACK\ncontent-length:99999999999\n\n",
-        "E20 bad header value ",
-    ),
-    (b"SEND\ncontent-length:65537\n\n", "E2 frame too large "),
-    (b"ACK\ncontent-length:65537\n\n", "E2 frame too large "),
-    (b"ACK\ncontent-length:5\n\n", "E19 body not allowed "),
-    // What may stand after a head and a body.
-    (b"ACK\nid:0\n\nx", "E19 body not allowed "),
-    (b"ACK\nid:0\n\n\n", "E19 body not allowed "),
-    (b"ACK\ncontent-length:0\n\n\n", "E1 malformed frame "),
-    (b"SEND\ncontent-length:1\n\nab", "E1 malformed frame "),
-    // An unfinished frame is none yet.
-    (b"SEND", ""),
-    (b"SEND\n\nhi", ""),
-    (b"SEND\ncontent-length:3\n\nab\0", ""),
+// A stream in its pieces: two frames, the second of which has a header with an escape and a body with a NUL, and a fault.
+const PIECES: [&[u8]; 4] = [
+    b"\r\nACK\nid:0\n\n",
+    b"\0SEND\nk:a\\cb\ncontent-len",
+    b"gth:3\n\na\0b",
+    b"\0\nBEGIN\n\nx",
 ];
 
-// The stream in pieces of so many bytes.
-fn pieces_of(alloc: Global, stream: &[u8], size: usize) -> Result<Vec<Vec<u8>>, AllocError> {
+fn pieces(alloc: Global) -> Result<Vec<Vec<u8>>, AllocError> {
     let mut pieces = Vec::new(alloc);
-    if size > 0 {
-        for piece in stream.chunks(size) {
-            pieces.push(Vec::from_slice(alloc, piece)?)?;
-        }
+    for piece in &PIECES {
+        pieces.push(Vec::from_slice(alloc, piece)?)?;
     }
     Ok(pieces)
 }
 
-/// The frames, and the fault after them.
-pub fn tell_fed(told: &mut String, fed: &Fed) -> Result<(), AllocError> {
-    for frame in fed.frames.as_slice() {
-        tell_frame(told, frame)?;
-    }
-    match fed.fault {
-        Some(fault) => word(told, fault_text(Fault::from(fault))),
-        None => Ok(()),
+// Whether these are the two frames and the fault.
+fn are_right(fed: &Fed) -> bool {
+    let fault = fed.fault == Some(FrameFault::BodyNotAllowed);
+    match fed.frames.as_slice() {
+        [ack, sent] => {
+            let is_sent = first(sent, "k") == Some("a:b")
+                && sent.body.as_slice() == b"a\0b".as_slice();
+            fault && first(ack, "id") == Some("0") && is_sent
+        }
+        _ => false,
     }
 }
 
-// Whether the stream is read so, in pieces of so many bytes.
-fn is_read(alloc: Global, stream: &[u8], size: usize, expected: &str) -> Result<bool, Fail> {
-    let pieces = pieces_of(alloc, stream, size)?;
-    let fed = read_pieces(alloc, pieces.as_slice());
+#[test]
+fn a_stream_in_pieces_gives_its_frames_and_its_fault(rt: HostRuntime) -> Result<(), Fail> {
+    let pieces = pieces(rt.alloc())?;
+    let fed = read_pieces(rt.alloc(), pieces.as_slice());
     drop(pieces);
     let fed = fed?;
-    let mut told = String::new(alloc);
-    let is_whole = tell_fed(&mut told, &fed);
-    let is_right = told.as_str() == expected;
-    drop(told);
+    let is_right = are_right(&fed);
     drop(fed);
-    is_whole?;
-    Ok(is_right)
-}
-
-#[test]
-fn streams_are_read_however_they_are_cut(rt: HostRuntime) -> Result<(), Fail> {
-    for (stream, expected) in &STREAMS {
-        for size in 1..stream.len().max(1) + 1 {
-            assert!(rt; is_read(rt.alloc(), stream, size, expected)?);
-        }
-    }
-    Ok(())
-}
-
-// So many pieces between a front and a back, and whether a frame comes of them; else they are too large.
-const LIMITS: [(&[u8], &[u8], usize, &[u8], bool); 7] = [
-    (b"SEND\n\n", b"x", 65_536, b"\0", true),
-    (b"SEND\n\n", b"x", 65_537, b"", false),
-    (b"SEND\ncontent-length:65536\n\n", b"x", 65_536, b"\0", true),
-    (b"SEND\na:", b"x", 8183, b"\n\n\0", true),
-    (b"SEND\na:", b"x", 8184, b"\n\n", false),
-    (b"SEND\n", b"k:v\n", 64, b"\n\0", true),
-    (b"SEND\n", b"k:v\n", 65, b"", false),
-];
-
-pub fn filled(
-    alloc: Global,
-    front: &[u8],
-    piece: &[u8],
-    count: usize,
-    back: &[u8],
-) -> Result<Vec<u8>, AllocError> {
-    let mut bytes = Vec::from_slice(alloc, front)?;
-    for _ in 0..count {
-        bytes.extend_from_slice(piece)?;
-    }
-    bytes.extend_from_slice(back)?;
-    Ok(bytes)
-}
-
-// Whether exactly one frame comes of the stream, or none and the fault.
-fn is_one(alloc: Global, stream: &[u8], is_frame: bool) -> Result<bool, FeedFault> {
-    let mut reader = FrameReader::new(alloc);
-    let fed = reader.feed(alloc, stream);
-    drop(reader);
-    let fed = fed?;
-    let is_right = match fed.fault {
-        None => is_frame && fed.frames.len() == 1,
-        Some(fault) => !is_frame && fed.frames.is_empty() && fault.code() == 2,
-    };
-    drop(fed);
-    Ok(is_right)
-}
-
-#[test]
-fn frames_have_their_limits(rt: HostRuntime) -> Result<(), Fail> {
-    for (front, piece, count, back, is_frame) in &LIMITS {
-        let stream = filled(rt.alloc(), front, piece, *count, back)?;
-        let is_right = is_one(rt.alloc(), stream.as_slice(), *is_frame);
-        drop(stream);
-        assert!(rt; is_right?);
-    }
+    assert!(rt; is_right);
     Ok(())
 }
 
@@ -272,5 +137,52 @@ fn frames_are_written_or_can_not_be(rt: HostRuntime) -> Result<(), Fail> {
     for (verb, name, value, body, expected) in &WRITTEN {
         assert!(rt; is_written_with(rt.alloc(), *verb, (*name, *value), body, expected)?);
     }
+    Ok(())
+}
+
+// The reader takes so many thousand ends of lines. Answers whether it gave nothing.
+fn read_ends(alloc: Global, reader: &mut FrameReader, thousands: u32) -> Result<bool, FeedFault> {
+    for _ in 0..thousands {
+        let fed = reader.feed(alloc, &[b'\n'; 1_000])?;
+        let is_nothing = fed.frames.is_empty() && fed.fault.is_none();
+        drop(fed);
+        if !is_nothing {
+            return Ok(false);
+        }
+    }
+    Ok(true)
+}
+
+// The most address space, in kB, that a process has had, as its status tells it.
+fn peak_in(status: &str) -> Option<u64> {
+    for line in status.lines() {
+        if let Some(rest) = line.strip_prefix("VmPeak:") {
+            return rest.trim_end_matches("kB").trim().parse::<u64>().ok();
+        }
+    }
+    None
+}
+
+// If a byte of each were kept, four million would be.
+#[test]
+fn four_million_ends_of_lines_take_no_memory(rt: HostRuntime) -> Result<(), Fail> {
+    let mut reader = FrameReader::new(rt.alloc());
+    let first = read_ends(rt.alloc(), &mut reader, 1);
+    let status = fs::read_to_string(&rt, "/proc/self/status")?;
+    let before = peak_in(status.as_str());
+    drop(status);
+    let rest = read_ends(rt.alloc(), &mut reader, 4_000);
+    drop(reader);
+    let status = fs::read_to_string(&rt, "/proc/self/status")?;
+    let after = peak_in(status.as_str());
+    drop(status);
+    assert!(rt; first? && rest?);
+    let (Some(before), Some(after)) = (before, after) else {
+        panic!(rt; "the process has no status")
+    };
+    assert!(rt;
+        after.saturating_sub(before) < 2_000,
+        "{before} kB and {after} kB"
+    );
     Ok(())
 }

@@ -1,10 +1,10 @@
 //! Records of commands.
 
-use crate::command_tests::{greeting, r1};
-use crate::frame_tests::filled;
 use command_core::{Command, Op, decode, encode};
+use frame_core::{Bytes, Headers, Text};
 use record_core::{
-    DecodeFault, lists_are_read_as_they_are_spelled, parts_are_read_as_they_are_spelled,
+    DecodeFault, Dest, DestFault, HeaderText, Sending, lists_are_read_as_they_are_spelled,
+    parts_are_read_as_they_are_spelled,
 };
 use std::alloc::{AllocError, Global};
 use std::test::Fail;
@@ -213,6 +213,21 @@ fn nothing_else_is_read(rt: HostRuntime) -> Result<(), Fail> {
     Ok(())
 }
 
+fn filled(
+    alloc: Global,
+    front: &[u8],
+    piece: &[u8],
+    count: usize,
+    back: &[u8],
+) -> Result<Vec<u8>, AllocError> {
+    let mut bytes = Vec::from_slice(alloc, front)?;
+    for _ in 0..count {
+        bytes.extend_from_slice(piece)?;
+    }
+    bytes.extend_from_slice(back)?;
+    Ok(bytes)
+}
+
 // So many pieces between a front and a back, and whether they are a record.
 const LIMITS: [(&[u8], &[u8], usize, &[u8], bool); 8] = [
     (
@@ -280,6 +295,19 @@ fn records_have_their_limits(rt: HostRuntime) -> Result<(), Fail> {
         assert!(rt; record_at(rt.alloc(), bytes.as_slice())?.is_some() == *is_record);
     }
     Ok(())
+}
+
+// `r1` as the text of a header.
+fn r1(alloc: Global) -> Result<HeaderText, AllocError> {
+    let text = String::from_str(alloc, "r1")?;
+    Ok(HeaderText::new(Text::new(text)))
+}
+
+// `hi` to `/queue/a`.
+fn greeting(alloc: Global) -> Result<Sending, DestFault> {
+    let destination = Dest::read(alloc, "/queue/a")?;
+    let body = Vec::from_slice(alloc, b"hi")?;
+    Ok(Sending::new(destination, Headers::new(Vec::new(alloc)), Bytes::new(body)))
 }
 
 // That command.

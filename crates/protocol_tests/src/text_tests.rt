@@ -4,9 +4,9 @@ use command_core::{Fault, fault_text};
 use escape_core::{EscapeFault, escape, is_defined, unescape};
 use frame_core::{FeedFault, FrameFault};
 use line_core::SettleFault;
-use record_core::{DecodeFault, DestFault};
+use record_core::{DecodeFault, DestFault, is_header_text};
 use session_core::SessionFault;
-use std::alloc::Global;
+use std::alloc::{AllocError, Global};
 use std::test::Fail;
 use tx_core::TxFault;
 
@@ -123,5 +123,25 @@ fn other_refusals_have_their_texts(rt: HostRuntime) -> Result<(), Fail> {
          bytes that spell nothing, bad destination, unknown delivery, transaction already begun, \
          transaction not begun, transaction too large, too many transactions";
     assert!(rt; shown.as_str() == texts);
+    Ok(())
+}
+
+fn letters(alloc: Global, count: u32) -> Result<String, AllocError> {
+    let mut text = String::new(alloc);
+    for _ in 0..count {
+        text.push('q')?;
+    }
+    Ok(text)
+}
+
+#[test]
+fn the_text_of_a_header_has_no_nul_and_a_limit(rt: HostRuntime) -> Result<(), Fail> {
+    assert!(rt; is_header_text("") && is_header_text("a:b") && !is_header_text("a\0b"));
+    for (count, is_text) in [(8_192, true), (8_193, false)] {
+        let text = letters(rt.alloc(), count)?;
+        let is_right = is_header_text(text.as_str()) == is_text;
+        drop(text);
+        assert!(rt; is_right);
+    }
     Ok(())
 }

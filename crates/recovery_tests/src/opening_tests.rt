@@ -1,11 +1,7 @@
-use crate::journals::{
-    OPEN, SEND, append, batch_of, formatted, journal_of, opens_as, tells, with_batches,
-};
+use crate::journals::{OPEN, SEND, formatted, journal_of, opens_as, with_batches};
 use area_core::{AreaFault, ReadFault, an_image_has_one_reading, format};
 use disk_core::{Call, MemDisk};
-use recover_core::{
-    OpenFault, Store, an_image_stands_for_one_state, open, restarts_fit_large_areas,
-};
+use recover_core::{OpenFault, an_image_stands_for_one_state, open, restarts_fit_large_areas};
 use std::alloc::{AllocError, Global};
 use std::process::Abort;
 use std::test::Fail;
@@ -110,68 +106,6 @@ fn sending(alloc: Global, body: u32) -> Result<Vec<u8>, Fail> {
         record.push(b'x')?;
     }
     Ok(record)
-}
-
-// Whether the store takes the record. If it does, it has no room for it a second time; if not, it is broken.
-fn takes(
-    rt: &impl Abort,
-    alloc: Global,
-    store: &mut Store<MemDisk>,
-    record: &[u8],
-) -> Result<bool, Fail> {
-    let batch = batch_of(alloc, &[record])?;
-    let first = append(alloc, store, batch.as_slice());
-    let second = append(alloc, store, batch.as_slice());
-    drop(batch);
-    match first {
-        Ok(()) => {
-            assert!(rt; matches!(second, Err(AreaFault::Full)));
-            Ok(true)
-        }
-        Err(AreaFault::Full) => {
-            assert!(rt; matches!(second, Err(AreaFault::Broken)));
-            Ok(false)
-        }
-        Err(fault) => Err(Fail::from(fault)),
-    }
-}
-
-// Whether a new journal takes a batch with a body of `body` bytes, and the disk that this leaves.
-fn offer(rt: &impl Abort, alloc: Global, body: u32) -> Result<(bool, MemDisk), Fail> {
-    let record = sending(alloc, body)?;
-    let offered = offer_record(rt, alloc, record.as_slice());
-    drop(record);
-    offered
-}
-
-fn offer_record(rt: &impl Abort, alloc: Global, record: &[u8]) -> Result<(bool, MemDisk), Fail> {
-    let journal = formatted(alloc)?;
-    match open(alloc, journal) {
-        Ok(mut store) => {
-            let taken = takes(rt, alloc, &mut store, record);
-            let disk = store.into_disk();
-            match taken {
-                Ok(is_taken) => Ok((is_taken, disk)),
-                Err(fail) => {
-                    drop(disk);
-                    Err(fail)
-                }
-            }
-        }
-        Err((_, fault)) => Err(Fail::from(fault)),
-    }
-}
-
-// A block of 4,046 bytes of records fills a new area. The SEND counts, but does nothing more, since its session is not open.
-#[test]
-fn a_batch_that_does_not_fit_leaves_the_state_before(rt: HostRuntime) -> Result<(), Fail> {
-    for (body, fits, wanted) in [(4_018, true, "1 0"), (4_019, false, "0 0")] {
-        let (is_taken, disk) = offer(&rt, rt.alloc(), body)?;
-        let is_told = tells(rt.alloc(), disk, wanted)?;
-        assert!(rt; is_taken == fits, "{body} bytes");
-        assert!(rt; is_told, "{body} bytes");
-    }
-    Ok(())
 }
 
 // An empty journal with areas of `area_bytes` bytes.

@@ -101,56 +101,9 @@ pub(crate) fn stopped(
     disk
 }
 
-// The same for a journal that is opened for it.
-fn stopped_batch(
-    alloc: Global,
-    journal: MemDisk,
-    batch: &[Entry<()>],
-    passed: u64,
-    fill: Option<u8>,
-) -> Result<MemDisk, Fail> {
-    match open(alloc, journal) {
-        Ok(store) => Ok(stopped(alloc, store, batch, passed, fill)),
-        Err((_, fault)) => Err(Fail::from(fault)),
-    }
-}
-
 // Whether a batch is in if a stop comes after `passed` calls.
 pub(crate) fn is_in(passed: u64, fill: Option<u8>) -> bool {
     passed >= 4 || passed >= 2 && fill == Some(1)
-}
-
-// The session of command 2 sends to `/queue/q`.
-const SEND_OF_2: &[u8] = b"\0\0\0\0\0\0\0\x02\0\x02\0\0\0\x08/queue/q\0\0\0\0\0\x01x";
-
-// Whether a journal has all of a batch after such a stop, or none, as it should.
-fn stop_batch(alloc: Global, passed: u64, fill: Option<u8>) -> Result<bool, Fail> {
-    let journal = journal_of(alloc, &[&[OPEN, SEND]])?;
-    let batch = match batch_of(alloc, &[OPEN, SEND_OF_2, SEND_OF_2]) {
-        Ok(batch) => batch,
-        Err(fail) => {
-            drop(journal);
-            return Err(fail);
-        }
-    };
-    let stopped = stopped_batch(alloc, journal, batch.as_slice(), passed, fill);
-    drop(batch);
-    tells(
-        alloc,
-        stopped?,
-        if is_in(passed, fill) { "5 3" } else { "2 1" },
-    )
-}
-
-#[test]
-fn a_stop_at_each_call_of_a_batch_leaves_all_of_it_or_none(rt: HostRuntime) -> Result<(), Fail> {
-    for turn in 0..20_u64 {
-        let passed = turn / 4;
-        info!(rt; "a batch: the disk stops after {passed} calls");
-        let is_told = stop_batch(rt.alloc(), passed, FILLS[(turn % 4) as usize])?;
-        assert!(rt; is_told, "{passed} calls");
-    }
-    Ok(())
 }
 
 fn fail_and_stay(
@@ -224,21 +177,5 @@ fn a_store_over_a_file_is_opened_again(rt: HostRuntime) -> Result<(), Fail> {
     let seen = seen?;
     assert_eq!(rt; (seen.area, seen.count, seen.held.messages), (1, 2, 1));
     fs::remove_file(&rt, path)?;
-    Ok(())
-}
-
-const SENDS: [&[u8]; 27] = [SEND; 27];
-
-// A message takes two bytes more in a snapshot than in its record. So what fitted as blocks may not fit once it is restarted.
-#[test]
-fn a_snapshot_that_does_not_fit_is_told(rt: HostRuntime) -> Result<(), Fail> {
-    let sends: &[&[u8]] = &SENDS[..26];
-    let journal = journal_of(rt.alloc(), &[&[OPEN], sends, sends, sends, sends, sends])?;
-    let fits = tells(rt.alloc(), journal, "131 130")?;
-    assert!(rt; fits);
-    let sends: &[&[u8]] = SENDS.as_slice();
-    let journal = journal_of(rt.alloc(), &[&[OPEN], sends, sends, sends, sends, sends])?;
-    let does_not = tells(rt.alloc(), journal, "J4 journal full")?;
-    assert!(rt; does_not);
     Ok(())
 }

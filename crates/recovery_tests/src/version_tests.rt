@@ -1,5 +1,4 @@
-use crate::journals::{FILLS, OPEN, SEND, SIZE, SUBSCRIBE, tells};
-use crate::stop_tests::stopped_opening;
+use crate::journals::{OPEN, SEND, SIZE, SUBSCRIBE, tells};
 use disk_core::{Disk, MemDisk};
 use recover_core::{OpenFault, open, read};
 use std::alloc::Global;
@@ -141,29 +140,5 @@ fn a_journal_of_the_second_version_keeps_what_was_refused(rt: HostRuntime) -> Re
     drop(disk);
     assert_eq!(rt; before, [2, 0, 137, 4, 1, 12]);
     assert_eq!(rt; after, [2, 1, 94, 4, 1, 12]);
-    Ok(())
-}
-
-// Opens a journal of the first version while `passed` calls pass, and then again. It answers whether it was opened the first time.
-fn stop_opening(
-    rt: &impl Abort,
-    alloc: Global,
-    passed: u64,
-    fill: Option<u8>,
-) -> Result<bool, Fail> {
-    let old = journal(rt, alloc, b"01", 0)?;
-    let (disk, is_opened) = stopped_opening(alloc, old, passed, fill)?;
-    let is_told = tells(alloc, disk, "4 0")?;
-    assert!(rt; is_told, "{passed} calls");
-    Ok(is_opened)
-}
-
-#[test]
-fn a_stop_at_each_call_leaves_the_state_of_the_old_rule(rt: HostRuntime) -> Result<(), Fail> {
-    for turn in 0..96_u64 {
-        let (passed, fill) = (turn / 4, FILLS[(turn % 4) as usize]);
-        let is_opened = stop_opening(&rt, rt.alloc(), passed, fill)?;
-        assert!(rt; is_opened || passed < 20, "{passed} calls are not enough");
-    }
     Ok(())
 }

@@ -1,16 +1,8 @@
-//! Tests of the program by its words and streams: scripts, journal files, and bad command lines. They are a crate of their
-//! own, since a crate that has tests is proved twice.
+//! Tests of the program over streams that fail, disks that hold something, and refused memory. What it prints of scripts and says of words is tried by
+//! `tests/scripts.py` and `tests/program/statuses.py`.
 
 #![tactic(auto)]
 
-#[cfg(test)]
-mod crash_tests;
-#[cfg(test)]
-mod delivery_tests;
-#[cfg(test)]
-mod durable_tests;
-#[cfg(test)]
-mod file_tests;
 #[cfg(test)]
 mod refusal_tests;
 #[cfg(test)]
@@ -18,4 +10,4 @@ mod start_tests;
 #[cfg(test)]
 mod stream_tests;
 #[cfg(test)]
-mod words_tests;
+mod texts;

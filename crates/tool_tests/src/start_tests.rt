@@ -2,7 +2,7 @@
 
 ghost use Rattle.std.specs.Prelude.{◌≤◌, length};
 
-use crate::words_tests::{CONNECT, Parts, compare, text_of_parts};
+use crate::texts::{CONNECT, Parts, compare, text_of_parts};
 use area_core::ReadFault;
 use disk_core::{Disk, MemDisk};
 use engine_core::{ScriptFault, run_script};
@@ -16,7 +16,7 @@ const DISK_BYTES: u64 = 8_224;
 
 // The header names area 0 of two with 4,096 bytes each. The snapshot is the empty state; a block of 109 bytes stands after it. In
 // it, session 0 opens with a client-id, subscribes durably to a topic, and sends to that and to a queue.
-pub const HELD: &[u8] = b"STOMPJ01\0\0\0\0\0\0\x10\0\0\0\0\0\0\0\0\0\0\0\0\0\0\0\0\0\
+const HELD: &[u8] = b"STOMPJ01\0\0\0\0\0\0\x10\0\0\0\0\0\0\0\0\0\0\0\0\0\0\0\0\0\
 \0\0\0\0\0\0\0\x20\0\0\0\0\0\0\0\0\0\0\0\0\0\0\0\0\0\0\0\0\0\0\0\0\0\0\0\0\0\0\0\0\
 \x01\0\0\0\0\0\0\0\x6d\
 \0\0\0\0\0\0\0\0\0\x01\x01\0\0\0\x02c1\

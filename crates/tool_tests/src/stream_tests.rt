@@ -1,15 +1,15 @@
 //! Streams that fail, that give or take a byte at a time, and that are interrupted.
 
-use crate::words_tests::{CONNECT, SEND_WITH_RECEIPT, compare, text_of_parts};
+use crate::texts::{CONNECT, SEND_WITH_RECEIPT, compare, text_of_parts};
 use command_line::tool;
 use std::alloc::Global;
 use std::fs::File;
-use std::io;
 use std::io::{ErrorKind, Read, Write};
 use std::process::Abort;
 use std::rt::Files;
 use std::test::Fail;
 use std::time::Clock;
+use std::{fs, io};
 
 /// A stream that cannot be read or written.
 #[derive(Drop)]
@@ -206,5 +206,53 @@ fn a_write_that_fails_is_not_tried_again(rt: HostRuntime) -> Result<(), Fail> {
     drop(told);
     assert_eq!(rt; writer.writes, 1);
     assert_eq!(rt; ended, 1);
+    Ok(())
+}
+
+const SERVED: &str = "stompd_served_file";
+
+// Runs the program on words. The status, and what it prints and tells, are these then.
+fn expect_of(
+    rt: &(impl Abort + Files<File = File> + Clock),
+    alloc: Global,
+    words: &[&str],
+    wanted: (u8, &str, &str),
+) -> Result<(), Fail> {
+    let mut written = Vec::new(alloc);
+    let mut told = Vec::new(alloc);
+    let mut progress = Vec::new(alloc);
+    let mut reader = b"".as_slice();
+    let ended = tool(
+        rt,
+        alloc,
+        words,
+        &mut reader,
+        &mut written,
+        &mut told,
+        &mut progress,
+    );
+    drop(progress);
+    let same = compare(
+        rt,
+        ended.status,
+        written.as_slice(),
+        told.as_slice(),
+        wanted,
+    );
+    drop(told);
+    drop(written);
+    same
+}
+
+// Only `main` starts the threads of a server.
+#[test]
+fn words_alone_start_no_server(rt: HostRuntime) -> Result<(), Fail> {
+    let _ = fs::remove_file(&rt, SERVED);
+    let format = ["stompd", "format", SERVED, "8224"];
+    expect_of(&rt, rt.alloc(), &format, (0, "", ""))?;
+    let serve = ["stompd", "serve", SERVED, "080"];
+    let told = "stompd: cannot start a thread\n";
+    expect_of(&rt, rt.alloc(), &serve, (1, "", told))?;
+    fs::remove_file(&rt, SERVED)?;
     Ok(())
 }
