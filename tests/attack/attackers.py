@@ -93,16 +93,16 @@ STALLED = [
 ]
 FLOODS = [
     Kind("send pings, and read the pongs", in_session, None, 500 * message_bytes(PING, b"x" * 125), reads=True),
-    Kind("send pings, and read nothing", in_session, 10, 500 * message_bytes(PING, b"x" * 125), from_last=True),
+    Kind("send pings, and read nothing", in_session, 60, 500 * message_bytes(PING, b"x" * 125), from_last=True),
     Kind("send empty fragments", after(in_session, FIRST_FRAGMENT), None, FRAGMENTS),
     Kind("send pairs of SUBSCRIBE and UNSUBSCRIBE", in_session, None, 100 * PAIR),
-    Kind("send SENDs, and read no receipt", in_session, 10, 30 * RECEIPTED, from_last=True),
+    Kind("send SENDs, and read no receipt", in_session, 60, 30 * RECEIPTED, from_last=True),
     Kind("answer a close with fragments", after(parted, FIRST_FRAGMENT), 10, FRAGMENTS),
 ]
 # One that is a client like any other, but never waits.
 BUSY = Kind("send SENDs, and read their receipts", in_session, None, 100 * stomp_message("SEND", [NOWHERE, ("receipt", "r" * 100)]), reads=True)
 # These two together: some send as fast as they can what the others never read.
-UNREAD = Kind("subscribe, and read none of bodies of 60,000 bytes", after(in_session, stomp_message("SUBSCRIBE", [("id", "a"), UNREAD_TOPIC])), 10, from_last=True)
+UNREAD = Kind("subscribe, and read none of bodies of 60,000 bytes", after(in_session, stomp_message("SUBSCRIBE", [("id", "a"), UNREAD_TOPIC])), 60, from_last=True)
 BODIES = Kind("send bodies of 60,000 bytes", in_session, None, BIG)
 
 

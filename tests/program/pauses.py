@@ -1,6 +1,7 @@
 #!/usr/bin/env python3
 """Stops a running server for 85 seconds, longer than a silent client is kept, and lets it go on: no client is given up for that, and what waited in the sockets
-meanwhile is heard before anyone is. Needs Python 3 alone; the gate does not run it.
+meanwhile is heard before anyone is. Then it is stopped nine times for 12 seconds, with a second between, and no silent client is given up either. Needs
+Python 3 alone; the gate does not run it.
 
     python3 tests/program/pauses.py [PROGRAM]
 
@@ -17,6 +18,7 @@ from lib.wire import handshake, stomp_message
 
 PAUSE = 85
 IDLE = 70
+PAUSES, SHORT_PAUSE = 9, 12
 BODY = "x" * 60_000
 
 
@@ -83,5 +85,15 @@ def pause(broker, checks):
     checks.check("one that had its WebSocket opens its session", opened)
 
 
+def several_pauses(broker, checks):
+    """clients that are idle, and answer no ping meanwhile"""
+    idle = [Client(broker.port, timeout=30).connect() for _ in range(IDLE)]
+    for _ in range(PAUSES):
+        with broker.standing_still():
+            time.sleep(SHORT_PAUSE)
+        time.sleep(1)
+    checks.same("all are there", sum(is_there(client) for client in idle), IDLE)
+
+
 if __name__ == "__main__":
-    sys.exit(scenario.run(__doc__, [pause], scenario.BUILT))
+    sys.exit(scenario.run(__doc__, [pause, several_pauses], scenario.BUILT))

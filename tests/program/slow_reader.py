@@ -17,7 +17,7 @@ OUTBOX = 32 * 1_048_576 // 16_500
 MESSAGES = 2_800
 
 # For how many seconds a client may take nothing of what is written before it is given up.
-LONGEST_WRITE = 10
+LONGEST_WRITE = 60
 
 
 class Flood:
@@ -114,13 +114,13 @@ def reads_never(broker, checks):
     checks.same("another that subscribes is handed nothing yet", waiting, [])
     start = time.perf_counter()
     sent = 0
-    while not other.hears_within(0) and time.perf_counter() - start < LONGEST_WRITE + 20:
+    while not other.hears_within(0) and time.perf_counter() - start < 2 * LONGEST_WRITE + 20:
         flood.send(sent)
         sent += 1
-        time.sleep(0 if sent < MESSAGES else 0.05)
+        time.sleep(0 if sent < MESSAGES else 0.25)
     waited = time.perf_counter() - start
     # At the end of its time what waits is offered to its socket once more. If that has room then, it has as long again.
-    checks.check("the other hears something after some 10 to 20 seconds", LONGEST_WRITE <= waited < 2 * LONGEST_WRITE + 5, waited)
+    checks.check("the other hears something after some 60 to 120 seconds", LONGEST_WRITE <= waited < 2 * LONGEST_WRITE + 5, waited)
     checks.tell(f"after {waited:.1f} s, {sent} messages")
     flood.tell(checks)
     checks.same("it is handed the message", other.receive().body, "held")

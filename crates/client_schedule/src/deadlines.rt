@@ -23,8 +23,9 @@ const SLOWEST: u64 = 32_768;
 /// For how many bytes after a ping it is given that time: for 300 seconds.
 const MOST_UNREAD: u64 = 9_830_400;
 
-/// For how many milliseconds a client may take nothing of what is written to it.
-const LONGEST_WRITE: u64 = 10_000;
+/// For how many milliseconds a client may take nothing of what is written to it. A system opens a receive window that was full only once a
+/// sixteenth of it was read: of 6 MiB, the usual maximum, that takes 39 seconds at 10 KB a second.
+const LONGEST_WRITE: u64 = 60_000;
 
 /// For how many milliseconds a client's close is waited for, once it was sent that its connection is being closed.
 const LONGEST_CLOSE: u64 = 10_000;

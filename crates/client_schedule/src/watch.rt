@@ -6,8 +6,8 @@ ghost use Rattle.client_schedule.specs.Watches.{counted};
 /// By how many milliseconds a round may take longer than it was allowed to wait, before that counts as a pause.
 const SPARE: u64 = 1_000;
 
-/// A clock that does not count pauses of the whole process of over a second: no client is to be given up for them. Moments are in
-/// milliseconds, and begin with that of the system's clock.
+/// A clock that counts a second at most of a pause of the whole process of over a second: no client is to be given up for pauses, also if
+/// there are several. Moments are in milliseconds, and begin with that of the system's clock.
 #[derive(Clone, Copy)]
 pub struct Watch {
     // What the system's clock showed last, and what this one shows.
@@ -34,7 +34,7 @@ impl Watch {
     }
 
     /// A round is over for which so long a wait was allowed, and the system's clock shows this. If the round was longer by more than
-    /// a second, only what was allowed counts.
+    /// a second, what was allowed counts, but no more than a second of it: nobody knows how much of it came before the pause.
     pub fn go_on(&mut self, real: u64, allowed: u64)
         ensures seen { self.new.seen ≡ real }
         ensures shown { self.new.shown ≡ min (self.old.shown + counted allowed (real - self.old.seen)) (2 ^ 64 - 1) }
@@ -43,7 +43,7 @@ impl Watch {
         let counted = if passed <= allowed.saturating_add(SPARE) {
             passed
         } else {
-            allowed
+            allowed.min(SPARE)
         };
         self.seen = real;
         self.shown = self.shown.saturating_add(counted);
