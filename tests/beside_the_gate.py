@@ -79,6 +79,7 @@ SCRIPTS = [
     Script("tests/program/holding.py", light="", waits=True),
     Script("clients/independent.py"),
     Script("tests/program/full_journal.py", light=""),
+    Script("tests/program/restarts.py", light=""),
     Script("clients/browser.py"),
     Script("clients/module.py"),
     Script("clients/proxies.py"),
