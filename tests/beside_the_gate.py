@@ -56,6 +56,7 @@ SCRIPTS = [
     Script("tests/program/trace_format.sh"),
     Script("tests/program/trace_serve.py"),
     Script("tests/program/failing_disk.py"),
+    Script("tests/program/lost_writes.py"),
     Script("tests/program/handshakes.py", light=""),
     Script("tests/program/closes.py", light=""),
     Script("tests/program/pauses.py", light="", waits=True),
