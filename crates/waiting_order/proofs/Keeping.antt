@@ -1,4 +1,4 @@
-use Rattle.std.proofs.Common.{◌≡◌, ◌==◌, ◌<◌, ◌≤◌, ◌&&◌, ◌++◌, List, [], ◌∷◌, ℕ, suc, zero, Bool, true, false, cond, map, None, Some, Result, Ok, Err, OnOk, OnErr, is_some, length, not, refl, sym, ap, subst, ◌∙◌, arith, slice_get, if◌then◌else◌}
+use Rattle.std.proofs.Common.{◌≡◌, ◌<◌, ◌≤◌, ◌&&◌, ◌++◌, List, [], ◌∷◌, ℕ, suc, zero, Bool, true, false, cond, map, None, Some, Result, Ok, Err, OnOk, OnErr, is_some, length, not, refl, sym, ap, subst, ◌∙◌, arith, slice_get, if◌then◌else◌}
 use Rattle.std.specs.List.{AllByRecursion}
 use Rattle.std.specs.Str.{bytes_eq}
 use Rattle.std.proofs.lemmas.Option.{none-some, same_Some}
@@ -10,7 +10,7 @@ use Rattle.broker_state.specs.Operations.{uses}
 use Rattle.waiting_order.specs.declared.directory.Directory.{Directory}
 use Rattle.waiting_order.specs.declared.places.Place.{Place}
 use Rattle.waiting_order.specs.Directories.{AreFound, IsSlotted, KeepsPlace, KeepsPlaces, is_plain_at, members, place_of}
-use Rattle.waiting_order.specs.Keeping.{put_into, put_where, with_sub}
+use Rattle.waiting_order.specs.Keeping.{put_into, put_where}
 use Rattle.waiting_order.specs.Waiting.{subs_of}
 use Rattle.waiting_order.proofs.Timed.{W}
 

@@ -1,4 +1,4 @@
-use Rattle.std.proofs.Common.{◌≡◌, ◌==◌, ◌<◌, ◌≤◌, ◌+◌, ◌⊎◌, List, [], ◌∷◌, ℕ, suc, zero, Bool, true, false, cond, drop, map, Option, Some, None, inl, inr, length, refl, sym, ap, subst, ◌∙◌, arith, slice_get}
+use Rattle.std.proofs.Common.{◌≡◌, ◌==◌, ◌<◌, ◌≤◌, ◌⊎◌, List, [], ◌∷◌, ℕ, suc, zero, Bool, true, false, cond, drop, map, Option, Some, None, inl, inr, refl, sym, ap, subst, ◌∙◌, arith, slice_get}
 use Rattle.std.specs.BTreeMap.{is_at}
 use Rattle.std.specs.List.{AllByRecursion, sum_by}
 use Rattle.std.specs.List.Sorted.{IsStrictlySortedBy}
@@ -14,7 +14,7 @@ use Rattle.broker_state.specs.declared.subscription.Subscription.{Subscription}
 use Rattle.waiting_order.specs.declared.key.Key.{Key}
 use Rattle.waiting_order.specs.Tickets.{IsRising}
 use Rattle.waiting_order.specs.Waiting.{AreTimed, by_ticket, subs_of, waiter_at}
-use Rattle.waiting_order.proofs.Timed.{W, has_ticket, in_order, place_is, rises, stands_there, sum_in_order, ticket_of}
+use Rattle.waiting_order.proofs.Timed.{W, has_ticket, in_order, place_is, rises, stands_there, ticket_of}
 
 abbrev pub E : Type 0
 E = ℕ × Key

@@ -1,19 +1,17 @@
-use Rattle.std.proofs.Common.{◌≡◌, ◌==◌, ◌<◌, ◌≤◌, ◌+◌, ◌++◌, List, [], ◌∷◌, ℕ, suc, zero, Bool, true, false, cond, count_by, not, Option, Some, None, inl, inr, length, refl, sym, ap, subst, ◌∙◌, arith, remove, slice_get, unwrap_or, if◌then◌else◌}
+use Rattle.std.proofs.Common.{◌≡◌, ◌==◌, ◌<◌, ◌≤◌, ◌+◌, ◌++◌, List, [], ◌∷◌, ℕ, suc, zero, Bool, true, false, cond, count_by, not, Option, Some, None, inl, inr, length, refl, sym, ap, subst, ◌∙◌, arith, remove, slice_get, if◌then◌else◌}
 use Rattle.std.specs.List.{AllByRecursion}
 use Rattle.std.proofs.lemmas.Bool.{cases_lt}
 use Rattle.std.proofs.lemmas.Bool.Decides.{nat_tests}
 use Rattle.std.proofs.lemmas.List.Sums.{sum_by-cons}
-use Rattle.std.proofs.lemmas.Option.{none-some, same_Some, slice_get_within}
+use Rattle.std.proofs.lemmas.Option.{none-some, same_Some}
 use Rattle.broker_state.proofs.Weights.{all_at}
 use Rattle.broker_state.specs.declared.subscription.Subscription.{Subscription}
 use Rattle.broker_state.specs.Lists.{changed}
 use Rattle.waiting_order.specs.declared.places.Place.{Place}
-use Rattle.waiting_order.specs.declared.standing.Standing.{Standing}
-use Rattle.waiting_order.specs.declared.key.Key.{Key}
-use Rattle.waiting_order.specs.Directories.{IsFirstFrom, IsNext, NoneFrom, members, place_of}
-use Rattle.waiting_order.specs.Tickets.{HasTicket, IsIndexOf, IsRising, without}
+use Rattle.waiting_order.specs.Directories.{IsNext, NoneFrom, members, place_of}
+use Rattle.waiting_order.specs.Tickets.{IsIndexOf, IsRising, without}
 use Rattle.waiting_order.specs.Waiting.{subs_of}
-use Rattle.waiting_order.proofs.Rising.{rising_at, rising_before, rising_from, ticket, without_behind, without_first}
+use Rattle.waiting_order.proofs.Rising.{rising_at, rising_from, ticket, without_behind, without_first}
 use Rattle.waiting_order.proofs.Timed.{W, ticket_of}
 
 -- a waiter that passes is at that place

@@ -1,4 +1,4 @@
-use Rattle.std.proofs.Common.{◌≡◌, ◌==◌, ◌<◌, ◌≤◌, ◌+◌, ◌&&◌, ◌⊎◌, List, [], ◌∷◌, ℕ, suc, zero, Bool, true, false, cond, count_by, MatchOption, Option, Some, None, inl, inr, nat_le, refl, sym, ap, subst, ◌∙◌, arith, slice_get}
+use Rattle.std.proofs.Common.{◌≡◌, ◌==◌, ◌<◌, ◌≤◌, ◌+◌, ◌&&◌, ◌⊎◌, List, [], ◌∷◌, ℕ, suc, zero, Bool, true, false, cond, count_by, Option, Some, None, inl, inr, nat_le, refl, sym, ap, subst, ◌∙◌, arith, slice_get}
 use Rattle.std.specs.List.{AllByRecursion}
 use Rattle.std.proofs.lemmas.Bool.{and_parts, cases_lt, leb-true}
 use Rattle.std.proofs.lemmas.Bool.Decides.{nat_tests}
@@ -11,7 +11,7 @@ use Rattle.waiting_order.specs.declared.key.Key.{Key}
 use Rattle.waiting_order.specs.declared.places.Place.{Place}
 use Rattle.waiting_order.specs.declared.sought.Sought.{Sought}
 use Rattle.waiting_order.specs.declared.standing.Standing.{Standing}
-use Rattle.waiting_order.specs.Directories.{IsFirstFrom, IsNext, IsSlotted}
+use Rattle.waiting_order.specs.Directories.{IsNext, IsSlotted}
 use Rattle.waiting_order.specs.Keys.{key_eq}
 use Rattle.waiting_order.specs.Soughts.{IsSeen, IsSeenAt, is_sought, is_sought_of, sooner}
 use Rattle.waiting_order.specs.Waiting.{IsFree, IsOrdered, Waiting, subs_of}

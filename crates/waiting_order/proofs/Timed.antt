@@ -1,11 +1,11 @@
-use Rattle.std.proofs.Common.{◌≡◌, ◌==◌, ◌<◌, ◌≤◌, ◌+◌, ◌&&◌, ◌⊎◌, ◌++◌, ◌≢◌, List, [], ◌∷◌, ℕ, suc, zero, Bool, true, false, Option, Some, None, cond, inl, inr, length, length-append, append_assoc, append-nil, refl, sym, ap, subst, ◌∙◌, arith, remove, slice_get}
+use Rattle.std.proofs.Common.{◌≡◌, ◌==◌, ◌<◌, ◌≤◌, ◌+◌, ◌&&◌, ◌⊎◌, ◌++◌, ◌≢◌, List, [], ◌∷◌, ℕ, suc, zero, Bool, true, false, Option, Some, None, cond, inl, inr, length, append_assoc, append-nil, refl, sym, ap, subst, ◌∙◌, arith, remove, slice_get}
 use Rattle.std.specs.List.{AllByRecursion, IsDistinct, sum_by}
 use Rattle.std.specs.Map.{keys_of, lookup}
 use Rattle.std.specs.Borrow.{Bor, MutBor}
 use Rattle.std.specs.Option.{IfNone, IfSome, IsSome, option_copied, option_copied_mut, option_to_list}
 use Rattle.std.proofs.lemmas.Bool.{and_parts, cases_lt}
 use Rattle.std.proofs.lemmas.Bool.Decides.{nat_tests}
-use Rattle.std.proofs.lemmas.Option.{none-some, same_Some, slice_get_within}
+use Rattle.std.proofs.lemmas.Option.{none-some, same_Some}
 use Rattle.std.proofs.lemmas.List.Sums.{sum_by-cons}
 use Rattle.frame_core.proofs.Lists.{all_push}
 use Rattle.broker_state.proofs.Weights.{sum_by-removed}
@@ -14,7 +14,7 @@ use Rattle.waiting_order.specs.declared.key.Key.{Key}
 use Rattle.waiting_order.specs.declared.standing.Standing.{Standing}
 use Rattle.waiting_order.specs.Keys.{key_eq}
 use Rattle.waiting_order.specs.Tickets.{IsRising}
-use Rattle.waiting_order.specs.Waiting.{AreTimed, IsFree, IsOrdered, Waiting, by_ticket, waiter_at}
+use Rattle.waiting_order.specs.Waiting.{AreTimed, IsFree, IsOrdered, by_ticket, waiter_at}
 use Rattle.waiting_order.proofs.Rising.{rising_pushed}
 
 abbrev pub W : Type 0

@@ -1,4 +1,4 @@
-use Rattle.std.proofs.Common.{◌≡◌, ◌∙◌, [], List, Option, ap, refl, subst, sym, unwrap_or}
+use Rattle.std.proofs.Common.{◌≡◌, ◌∙◌, [], List, ap, subst, sym, unwrap_or}
 use Rattle.std.specs.Option.{option_copied}
 use Rattle.waiting_order.specs.declared.places.Place.{Place}
 use Rattle.waiting_order.specs.Directories.{members}

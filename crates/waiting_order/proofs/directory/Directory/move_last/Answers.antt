@@ -1,11 +1,11 @@
-use Rattle.std.proofs.Common.{◌<◌, ◌&&◌, ◌∙◌, ℕ, Some, ap, is_some, not, subst, sym}
+use Rattle.std.proofs.Common.{◌<◌, ◌&&◌, ◌∙◌, ℕ, ap, is_some, not, subst, sym}
 use Rattle.std.specs.Str.{bytes_eq}
 use Rattle.std.proofs.lemmas.Slice.Eq.{bytes_eq-Decides}
 use Rattle.std.specs.List.{AllByRecursion}
 use Rattle.broker_state.specs.Names.{name_cmp, text_cmp}
 use Rattle.broker_state.specs.Operations.{uses}
 use Rattle.broker_state.specs.declared.subscription.Subscription.{Subscription}
-use Rattle.broker_state.proofs.Keys.{name_itself, same_names, same_texts}
+use Rattle.broker_state.proofs.Keys.{name_itself}
 use Rattle.waiting_order.specs.Directories.{is_plain_at, place_of}
 use Rattle.waiting_order.specs.Tickets.{HasTicket}
 use Rattle.waiting_order.proofs.Directories.{index_moved, index_rests, name_key, named_elsewhere, plain_key, uses_none}

@@ -1,11 +1,10 @@
-use Rattle.std.proofs.Common.{◌≡◌, ◌<◌, ◌++◌, ◌∷◌, ◌∙◌, [], List, ℕ, ap, refl, remove, subst, sym}
+use Rattle.std.proofs.Common.{◌<◌, ◌++◌, ◌∷◌, [], ℕ, ap, refl, remove, subst, sym}
 use Rattle.std.specs.List.{AllByRecursion}
 use Rattle.frame_core.proofs.Lists.{all_push}
 use Rattle.broker_state.proofs.Weights.{all_at, all_removed}
 use Rattle.waiting_order.specs.Keys.{key_eq}
 use Rattle.waiting_order.specs.Directories.{AreFound, IsDirectory, IsSlotted}
 use Rattle.waiting_order.specs.Waiting.{Waiting}
-use Rattle.waiting_order.specs.declared.standing.Standing.{Standing}
 use Rattle.waiting_order.proofs.Timed.{W, clash, key_itself}
 use Rattle.waiting_order.proofs.order.Order.move_last.Goals as goal
 

@@ -1,4 +1,4 @@
-use Rattle.std.proofs.Common.{◌≡◌, ◌==◌, ◌∙◌, Some, false, ap, arith, remove, rules, slice_get, sym}
+use Rattle.std.proofs.Common.{◌≡◌, ◌==◌, ◌∙◌, false, ap, arith, remove, rules, sym}
 use Rattle.std.proofs.lemmas.Bool.Decides.{nat_tests}
 use Rattle.std.proofs.lemmas.Option.{none-some, same_Some}
 use Rattle.waiting_order.specs.declared.places.Place.{Place}

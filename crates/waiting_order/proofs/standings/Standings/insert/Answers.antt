@@ -1,6 +1,6 @@
-use Rattle.std.proofs.Common.{◌≡◌, ◌+◌, ◌++◌, ◌∷◌, ◌∙◌, [], List, ℕ, suc, ap, arith, refl, subst, sym}
+use Rattle.std.proofs.Common.{◌≡◌, ◌+◌, ◌∙◌, List, ℕ, suc, ap, arith, refl, subst, sym}
 use Rattle.waiting_order.specs.declared.standing.Standing.{Standing}
-use Rattle.waiting_order.specs.Waiting.{AreTimed, Waiting, by_ticket}
+use Rattle.waiting_order.specs.Waiting.{AreTimed, by_ticket}
 use Rattle.waiting_order.proofs.Timed.{W, free_key, order_more, timed_more}
 use Rattle.waiting_order.proofs.standings.Standings.insert.Goals as goal
 

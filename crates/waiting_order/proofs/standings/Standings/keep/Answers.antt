@@ -1,11 +1,10 @@
-use Rattle.std.proofs.Common.{◌≡◌, ◌++◌, ◌∷◌, ◌∙◌, [], List, true, Some, ap, drop, subst, sym}
+use Rattle.std.proofs.Common.{◌≡◌, ◌++◌, ◌∷◌, ◌∙◌, [], List, ap, subst, sym}
 use Rattle.std.specs.Option.{option_copied_mut}
 use Rattle.std.proofs.lemmas.Option.{same_Some}
-use Rattle.std.proofs.lemmas.Result.{IfOk-weaker, on_err_weaker, on_ok_weaker}
+use Rattle.std.proofs.lemmas.Result.{on_err_weaker, on_ok_weaker}
 use Rattle.line_core.specs.Flights.{IsOver}
 use Rattle.waiting_order.specs.Keeping.{kept_by}
 use Rattle.waiting_order.specs.declared.standing.Standing.{Standing}
-use Rattle.waiting_order.specs.Waiting.{Waiting}
 use Rattle.waiting_order.proofs.Timed.{W, at_its_key, at_key, changed_same, order_changed, there_mut, there_now, timed_changed}
 use Rattle.waiting_order.proofs.standings.Standings.keep.Goals as goal
 

@@ -1,9 +1,8 @@
-use Rattle.std.proofs.Common.{◌≡◌, ◌+◌, ◌++◌, ◌∷◌, ◌∙◌, [], List, ℕ, Some, suc, ap, arith, refl, remove, subst, sym}
+use Rattle.std.proofs.Common.{◌≡◌, ◌+◌, ◌++◌, ◌∷◌, ◌∙◌, [], List, ℕ, suc, ap, arith, refl, remove, subst, sym}
 use Rattle.std.specs.Option.{option_copied_mut}
 use Rattle.std.proofs.lemmas.Option.{same_Some}
-use Rattle.broker_state.specs.declared.subscription.Subscription.{Subscription}
 use Rattle.waiting_order.specs.declared.standing.Standing.{Standing}
-use Rattle.waiting_order.specs.Waiting.{AreTimed, Waiting, by_ticket}
+use Rattle.waiting_order.specs.Waiting.{AreTimed, by_ticket}
 use Rattle.waiting_order.proofs.Timed.{W, at_its_key, at_key, order_moved, there_mut, there_now, timed_more}
 use Rattle.waiting_order.proofs.standings.Standings.move_last.Goals as goal
 

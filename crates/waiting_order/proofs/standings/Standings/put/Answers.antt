@@ -1,11 +1,10 @@
-use Rattle.std.proofs.Common.{◌≡◌, ◌++◌, ◌∷◌, ◌∙◌, [], List, true, Some, ap, drop, subst, sym}
+use Rattle.std.proofs.Common.{◌≡◌, ◌∙◌, List, ap, sym}
 use Rattle.std.specs.Option.{option_copied_mut}
 use Rattle.std.proofs.lemmas.Option.{same_Some}
-use Rattle.std.proofs.lemmas.Result.{IfOk-weaker, on_err_weaker, on_ok_weaker}
+use Rattle.std.proofs.lemmas.Result.{on_err_weaker, on_ok_weaker}
 use Rattle.line_core.specs.Lines.{inserted}
 use Rattle.waiting_order.specs.Keeping.{put_into}
 use Rattle.waiting_order.specs.declared.standing.Standing.{Standing}
-use Rattle.waiting_order.specs.Waiting.{Waiting}
 use Rattle.waiting_order.proofs.Timed.{W, at_its_key, at_key, changed_same, order_changed, there_mut, there_now, timed_changed}
 use Rattle.waiting_order.proofs.standings.Standings.put.Goals as goal
 

@@ -1,6 +1,5 @@
-use Rattle.std.proofs.Common.{◌≡◌, ◌∙◌, List, Some, ap, sym}
+use Rattle.std.proofs.Common.{◌∙◌, List, ap, sym}
 use Rattle.std.proofs.lemmas.Option.{same_Some}
-use Rattle.waiting_order.specs.Waiting.{Waiting}
 use Rattle.waiting_order.proofs.Timed.{W, at_its_key, ordered, order_without, there_now, timed_without}
 use Rattle.waiting_order.proofs.standings.Standings.remove.Goals as goal
 
