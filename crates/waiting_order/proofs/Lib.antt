@@ -1,0 +1,7 @@
+pub mod Directories
+pub mod Keeping
+pub mod Listing
+pub mod Members
+pub mod Rising
+pub mod Seeking
+pub mod Timed

@@ -1,0 +1,14 @@
+use Rattle.std.proofs.Common.{◌≡◌, ◌∙◌, ℕ, ap, arith}
+use Rattle.waiting_order.proofs.Seeking.{total, total_all, total_more}
+use Rattle.waiting_order.proofs.finding.count_of.Goals as goal
+
+pub loop-slot-preserved : goal.loop-slot-preserved
+loop-slot-preserved c = record {
+  counted = omega (arith, c.loop-slot.invariant.counted, c.count_at-count.ensures.count, total_more c.args.session c.loop-slot.slot c.args.standings.now.all);
+  few = omega (arith, c.loop-slot.invariant.few, c.count_at-count.ensures.few);
+}
+
+pub returns : goal.returns
+returns c =
+    let end : c.loop-slot.slot ≡ 16 = omega arith in
+    c.loop-slot.invariant.counted ∙ ap (λ (n : ℕ). total c.args.session n c.args.standings.now.all) end ∙ total_all c.args.session c.args.standings.now.all c.requires

@@ -1,0 +1,6 @@
+pub mod Directories
+pub mod Keeping
+pub mod Keys
+pub mod Soughts
+pub mod Tickets
+pub mod Waiting

@@ -1,0 +1,41 @@
+use Rattle.std.specs.Prelude.{◌≡◌, ◌&&◌, ◌≤◌, List, ℕ, Bool, true, false, MatchOption, Option, None, Some, nat_le, slice_get, if◌then◌else◌}
+use Rattle.std.specs.Str.{bytes_eq}
+use Rattle.line_core.specs.Flights.{has_delivery}
+use Rattle.broker_state.specs.declared.subscription.Subscription.{Subscription}
+use Rattle.broker_state.specs.Operations.{is_of}
+use Rattle.waiting_order.specs.declared.key.Key.{Key}
+use Rattle.waiting_order.specs.declared.places.Place.{Place}
+use Rattle.waiting_order.specs.declared.standing.Standing.{Standing}
+use Rattle.waiting_order.specs.declared.sought.Sought.{Sought}
+use Rattle.waiting_order.specs.declared.sought.Sought.TheVariants.{Any, Id, Delivery}
+
+-- whether a subscription is sought
+abbrev pub is_sought : Sought → Subscription → Bool
+is_sought Any sub = true
+is_sought (Id id) sub = bytes_eq id.now sub.id
+is_sought (Delivery delivery) sub = has_delivery delivery sub.unacknowledged
+
+-- and is one of that session
+abbrev pub is_sought_of : ℕ → Sought → Subscription → Bool
+is_sought_of session sought sub = is_of session sub && is_sought sought sub
+
+-- the place with the lesser ticket
+abbrev pub sooner : Option Place → Option Place → Option Place
+sooner None b = b
+sooner (Some p) None = Some p
+sooner (Some p) (Some q) = if nat_le p.ticket q.ticket then Some p else Some q
+
+-- A place is that of who stands at a key, with a ticket from that one on, and is sought.
+pub record IsSeenAt (sought : Sought) (ws : List (Key × Standing)) (key : Key) (from : ℕ) (place : Place) : Type 0 where
+  pub at : ℕ
+  pub standing : Standing
+  pub there : slice_get ws at ≡ Some (key, standing)
+  pub is : place ≡ record { ticket = standing.ticket; key = key }
+  pub after : from ≤ standing.ticket
+  pub passing : is_sought sought standing.sub ≡ true
+
+-- the place of who stands at a key, with a ticket from that one on, and is sought; none if there is no such one
+abbrev pub IsSeen : Sought → List (Key × Standing) → Key → ℕ → Option Place → Type 0
+IsSeen sought ws key from seen = MatchOption seen
+    ((at : ℕ) (s : Standing) → slice_get ws at ≡ Some (key, s) → from ≤ s.ticket → is_sought sought s.sub ≡ false)
+    (IsSeenAt sought ws key from)

@@ -1,0 +1,19 @@
+//! The order in which subscriptions wait for messages, and what finds some of them in it without a look at each.
+
+#![tactic(auto)]
+
+mod directory;
+mod finding;
+mod groups;
+mod key;
+mod order;
+mod places;
+mod sought;
+mod standing;
+mod standings;
+
+pub use key::Key;
+pub use order::Order;
+pub use places::Place;
+pub use sought::Sought;
+pub use standing::Standing;
