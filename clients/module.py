@@ -23,6 +23,7 @@ import threading
 import time
 import traceback
 
+import module_faults
 from chromium import BROWSERS, Browser
 from lib import scenario
 from lib.stomp_client import Client
@@ -41,10 +42,13 @@ globalThis.soon = async (holds, seconds = 15) => {
   return holds();
 };
 globalThis.open = (options = {}) => {
-  const states = [];
-  const client = connect(URL_, { onstate: (state, detail) => states.push([state, detail.pause, detail.reason]), ...options });
-  return Object.assign(client, { states });
+  const states = [], errors = [], onstate = (state, { pause, reason }) => states.push([state, pause, reason]);
+  const client = connect(URL_, { onstate, onerror: (...told) => errors.push(told), ...options });
+  return Object.assign(client, { states, errors });
 };
+globalThis.unhandled = [];
+globalThis.process?.on("unhandledRejection", error => unhandled.push(String(error)));
+globalThis.addEventListener?.("unhandledrejection", event => unhandled.push(String(event.reason)));
 """
 
 
@@ -202,7 +206,7 @@ loops.push(loop('pair', text => sender.transaction(tx => { tx.send('/queue/pairs
 """
 
 
-def kills_under_load(engine, broker, checks, kills):
+def kills_under_load(engine, broker, kills, checks):
     """what a promise said is so, after many kills"""
     run = engine.value
     run(LOAD)
@@ -231,25 +235,35 @@ def kills_under_load(engine, broker, checks, kills):
 TRIALS = [what_promises_say, work_is_done, durable_ones, a_lost_one_is_unknown, kills_under_load]
 
 
-def run_trial(trial, engine, broker, checks, kills):
+def run_trial(trial, engine, *more):
     """Runs a trial. What it raises is a failed check."""
+    *_, checks = more
     print(f"{engine.name}: {trial.__doc__}", flush=True)
     try:
-        trial(engine, broker, checks, *([kills] if trial is kills_under_load else []))
+        trial(engine, *more)
     except Exception as error:
         traceback.print_exc()
         checks.check(f"{trial.__name__} runs to its end", False, error)
-    if not broker.is_running():
-        broker.serve()
 
 
-def try_engine(kind, folder, program, kills, checks):
+def try_over_the_broker(engine, words, checks):
+    with scenario.serving(words.program) as broker:
+        engine.value(f"globalThis.URL_ = 'ws://127.0.0.1:{broker.port}/'")
+        for trial in TRIALS:
+            run_trial(trial, engine, broker, *([words.kills] if trial is kills_under_load else []), checks)
+            if not broker.is_running():
+                broker.serve()
+
+
+def try_engine(kind, folder, words, checks):
     engine = kind(folder)
     try:
-        with scenario.serving(program) as broker:
-            engine.value(f"globalThis.URL_ = 'ws://127.0.0.1:{broker.port}/'; {WORDS}")
-            for trial in TRIALS:
-                run_trial(trial, engine, broker, checks, kills)
+        engine.value(WORDS)
+        if words.only != "real":
+            for trial in module_faults.TRIALS:
+                run_trial(trial, engine, checks)
+        if words.only != "fake":
+            try_over_the_broker(engine, words, checks)
     finally:
         engine.close()
 
@@ -257,14 +271,16 @@ def try_engine(kind, folder, program, kills, checks):
 def main():
     parser = scenario.words_of(__doc__)
     parser.add_argument("--kills", type=int, default=20)
+    parser.add_argument("--only", choices=["fake", "real"], help="the trials over a fake broker, or over the real one")
+    parser.add_argument("--engine", choices=["Node", "Chromium"], help="in this one alone")
     parser.add_argument("--module", type=pathlib.Path, default=HERE.parent / "examples")
     words = parser.parse_args()
-    engines = [kind for kind, is_there in ((Node, shutil.which("node")), (Chromium, any(map(shutil.which, BROWSERS)))) if is_there]
+    engines = [kind for kind, is_there in ((Node, shutil.which("node")), (Chromium, any(map(shutil.which, BROWSERS)))) if is_there and words.engine in (None, kind.name)]
     checks = scenario.Checks()
     for kind in engines:
         with tempfile.TemporaryDirectory(prefix="stompd-module-", ignore_cleanup_errors=True) as folder:
             shutil.copytree(words.module, pathlib.Path(folder) / "examples")
-            try_engine(kind, pathlib.Path(folder), words.program, words.kills, checks)
+            try_engine(kind, pathlib.Path(folder), words, checks)
     print(f"{len(engines)} of 2 were there: {', '.join(kind.name for kind in engines)}")
     return 1 if checks.failed else 0 if Node in engines else 2
 
