@@ -3,35 +3,31 @@
 (() => {
 "use strict";
 
-/* Milliseconds, and a count: stompd.d.mts says of what. */
-const DEFAULTS = { shortestPause: 500, longestPause: 8_000, answerTimeout: 15_000, waitTimeout: 60_000, closeTimeout: 5_000, mostWaiting: 10_000 };
+const NOTHING = () => {};
+/* What each option means stands in stompd.d.mts. */
+const TIMES = { shortestPause: 500, longestPause: 8_000, answerTimeout: 15_000, waitTimeout: 60_000, closeTimeout: 5_000 };
+const DEFAULTS = { ...TIMES, mostWaiting: 10_000, onstate: NOTHING, onerror: error => console.error(error) };
+const NO_WEBSOCKET = "there is no WebSocket: use Node 22, start Node 20 with --experimental-websocket, or give connect that of the package ws";
 /* Bytes that may wait in a socket before what is only told is left out. */
 const MOST_BUFFERED = 1 << 20;
 /* Headers that only the module sets. */
 const OWN_HEADERS = ["content-length", "receipt", "transaction"];
-const NOTHING = () => {};
 
 /* Why a promise was rejected. `refused`: the broker has answered it with an ERROR, and it is not in the journal. `unknown`: the connection was lost
    before the receipt, so it may be in the journal or not. `unsent`: it was never sent or not carried out, so it is not there. */
 class StompdError extends Error {
-  constructor(kind, message) {
-    super(message);
-    Object.assign(this, { name: "StompdError", kind });
-  }
+  constructor(kind, message) { Object.assign(super(message), { name: "StompdError", kind }); }
 }
 const unsent = message => new StompdError("unsent", message);
 
-/* A promise that may be left alone: who awaits it hears of its rejection, and nobody else does. */
+/* A promise that nobody has to await: its rejection reaches those who do, and ends no program. */
 function leavable(promise) {
   promise.catch(NOTHING);
   return promise;
 }
 
-/* A timer; one longer than 24 days, as `Infinity`, never comes. */
+/* A timer. One of more than 24 days, such as `Infinity`, never fires. */
 const after = (milliseconds, act) => milliseconds < 2 ** 31 ? setTimeout(act, milliseconds) : undefined;
-const every = (milliseconds, act) => milliseconds < 2 ** 31 ? setInterval(act, milliseconds) : undefined;
-
-/* ---- Frames ---- */
 
 const ESCAPES = { "\\": "\\\\", "\r": "\\r", "\n": "\\n", ":": "\\c" }, MEANINGS = { "\\": "\\", r: "\r", n: "\n", c: ":" };
 const escaped = text => String(text).replace(/[\\\r\n:]/g, letter => ESCAPES[letter]);
@@ -66,18 +62,15 @@ function written([command, headers, body = ""]) {
   return whole;
 }
 
-/* The head and the body of what has come. The broker sends as Binary what is no UTF-8; then the body stays bytes. */
+/* The head and the body of what has come. The broker sends a frame as Binary if it is not UTF-8; then its body stays bytes. */
 function parted(data) {
-  if (typeof data == "string") {
-    const end = data.indexOf("\n\n");
-    return [data.slice(0, end), data.slice(end + 2, -1)];
-  }
-  const bytes = new Uint8Array(data), end = bytes.findIndex((byte, place) => byte == 10 && bytes[place + 1] == 10), body = bytes.slice(end + 2, -1);
-  try {
-    return [decoder.decode(bytes.subarray(0, end)), decoder.decode(body)];
-  } catch {
-    return [decoder.decode(bytes.subarray(0, end)), body];
-  }
+  const isText = typeof data == "string", whole = isText ? data : new Uint8Array(data);
+  const end = isText ? data.indexOf("\n\n") : whole.findIndex((byte, place) => byte == 10 && whole[place + 1] == 10);
+  return [textOf(whole.slice(0, end)), textOf(whole.slice(end + 2, -1))];
+}
+function textOf(whole) {
+  if (typeof whole == "string") return whole;
+  try { return decoder.decode(whole); } catch { return whole; }
 }
 
 /* Each message of the broker holds one frame. Of a repeated header the first counts. A header may have any name, as `constructor`. */
@@ -87,8 +80,6 @@ function read(data) {
   for (const line of lines) headers[spell(line.slice(0, line.indexOf(":")))] ??= spell(line.slice(line.indexOf(":") + 1));
   return { command, headers, body };
 }
-
-/* ---- What a user has in hand ---- */
 
 /* What came for a subscription. */
 class Message {
@@ -113,10 +104,8 @@ class Message {
 
 /* A subscription, which comes back with each session until it is ended or refused. */
 class Subscription {
-  isReady = false;
-  isEnded = false;
-  /* Whether its durable name was in use when it was asked for last. */
-  isContested = false;
+  /* Contested: its durable name was in use when it was last asked for. */
+  isReady = false; isEnded = false; isContested = false;
   constructor(client, id, headers, heard) {
     Object.assign(this, { client, id, headers, heard });
     /* Resolves once the broker has it in its journal, and is rejected if it is refused or ended before. */
@@ -130,9 +119,8 @@ class Subscription {
       if (!this.client.isOpen(link)) throw unsent("its session is over");
       return [["UNSUBSCRIBE", { id: this.id }]];
     };
-    // Its end is that of its session too, so only a refusal is none.
-    const ended = this.client.ask(make, () => link.forget(this));
-    return leavable(ended.catch(error => { if (error.kind == "refused") throw error; }));
+    // If its session ends first, so does it.
+    return leavable(this.client.ask(make, () => link.forget(this)).catch(error => { if (error.kind == "refused") throw error; }));
   }
   /* Ends a durable one for good: its name is given up, with all that waits under it. */
   giveUp() {
@@ -145,8 +133,7 @@ class Subscription {
 
 /* What a transaction is made of. */
 class Transaction {
-  makers = [];
-  constructor(client) { this.client = client; }
+  constructor(client) { Object.assign(this, { client, makers: [] }); }
   send(destination, body, headers = {}) {
     const frame = sendFrame(destination, body, headers);
     this.makers.push(() => frame);
@@ -155,16 +142,10 @@ class Transaction {
   nack(message) { this.makers.push(() => message.frame("NACK", this.client)); }
 }
 
-/* ---- One connection ---- */
-
 /* What is told has no answer unless it is refused. */
 const TOLD = { isTold: true, reject: NOTHING };
 /* An idle connection is asked for something that changes nothing. */
-const PROBE = {
-  make: () => [["BEGIN", { transaction: "probe" }], ["ABORT", { transaction: "probe" }]],
-  resolve: NOTHING,
-  reject: NOTHING,
-};
+const PROBE = { make: () => [["BEGIN", { transaction: "probe" }], ["ABORT", { transaction: "probe" }]], resolve: NOTHING, reject: NOTHING };
 
 /* A connection, with what was asked on it and has no answer yet. Answers come in the order of what they answer. */
 class Link {
@@ -174,8 +155,7 @@ class Link {
   ending = [];
   #socket; #timer; #on; #openedAt; #count = 0; #asked = new Map(); #isToldLast = false;
   /* Whether nothing was heard since the last look, and whether an answer was due then. */
-  #isQuiet = true;
-  #wasDue = true;
+  #isQuiet = true; #wasDue = true;
 
   /* `on` is called with what happens: opened, heard, refused, over. */
   constructor(url, { WebSocket, clientId, answerTimeout }, on) {
@@ -184,9 +164,10 @@ class Link {
     socket.binaryType = "arraybuffer";
     socket.onopen = () => this.write([["CONNECT", { "accept-version": "1.2", ...(clientId ? { "client-id": clientId } : {}) }]]);
     socket.onmessage = ({ data }) => this.#hear(data);
-    socket.onerror = NOTHING;                  // a close follows
+    // A close may follow or not, as in Node 20, where nobody listens.
+    socket.onerror = () => this.end({ code: 1006 });
     socket.onclose = ({ code }) => this.end({ code });
-    this.#timer = every(answerTimeout, () => this.#look(answerTimeout));
+    this.#watch(answerTimeout);
   }
   get count() { return this.#asked.size; }
   lasted() { return this.#openedAt === undefined ? 0 : performance.now() - this.#openedAt; }
@@ -200,7 +181,8 @@ class Link {
     if (this.#socket.bufferedAmount > MOST_BUFFERED) return false;
     this.write([frame]);
     if (!this.#isToldLast) this.#asked.set(`told ${++this.#count}`, TOLD);
-    return this.#isToldLast = true;
+    this.#isToldLast = true;
+    return true;
   }
   /* Sends the frames of a post, whose last one asks for a receipt. */
   post(post) {
@@ -214,7 +196,7 @@ class Link {
     if (this.isOver) return;
     this.isOver = true;
     this.session = null;
-    clearInterval(this.#timer);
+    clearTimeout(this.#timer);
     Object.assign(this.#socket, { onopen: NOTHING, onmessage: NOTHING, onclose: NOTHING });
     this.#socket.close();
     const posts = [...this.#asked.values()];
@@ -257,16 +239,16 @@ class Link {
     this.#on.refused(posts[place], place < 0 ? [] : posts.slice(place + 1), new StompdError("refused", message));
   }
   /* A connection that was quiet for a whole period is asked, and one that owed an answer all the while is dead. */
+  #watch(period) { this.#timer = after(period, () => this.#look(period)); }
   #look(period) {
     if (this.#isQuiet && this.#wasDue) return this.end({ reason: `no answer within ${period} ms` });
     const isDue = () => !this.session || [...this.#asked.values()].some(it => !it.isTold);
     if (this.#isQuiet && !isDue()) this.post(PROBE);
     this.#isQuiet = true;
     this.#wasDue = isDue();
+    this.#watch(period);
   }
 }
-
-/* ---- The client ---- */
 
 class Client {
   #url; #options; #link; #timer; #pause; #refusal; #count = 0; #isWanted = true;
@@ -275,13 +257,10 @@ class Client {
   state = "connecting";
 
   constructor(url, options) {
-    const onerror = error => console.error(error);
     this.#url = url;
-    this.#options = { ...DEFAULTS, onstate: NOTHING, onerror, WebSocket: globalThis.WebSocket, ...options };
+    this.#options = { ...DEFAULTS, WebSocket: globalThis.WebSocket, ...options };
     this.#pause = this.#options.shortestPause;
-    if (typeof this.#options.WebSocket != "function") {
-      throw unsent("there is no WebSocket: use Node 22, start Node 20 with --experimental-websocket, or give connect that of the package ws");
-    }
+    if (typeof this.#options.WebSocket != "function") throw unsent(NO_WEBSOCKET);
     if (/[\r\n\0]/.test(this.#options.clientId)) throw unsent("a clientId has no end of a line and no NUL");
     this.#start();
   }
@@ -309,12 +288,9 @@ class Client {
     if (this.#subscriptions.has(id)) throw unsent(`there is a subscription ${id}`);
     const name = durable === undefined ? {} : { "activemq.subscriptionName": durable };
     const subscription = new Subscription(this, id, { ...given(headers), destination, ack, ...name }, heard);
-    if (!this.#isWanted) {
-      subscription.reject(unsent("the client is closed"));
-      return subscription;
-    }
     this.#subscriptions.set(id, subscription);
-    if (this.session) this.#open(subscription);
+    if (!this.#isWanted) this.drop(subscription);
+    else if (this.session) this.#open(subscription);
     return subscription;
   }
 
@@ -372,7 +348,7 @@ class Client {
   #start() {
     this.#refusal = null;
     this.#tell("connecting");
-    if (!this.#isWanted) return;               // onstate has closed it
+    if (!this.#isWanted) return;               // `onstate` has closed it
     this.#link = new Link(this.#url, this.#options, {
       opened: () => this.#begin(),
       heard: frame => this.#hear(frame),
@@ -408,15 +384,11 @@ class Client {
     });
   }
   #post(post) {
-    clearTimeout(post.timer);
     try { this.#link.post(post); } catch (error) { post.reject(error); }
   }
   #open(subscription) {
     const { id, headers } = subscription;
-    const resolve = () => {
-      Object.assign(subscription, { isReady: true, isContested: false });
-      subscription.resolve();
-    };
+    const resolve = () => Object.assign(subscription, { isReady: true, isContested: false }).resolve();
     // One that is lost comes back with the next session.
     const reject = error => { if (error.kind != "unknown") this.#isDenied(subscription, error); };
     this.#post({ make: () => [["SUBSCRIBE", { ...headers, id }]], resolve, reject });
@@ -426,18 +398,14 @@ class Client {
   #isDenied(subscription, error) {
     if (subscription.isEnded) return;
     if (subscription.isReady && error.message.startsWith("E14 ")) subscription.isContested = true;
-    else {
-      this.#subscriptions.delete(subscription.id);
-      subscription.isEnded = true;
-      subscription.reject(error);
-    }
+    else { subscription.reject(error); this.drop(subscription); }
     this.#complain(error, subscription);
   }
   #begin() {
     const subscriptions = [...this.#subscriptions.values()], waiting = [...this.#waiting];
     this.#waiting.clear();
     subscriptions.filter(it => !it.isContested).forEach(it => this.#open(it));
-    waiting.forEach(it => this.#post(it));
+    waiting.forEach(it => { clearTimeout(it.timer); this.#post(it); });
     subscriptions.filter(it => it.isContested).forEach(it => this.#open(it));
     this.#tell("open");
   }
@@ -450,10 +418,7 @@ class Client {
   /* What was asked after a refused one waits for the next session. */
   #isRefused(post, later, error) {
     this.#refusal = error.message;
-    const before = [...this.#waiting];
-    this.#waiting.clear();
     later.filter(it => it.waits).forEach(it => this.#wait(it));
-    before.forEach(it => this.#waiting.add(it));
     if (post && !post.isTold) post.reject(error); else this.#complain(error);
   }
   #isOver(posts, detail) {
@@ -469,12 +434,9 @@ class Client {
   }
   #isClosed(detail) {
     clearTimeout(this.#timer);
-    for (const it of this.#waiting) {
-      clearTimeout(it.timer);
-      it.reject(unsent("the client is closed"));
-    }
+    for (const it of this.#waiting) clearTimeout(it.timer);
+    for (const it of [...this.#waiting, ...this.#subscriptions.values()]) it.reject(unsent("the client is closed"));
     this.#waiting.clear();
-    for (const it of this.#subscriptions.values()) it.reject(unsent("the client is closed"));
     this.#tell("closed", detail);
     this.#closing.splice(0).forEach(resolve => resolve());
   }
