@@ -1,9 +1,12 @@
-"""A broker that does only what a script has it do, one connection at a time, for clients that have to cope with what a real one seldom does."""
+"""A broker that does only what a script has it do, for clients that have to cope with what a real one seldom does; and a relay to a real one that can
+be cut."""
 
 import base64
+import contextlib
 import hashlib
 import re
 import socket
+import threading
 
 from lib.wire import BINARY, CLOSE, PING, PONG, TEXT, frame_of, message_bytes, stomp_bytes, take_frame
 
@@ -117,3 +120,57 @@ class FakeBroker:
         self.listener.close()
         for link in self.links:
             link.socket.close()
+
+
+class Relay:
+    """Passes bytes between clients and a broker, until it is cut: from then on each side sees a peer that is silent."""
+
+    def __init__(self, port):
+        self.target, self.listener, self.pairs = port, socket.create_server(("127.0.0.1", 0)), []
+        self.port = self.listener.getsockname()[1]
+        threading.Thread(target=self.accept_all, daemon=True).start()
+
+    def accept_all(self):
+        while True:
+            try:
+                client = self.listener.accept()[0]
+            except OSError:
+                return
+            pair = (client, socket.create_connection(("127.0.0.1", self.target)), threading.Event())
+            self.pairs.append(pair)
+            for source, sink in ((pair[0], pair[1]), (pair[1], pair[0])):
+                threading.Thread(target=self.carry, args=(source, sink, pair[2]), daemon=True).start()
+
+    @staticmethod
+    def carry(source, sink, is_cut):
+        try:
+            while data := source.recv(65_536):
+                if not is_cut.is_set():
+                    sink.sendall(data)
+            if not is_cut.is_set():
+                sink.shutdown(socket.SHUT_WR)
+        except OSError:
+            pass
+
+    def cut(self):
+        """Those that are connected now hear no more of each other, not even that the other has left."""
+        for *_, is_cut in self.pairs:
+            is_cut.set()
+
+    def end(self):
+        """The broker sees the end of those that were cut."""
+        for client, server, is_cut in self.pairs:
+            if is_cut.is_set():
+                for it in (client, server):
+                    # A close alone would wait for the thread that reads.
+                    with contextlib.suppress(OSError):
+                        it.shutdown(socket.SHUT_RDWR)
+                    it.close()
+
+    def __enter__(self):
+        return self
+
+    def __exit__(self, *_):
+        self.listener.close()
+        self.cut()
+        self.end()

@@ -1,7 +1,7 @@
 #!/usr/bin/env python3
-"""examples/stompd.mjs in Node and in headless Chromium, over a broker that is killed and started again under load.
+"""examples/stompd.mjs in Node and in headless Chromium, over a broker that is killed and started again under load, and over a fake one.
 
-    python3 clients/module.py [PROGRAM] [--kills N] [--module PATH]
+    python3 clients/module.py [PROGRAM] [--kills N] [--only fake|real] [--engine Node|Chromium] [--module PATH]
 
 What a promise says is held against what comes: what has resolved is there, what was refused is not, and what is unknown may be. Needs Node 20 with
 Debian's node-ws or Node's own experimental WebSocket, and for the second part Chromium; what is missing is told at the end, with status 2 if there is
@@ -25,6 +25,7 @@ import traceback
 
 import module_faults
 from chromium import BROWSERS, Browser
+from fake_broker import Relay
 from lib import scenario
 from lib.stomp_client import Client
 
@@ -132,8 +133,45 @@ def what_promises_say(engine, broker, checks):
     checks.same("a subscription that is refused is told so", run("return outcome(one.subscribe('/topic/room', () => {}, { durable: 'd' }).ready)"), "refused")
     checks.check("and does not come back", run("await one.send('/topic/room', 'on'); const many = one.states.length; await soon(() => false, 1.5); return one.state == 'open' && one.states.length == many"))
     checks.same("one without a receipt is heard", run("const told = one.tell('/topic/room', 'told'); return [told, await soon(() => heard.at(-1).body == 'told')]"), [True, True])
+    run("one.send('/topic/room', new Uint8Array([104, 0, 255]))")
+    checks.same("bytes come as such", run("await soon(() => heard.at(-1).bytes.length == 3); return [...heard.at(-1).body]"), [104, 0, 255])
     checks.same("while it connects nothing is told", run("const early = open(), told = early.tell('/topic/room', 'x'); await early.close(); return [told, early.state]"), [False, "closed"])
     checks.same("after the end a SEND is unsent", run("const other = open(); await other.close(); return [other.state, await outcome(other.send('/topic/room', 'x'))]"), ["closed", "unsent"])
+
+
+def around_refusals(engine, broker, checks):
+    """what is asked after something that is refused is carried out once, in order"""
+    run = engine.value
+    run("globalThis.ear = open(); globalThis.words = []; await ear.subscribe('/topic/order', it => words.push(it.body)).ready")
+    run("globalThis.many = open({ longestPause: 500 }); await many.send('/topic/order', 'begin'); globalThis.asked = []; globalThis.number = 0")
+    run("globalThis.send = count => { for (; count > 0; count--) asked.push(outcome(many.send('/topic/order', ++number))); }")
+    run("send(30); globalThis.bad = many.subscribe('/topic/order', () => {}, { durable: 'd' }); send(30); globalThis.worse = many.send('nowhere', 'x'); send(30)")
+    run("globalThis.ended = many.subscribe('/topic/other', () => {}); ended.end(); send(30); globalThis.job = many.transaction(tx => { tx.send('/topic/order', 'never'); tx.send('nowhere', 'x'); }); send(30)")
+    run("await outcome(job); await soon(() => many.session); many.tell('nowhere', 'x'); send(30)")
+    checks.same("each SEND resolves", run("return [...new Set(await Promise.all(asked))]"), ["resolved"])
+    checks.same("what was refused is told so", run("return [await outcome(bad.ready), await outcome(worse), await outcome(job)]"), ["refused"] * 3)
+    checks.same("and each is heard, once", run("await soon(() => words.length > 180); return words"), ["begin", *map(str, range(1, 181))])
+    checks.same("by code", run("return many.errors.map(([error, it]) => [error.message.split(' ')[0], it === bad])"), [["E13", True], ["E8", False]])
+    run("many.close(); ear.close()")
+
+
+def silences(engine, broker, checks):
+    """a silent connection is told from an idle one, and its durable name waits"""
+    run = engine.value
+    run("globalThis.idle = open({ answerTimeout: 300 }); await idle.send('/topic/room', 'x'); globalThis.session = idle.session; await soon(() => false, 2)")
+    checks.same("an idle connection stays", run("return [idle.session == session, idle.states.map(([state]) => state)]"), [True, ["connecting", "open"]])
+    run("idle.close()")
+    with Relay(broker.port) as relay:
+        run(f"globalThis.direct = URL_; globalThis.URL_ = 'ws://127.0.0.1:{relay.port}/'; globalThis.tidings = []")
+        run("globalThis.kiosk = open({ clientId: 'silent', answerTimeout: 300, longestPause: 500 }); globalThis.URL_ = direct")
+        run("await kiosk.subscribe('/topic/news', it => tidings.push(it.body), { durable: 'd', ack: 'client' }).ready")
+        relay.cut()
+        checks.check("one that fell silent is left", run("return soon(() => kiosk.states.some(([state, , reason]) => state == 'lost' && /within 300 ms/.test(reason)))"))
+        checks.check("the broker holds its name still, and it is told so", run("return soon(() => kiosk.errors.length > 1 && kiosk.errors.every(([error]) => /^E14 /.test(error.message)))"))
+        checks.same("meanwhile a SEND resolves", run("return outcome(kiosk.send('/topic/news', 'meanwhile'))"), "resolved")
+        relay.end()
+        checks.same("once it does not, what waited comes", run("return [await soon(() => tidings.length), tidings]"), [True, ["meanwhile"]])
+        run("await kiosk.close()")
 
 
 def work_is_done(engine, broker, checks):
@@ -255,7 +293,7 @@ def kills_under_load(engine, broker, kills, checks):
     checks.check("and each that has resolved", {text for text, end in ends["pair"].items() if end == "resolved"} <= whole)
 
 
-TRIALS = [what_promises_say, work_is_done, durable_ones, a_lost_one_is_unknown, kills_under_load]
+TRIALS = [what_promises_say, around_refusals, silences, work_is_done, durable_ones, a_lost_one_is_unknown, kills_under_load]
 
 
 def run_trial(trial, engine, *more):
