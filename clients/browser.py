@@ -242,8 +242,18 @@ def a_job_is_handed_out_again(broker, checks, anna, ben):
     checks.check("the worker has a job in hand", ben.comes("inHand.length == 1"))
     broker.again()
     checks.check("after the kill it comes again, and is done", ben.rows_come("interrupted", ["received", "done"]), ben.states_of("interrupted"))
-    # The other hears that it is done only where it is back before that, as in any topic.
-    checks.same("the other still sees it receipted, once", [row[:2] for row in anna.states_of("interrupted")], [["sent", "receipted"]])
+    checks.check("the other sees it done", anna.rows_come("interrupted", ["sent", "receipted", "done"]), anna.states_of("interrupted"))
+    ben.toggle("work")
+    anna.write("job", "done while away")
+    checks.check("a job waits", anna.rows_come("done while away", ["sent", "receipted"]), anna.states_of("done while away"))
+    anna.value("document.getElementById('leave').click()")
+    checks.check("who added it leaves", anna.is_in("left"), anna.state())
+    ben.toggle("work")
+    checks.check("it is done meanwhile", ben.rows_come("done while away", ["received", "done"]), ben.states_of("done while away"))
+    broker.again()
+    anna.value("document.getElementById('port').focus()")
+    anna.press(ENTER)
+    checks.check("and seen so by who is back after that", anna.rows_come("done while away", ["sent", "receipted", "done"]), anna.states_of("done while away"))
 
 
 def a_keyboard_is_enough(broker, checks, anna, ben):

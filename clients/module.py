@@ -1,7 +1,7 @@
 #!/usr/bin/env python3
-"""examples/stompd.mjs in Node and in headless Chromium, over a broker that is killed and started again under load.
+"""examples/stompd.mjs in Node and in headless Chromium, over a broker that is killed and started again under load, and over a fake one.
 
-    python3 clients/module.py [PROGRAM] [--kills N] [--module PATH]
+    python3 clients/module.py [PROGRAM] [--kills N] [--only fake|real] [--engine Node|Chromium] [--module PATH]
 
 What a promise says is held against what comes: what has resolved is there, what was refused is not, and what is unknown may be. Needs Node 20 with
 Debian's node-ws or Node's own experimental WebSocket, and for the second part Chromium; what is missing is told at the end, with status 2 if there is
@@ -23,14 +23,16 @@ import threading
 import time
 import traceback
 
+import module_faults
 from chromium import BROWSERS, Browser
+from fake_broker import Relay
 from lib import scenario
 from lib.stomp_client import Client
 
 HERE = pathlib.Path(__file__).resolve().parent
 WS = pathlib.Path("/usr/share/nodejs/ws/index.js")
 # The longest wait for an answer of an engine.
-MOST_SECONDS = 60
+MOST_SECONDS = 90
 
 # What each trial begins with: how a promise ends, in a word, and a wait for what comes.
 WORDS = """
@@ -41,10 +43,13 @@ globalThis.soon = async (holds, seconds = 15) => {
   return holds();
 };
 globalThis.open = (options = {}) => {
-  const states = [];
-  const client = connect(URL_, { onstate: (state, detail) => states.push([state, detail.pause, detail.reason]), ...options });
-  return Object.assign(client, { states });
+  const states = [], errors = [], onstate = (state, { pause, reason }) => states.push([state, pause, reason]);
+  const client = connect(URL_, { onstate, onerror: (...told) => errors.push(told), ...options });
+  return Object.assign(client, { states, errors });
 };
+globalThis.unhandled = [];
+globalThis.process?.on("unhandledRejection", error => unhandled.push(String(error)));
+globalThis.addEventListener?.("unhandledrejection", event => unhandled.push(String(event.reason)));
 """
 
 
@@ -107,6 +112,13 @@ class Chromium:
         self.browser.close()
 
 
+def start_again(engine, broker, *clients):
+    """Kills the broker and serves its journal again, and waits until these clients have another session."""
+    engine.value(f"globalThis.again = [{', '.join(clients)}].map(client => [client, client.session])")
+    broker.again()
+    assert engine.value("return soon(() => again.every(([client, session]) => client.session && client.session != session))"), "a client has not come back"
+
+
 def what_promises_say(engine, broker, checks):
     """each promise ends as it should"""
     run = engine.value
@@ -121,8 +133,45 @@ def what_promises_say(engine, broker, checks):
     checks.same("a subscription that is refused is told so", run("return outcome(one.subscribe('/topic/room', () => {}, { durable: 'd' }).ready)"), "refused")
     checks.check("and does not come back", run("await one.send('/topic/room', 'on'); const many = one.states.length; await soon(() => false, 1.5); return one.state == 'open' && one.states.length == many"))
     checks.same("one without a receipt is heard", run("const told = one.tell('/topic/room', 'told'); return [told, await soon(() => heard.at(-1).body == 'told')]"), [True, True])
+    run("one.send('/topic/room', new Uint8Array([104, 0, 255]))")
+    checks.same("bytes come as such", run("await soon(() => heard.at(-1).bytes.length == 3); return [...heard.at(-1).body]"), [104, 0, 255])
     checks.same("while it connects nothing is told", run("const early = open(), told = early.tell('/topic/room', 'x'); await early.close(); return [told, early.state]"), [False, "closed"])
     checks.same("after the end a SEND is unsent", run("const other = open(); await other.close(); return [other.state, await outcome(other.send('/topic/room', 'x'))]"), ["closed", "unsent"])
+
+
+def around_refusals(engine, broker, checks):
+    """what is asked after something that is refused is carried out once, in order"""
+    run = engine.value
+    run("globalThis.ear = open(); globalThis.words = []; await ear.subscribe('/topic/order', it => words.push(it.body)).ready")
+    run("globalThis.many = open({ longestPause: 500 }); await many.send('/topic/order', 'begin'); globalThis.asked = []; globalThis.number = 0")
+    run("globalThis.send = count => { for (; count > 0; count--) asked.push(outcome(many.send('/topic/order', ++number))); }")
+    run("send(30); globalThis.bad = many.subscribe('/topic/order', () => {}, { durable: 'd' }); send(30); globalThis.worse = many.send('nowhere', 'x'); send(30)")
+    run("globalThis.ended = many.subscribe('/topic/other', () => {}); ended.end(); send(30); globalThis.job = many.transaction(tx => { tx.send('/topic/order', 'never'); tx.send('nowhere', 'x'); }); send(30)")
+    run("await outcome(job); await soon(() => many.session); many.tell('nowhere', 'x'); send(30)")
+    checks.same("each SEND resolves", run("return [...new Set(await Promise.all(asked))]"), ["resolved"])
+    checks.same("what was refused is told so", run("return [await outcome(bad.ready), await outcome(worse), await outcome(job)]"), ["refused"] * 3)
+    checks.same("and each is heard, once", run("await soon(() => words.length > 180); return words"), ["begin", *map(str, range(1, 181))])
+    checks.same("by code", run("return many.errors.map(([error, it]) => [error.message.split(' ')[0], it === bad])"), [["E13", True], ["E8", False]])
+    run("many.close(); ear.close()")
+
+
+def silences(engine, broker, checks):
+    """a silent connection is told from an idle one, and its durable name waits"""
+    run = engine.value
+    run("globalThis.idle = open({ answerTimeout: 300 }); await idle.send('/topic/room', 'x'); globalThis.session = idle.session; await soon(() => false, 2)")
+    checks.same("an idle connection stays", run("return [idle.session == session, idle.states.map(([state]) => state)]"), [True, ["connecting", "open"]])
+    run("idle.close()")
+    with Relay(broker.port) as relay:
+        run(f"globalThis.direct = URL_; globalThis.URL_ = 'ws://127.0.0.1:{relay.port}/'; globalThis.tidings = []")
+        run("globalThis.kiosk = open({ clientId: 'silent', answerTimeout: 300, longestPause: 500 }); globalThis.URL_ = direct")
+        run("await kiosk.subscribe('/topic/news', it => tidings.push(it.body), { durable: 'd', ack: 'client' }).ready")
+        relay.cut()
+        checks.check("one that fell silent is left", run("return soon(() => kiosk.states.some(([state, , reason]) => state == 'lost' && /within 300 ms/.test(reason)))"))
+        checks.check("the broker holds its name still, and it is told so", run("return soon(() => kiosk.errors.length > 1 && kiosk.errors.every(([error]) => /^E14 /.test(error.message)))"))
+        checks.same("meanwhile a SEND resolves", run("return outcome(kiosk.send('/topic/news', 'meanwhile'))"), "resolved")
+        relay.end()
+        checks.same("once it does not, what waited comes", run("return [await soon(() => tidings.length), tidings]"), [True, ["meanwhile"]])
+        run("await kiosk.close()")
 
 
 def work_is_done(engine, broker, checks):
@@ -133,10 +182,11 @@ def work_is_done(engine, broker, checks):
     checks.same("one that does not resolves", run("return outcome(one.transaction(async tx => { tx.send('/queue/jobs', 'a'); await null; tx.send('/queue/jobs', 'b'); tx.send('/queue/jobs', 'c'); }))"), "resolved")
     checks.same("and all of it comes, in order", run("await soon(() => jobs.length >= 3); return jobs.map(it => it.body)"), ["a", "b", "c"])
     checks.same("a refused transaction is told so", run("return outcome(one.transaction(tx => { tx.send('/queue/jobs', 'd'); tx.send('nowhere', 'x'); }))"), "refused")
-    checks.same("also where only its COMMIT is", run("return outcome(one.transaction(tx => { tx.send('/queue/jobs', 'd'); tx.ack({ frame: () => ['ACK', { id: '9.99' }] }); }))"), "refused")
+    run("globalThis.two = open(); globalThis.twice = []; await two.subscribe('/queue/twice', it => twice.push(it), { ack: 'client' }).ready; await one.send('/queue/twice', 'x')")
+    checks.same("also where only its COMMIT is", run("await soon(() => twice.length); return outcome(two.transaction(tx => { tx.ack(twice[0]); tx.ack(twice[0]); }))"), "refused")
     checks.same("an ACK and a NACK resolve", run("return [await outcome(jobs[0].ack()), await outcome(jobs[1].nack())]"), ["resolved", "resolved"])
-    broker.again()
-    checks.same("an ACK of a session that is over is unsent", run("await soon(() => worker.state == 'open' && jobs.length == 4); return outcome(jobs[2].ack())"), "unsent")
+    start_again(engine, broker, "one", "worker")
+    checks.same("an ACK of a session that is over is unsent", run("await soon(() => jobs.length == 4); return outcome(jobs[2].ack())"), "unsent")
     checks.same("its message has come again, and nothing else", run("return jobs.slice(3).map(it => it.body)"), ["c"])
     checks.same("in a transaction too, of which nothing is sent", run("return outcome(worker.transaction(tx => { tx.send('/queue/jobs', 'e'); tx.ack(jobs[2]); }))"), "unsent")
     checks.same("an ACK in a transaction resolves", run("return outcome(worker.transaction(tx => { tx.ack(jobs[3]); }))"), "resolved")
@@ -154,8 +204,8 @@ def durable_ones(engine, broker, checks):
     run("await kiosk.close(); await one.send('/topic/news', 'while away')")
     run("globalThis.kiosk = open(who); globalThis.paper = kiosk.subscribe('/topic/news', it => news.push(it.body), { durable: 'd' }); await paper.ready")
     checks.same("what was sent while it was away comes", run("await soon(() => news.length); return news"), ["while away"])
-    broker.again()
-    checks.same("after a kill it is there by itself", run("await soon(() => kiosk.state == 'open' && one.state == 'open'); await one.send('/topic/news', 'after'); await soon(() => news.length > 1); return news"), ["while away", "after"])
+    start_again(engine, broker, "one", "kiosk")
+    checks.same("after a kill it is there by itself", run("await one.send('/topic/news', 'after'); await soon(() => news.length > 1); return news"), ["while away", "after"])
     checks.same("it is given up", run("return outcome(paper.giveUp())"), "resolved")
     run("await one.send('/topic/news', 'unread')")
     checks.check("and nothing waits under its name any more", b"kiosk" not in subprocess.run([broker.program, "held", broker.journal], capture_output=True, check=True).stdout)
@@ -165,18 +215,17 @@ def durable_ones(engine, broker, checks):
 def a_lost_one_is_unknown(engine, broker, checks):
     """a SEND whose receipt had not come is unknown, and pauses grow"""
     run = engine.value
-    run("await soon(() => one.state == 'open'); one.states.length = 0")
-    broker.process.send_signal(signal.SIGSTOP)
-    run("globalThis.doubt = [outcome(one.send('/queue/doubt', 'x')), outcome(one.transaction(tx => tx.send('/queue/doubt', 'y')))]")
-    time.sleep(0.2)
-    broker.kill()
+    run("globalThis.one = open(); await one.send('/queue/doubt', 'first'); one.states.length = 0")
+    with broker.standing_still():
+        run("globalThis.doubt = [outcome(one.send('/queue/doubt', 'x')), outcome(one.transaction(tx => tx.send('/queue/doubt', 'y')))]")
+        broker.kill()
     checks.same("it is told apart from one that is refused", run("return Promise.all(doubt)"), ["unknown", "unknown"])
-    checks.same("without a connection nothing is told", run("await soon(() => one.state != 'open'); return one.tell('/topic/room', 'x')"), False)
+    checks.same("without a connection nothing is told", run("return one.tell('/topic/room', 'x')"), False)
     run("globalThis.late = one.send('/queue/late', 'late')")
-    time.sleep(8)
+    run("return soon(() => one.states.filter(([state]) => state == 'lost').length >= 4, 40)")
     pauses = [pause for state, pause, _ in run("return one.states") if state == "lost"]
     expected = [500 * 2**number for number in range(len(pauses))]
-    checks.check("the pauses grow twofold", len(pauses) in (4, 5) and all(0.75 * it <= pause <= 1.25 * it for pause, it in zip(pauses, expected)), pauses)
+    checks.check("the pauses grow twofold", len(pauses) >= 4 and all(0.75 * it <= pause <= 1.25 * it for pause, it in zip(pauses, expected)), pauses)
     checks.check("with jitter", len({round(pause / it, 3) for pause, it in zip(pauses, expected)}) > 1, pauses)
     broker.serve()
     checks.same("what was sent meanwhile waited, and resolves", run("return outcome(late)"), "resolved")
@@ -189,32 +238,48 @@ globalThis.seen = [];
 globalThis.pairs = [];
 globalThis.ends = { send: {}, pair: {} };
 const receiving = { ack: 'client-individual' };
-globalThis.reader = open({ clientId: 'reader' });
+// Pauses stay short, so that readers come back before too much waits for them, and senders wait for readers that are slow.
+const short = { longestPause: 500 };
+globalThis.reader = open({ clientId: 'reader', ...short });
 await reader.subscribe('/topic/load', it => { seen.push(it.body); outcome(it.ack()); }, { ...receiving, durable: 'load' }).ready;
-globalThis.taker = open();
+globalThis.taker = open(short);
 await taker.subscribe('/queue/pairs', it => { pairs.push(it.body); outcome(it.ack()); }, receiving).ready;
-globalThis.sender = open();
+globalThis.sender = open(short);
+globalThis.resolved = 0;
+let sent = 0;
 const loop = async (name, act) => {
-  for (let number = 0; going; number++) ends[name.split(' ')[0]][`${name} ${number}`] = await outcome(act(`${name} ${number}`));
+  for (let number = 0; going; number++) {
+    const end = await outcome(act(`${name} ${number}`));
+    ends[name.split(' ')[0]][`${name} ${number}`] = end;
+    if (name != 'pair' && end == 'resolved') resolved++;
+    sent += name == 'pair' ? 2 : 1;
+    await soon(() => sent < seen.length + pairs.length + 1000, 20);
+  }
 };
 globalThis.loops = [0, 1, 2, 3].map(it => loop(`send ${it}`, text => sender.send('/topic/load', text)));
 loops.push(loop('pair', text => sender.transaction(tx => { tx.send('/queue/pairs', `${text} a`); tx.send('/queue/pairs', `${text} b`); })));
 """
 
 
-def kills_under_load(engine, broker, checks, kills):
+def under_way(engine, checks):
+    """Waits until a further fifty SENDs have resolved."""
+    if not engine.value("const before = resolved; return soon(() => resolved > before + 50, 60)"):
+        checks.check("the load goes on", False, engine.value("return [sender.state, resolved, seen.length, pairs.length]"))
+
+
+def kills_under_load(engine, broker, kills, checks):
     """what a promise said is so, after many kills"""
     run = engine.value
     run(LOAD)
     for _ in range(kills):
-        time.sleep(random.uniform(0.3, 1.2))
+        under_way(engine, checks)
+        time.sleep(random.uniform(0, 0.5))
         broker.kill()
         time.sleep(random.uniform(0, 0.5))
         broker.serve()
-        run("return soon(() => sender.state == 'open')")
-    time.sleep(0.5)
+    under_way(engine, checks)
     run("going = false; await Promise.all(loops); await sender.send('/topic/load', 'end'); await sender.send('/queue/pairs', 'end')")
-    checks.check("both readers come to the end", run("return soon(() => seen.includes('end') && pairs.includes('end'), 30)"))
+    checks.check("both readers come to the end", run("return soon(() => seen.includes('end') && pairs.includes('end'), 60)"))
     ends, seen, pairs = run("return [ends, seen, pairs]")
     by = {kind: {text for text, end in ends["send"].items() if end == kind} for kind in ("resolved", "unknown")}
     checks.tell(f"{kills} kills: {len(by['resolved'])} SENDs resolved, {len(by['unknown'])} unknown, {len(ends['pair'])} transactions")
@@ -228,28 +293,38 @@ def kills_under_load(engine, broker, checks, kills):
     checks.check("and each that has resolved", {text for text, end in ends["pair"].items() if end == "resolved"} <= whole)
 
 
-TRIALS = [what_promises_say, work_is_done, durable_ones, a_lost_one_is_unknown, kills_under_load]
+TRIALS = [what_promises_say, around_refusals, silences, work_is_done, durable_ones, a_lost_one_is_unknown, kills_under_load]
 
 
-def run_trial(trial, engine, broker, checks, kills):
+def run_trial(trial, engine, *more):
     """Runs a trial. What it raises is a failed check."""
+    *_, checks = more
     print(f"{engine.name}: {trial.__doc__}", flush=True)
     try:
-        trial(engine, broker, checks, *([kills] if trial is kills_under_load else []))
+        trial(engine, *more)
     except Exception as error:
         traceback.print_exc()
         checks.check(f"{trial.__name__} runs to its end", False, error)
-    if not broker.is_running():
-        broker.serve()
 
 
-def try_engine(kind, folder, program, kills, checks):
+def try_over_the_broker(engine, words, checks):
+    with scenario.serving(words.program) as broker:
+        engine.value(f"globalThis.URL_ = 'ws://127.0.0.1:{broker.port}/'")
+        for trial in TRIALS:
+            run_trial(trial, engine, broker, *([words.kills] if trial is kills_under_load else []), checks)
+            if not broker.is_running():
+                broker.serve()
+
+
+def try_engine(kind, folder, words, checks):
     engine = kind(folder)
     try:
-        with scenario.serving(program) as broker:
-            engine.value(f"globalThis.URL_ = 'ws://127.0.0.1:{broker.port}/'; {WORDS}")
-            for trial in TRIALS:
-                run_trial(trial, engine, broker, checks, kills)
+        engine.value(WORDS)
+        if words.only != "real":
+            for trial in module_faults.TRIALS:
+                run_trial(trial, engine, checks)
+        if words.only != "fake":
+            try_over_the_broker(engine, words, checks)
     finally:
         engine.close()
 
@@ -257,14 +332,16 @@ def try_engine(kind, folder, program, kills, checks):
 def main():
     parser = scenario.words_of(__doc__)
     parser.add_argument("--kills", type=int, default=20)
+    parser.add_argument("--only", choices=["fake", "real"], help="the trials over a fake broker, or over the real one")
+    parser.add_argument("--engine", choices=["Node", "Chromium"], help="in this one alone")
     parser.add_argument("--module", type=pathlib.Path, default=HERE.parent / "examples")
     words = parser.parse_args()
-    engines = [kind for kind, is_there in ((Node, shutil.which("node")), (Chromium, any(map(shutil.which, BROWSERS)))) if is_there]
+    engines = [kind for kind, is_there in ((Node, shutil.which("node")), (Chromium, any(map(shutil.which, BROWSERS)))) if is_there and words.engine in (None, kind.name)]
     checks = scenario.Checks()
     for kind in engines:
         with tempfile.TemporaryDirectory(prefix="stompd-module-", ignore_cleanup_errors=True) as folder:
             shutil.copytree(words.module, pathlib.Path(folder) / "examples")
-            try_engine(kind, pathlib.Path(folder), words.program, words.kills, checks)
+            try_engine(kind, pathlib.Path(folder), words, checks)
     print(f"{len(engines)} of 2 were there: {', '.join(kind.name for kind in engines)}")
     return 1 if checks.failed else 0 if Node in engines else 2
 

@@ -3,227 +3,442 @@
 (() => {
 "use strict";
 
+const NOTHING = () => {};
+/* What each option means stands in stompd.d.mts. */
+const TIMES = { shortestPause: 500, longestPause: 8_000, answerTimeout: 15_000, waitTimeout: 60_000, closeTimeout: 5_000 };
+const DEFAULTS = { ...TIMES, mostWaiting: 10_000, onstate: NOTHING, onerror: error => console.error(error) };
+const NO_WEBSOCKET = "there is no WebSocket: use Node 22, start Node 20 with --experimental-websocket, or give connect that of the package ws";
+/* Bytes that may wait in a socket before what is only told is left out. */
+const MOST_BUFFERED = 1 << 20;
+/* Headers that only the module sets. */
+const OWN_HEADERS = ["content-length", "receipt", "transaction"];
+
+/* Why a promise was rejected. `refused`: the broker has answered it with an ERROR, and it is not in the journal. `unknown`: the connection was lost
+   before the receipt, so it may be in the journal or not. `unsent`: it was never sent or not carried out, so it is not there. */
+class StompdError extends Error {
+  constructor(kind, message) { Object.assign(super(message), { name: "StompdError", kind }); }
+}
+const unsent = message => new StompdError("unsent", message);
+
+/* A promise that nobody has to await: its rejection reaches those who do, and ends no program. */
+function leavable(promise) {
+  promise.catch(NOTHING);
+  return promise;
+}
+
+/* A timer. One of more than 24 days, such as `Infinity`, never fires. */
+const after = (milliseconds, act) => milliseconds < 2 ** 31 ? setTimeout(act, milliseconds) : undefined;
+
 const ESCAPES = { "\\": "\\\\", "\r": "\\r", "\n": "\\n", ":": "\\c" }, MEANINGS = { "\\": "\\", r: "\r", n: "\n", c: ":" };
 const escaped = text => String(text).replace(/[\\\r\n:]/g, letter => ESCAPES[letter]);
 const unescaped = text => text.replace(/\\(.)/g, (_, letter) => MEANINGS[letter]);
-const bytesOf = text => new TextEncoder().encode(text).length;
-const NOTHING = () => {};
+const encoder = new TextEncoder(), decoder = new TextDecoder("utf-8", { fatal: true, ignoreBOM: true });
 
-/* A frame as it stands on the wire. CONNECT has no escapes. */
-function written([command, headers, body = ""]) {
-  const spell = command == "CONNECT" ? String : escaped;
-  const lines = Object.entries(headers).map(([name, value]) => `${spell(name)}:${spell(value)}\n`);
-  if (body) lines.push(`content-length:${bytesOf(body)}\n`);
-  return `${command}\n${lines.join("")}\n${body}\0`;
+/* A body is text or bytes. Bytes are copied, since the frame may have to wait. */
+function bodyOf(body) {
+  if (body === undefined || body === null) return "";
+  if (body instanceof ArrayBuffer) return new Uint8Array(body.slice(0));
+  if (ArrayBuffer.isView(body)) return new Uint8Array(body.buffer, body.byteOffset, body.byteLength).slice();
+  if (["object", "function", "symbol"].includes(typeof body)) throw unsent(`a body is a text or bytes, and no ${typeof body}`);
+  return String(body);
 }
 
-/* Each message of the broker holds one frame. Of a repeated header the first counts. */
-function read(text) {
-  const end = text.indexOf("\n\n"), [command, ...lines] = text.slice(0, end).split("\n"), headers = {};
+/* Headers of the caller, of which those without a value are left out. */
+const given = headers => Object.fromEntries(Object.entries(headers).filter(([name, value]) => value != null && !OWN_HEADERS.includes(name)));
+
+const sendFrame = (destination, body, headers) => ["SEND", { ...given(headers), destination }, bodyOf(body)];
+
+/* A frame as it stands on the wire: text if its body is one, else bytes. CONNECT has no escapes. */
+function written([command, headers, body = ""]) {
+  const spell = command == "CONNECT" ? String : escaped, isText = typeof body == "string";
+  const lines = Object.entries(headers).map(([name, value]) => `${spell(name)}:${spell(value)}\n`);
+  if (body.length) lines.push(`content-length:${isText ? encoder.encode(body).length : body.length}\n`);
+  const head = `${command}\n${lines.join("")}\n`;
+  if (head.includes("\0")) throw unsent("a header has a NUL, which no frame can carry");
+  if (isText) return `${head}${body}\0`;
+  const start = encoder.encode(head), whole = new Uint8Array(start.length + body.length + 1);
+  whole.set(start);
+  whole.set(body, start.length);
+  return whole;
+}
+
+/* The head and the body of what has come. The broker sends a frame as Binary if it is not UTF-8; then its body stays bytes. */
+function parted(data) {
+  const isText = typeof data == "string", whole = isText ? data : new Uint8Array(data);
+  const end = isText ? data.indexOf("\n\n") : whole.findIndex((byte, place) => byte == 10 && whole[place + 1] == 10);
+  return [textOf(whole.slice(0, end)), textOf(whole.slice(end + 2, -1))];
+}
+function textOf(whole) {
+  if (typeof whole == "string") return whole;
+  try { return decoder.decode(whole); } catch { return whole; }
+}
+
+/* Each message of the broker holds one frame. Of a repeated header the first counts. A header may have any name, as `constructor`. */
+function read(data) {
+  const [head, body] = parted(data), [command, ...lines] = head.split("\n"), headers = Object.create(null);
   const spell = command == "CONNECTED" ? String : unescaped;
   for (const line of lines) headers[spell(line.slice(0, line.indexOf(":")))] ??= spell(line.slice(line.indexOf(":") + 1));
-  return { command, headers, body: text.slice(end + 2, -1) };
-}
-
-/* Why a promise was rejected. `refused`: the broker has answered it with an ERROR, and it is not in the journal. `unknown`: the connection was lost
-   before the receipt, so it may be in the journal or not. `unsent`: it never left, so it is not there. */
-class StompdError extends Error {
-  constructor(kind, message) {
-    super(message);
-    Object.assign(this, { name: "StompdError", kind });
-  }
+  return { command, headers, body };
 }
 
 /* What came for a subscription. */
 class Message {
-  #client; #session;
-  constructor(client, session, headers, body) {
+  #client; #link; #subscription;
+  constructor(client, link, subscription, headers, body) {
     Object.assign(this, { headers, body });
     this.#client = client;
-    this.#session = session;
+    this.#link = link;
+    this.#subscription = subscription;
   }
-  ack() { return this.#client.ask(() => [this.frame("ACK")]); }
-  nack() { return this.#client.ask(() => [this.frame("NACK")]); }
-  /* An acknowledgement belongs to the session that the message came in. In a later one the message comes again, or is another's. */
-  frame(command) {
-    if (this.#session !== this.#client.session) throw new StompdError("unsent", "the session that this message came in is over");
+  get bytes() { return typeof this.body == "string" ? encoder.encode(this.body) : this.body; }
+  ack() { return this.#client.ask(() => [this.frame("ACK", this.#client)]); }
+  nack() { return this.#client.ask(() => [this.frame("NACK", this.#client)]); }
+  /* An acknowledgement belongs to the connection that the message came by, and to its subscription. After these it comes again, or is another's. */
+  frame(command, client) {
+    if (this.headers.ack === undefined) throw unsent("a message of an auto subscription is not acknowledged");
+    if (!client.isOpen(this.#link)) throw unsent("the session that this message came in is over");
+    if (this.#subscription.isEnded) throw unsent("the subscription that this message came for has ended");
     return [command, { id: this.headers.ack }];
   }
 }
 
 /* A subscription, which comes back with each session until it is ended or refused. */
 class Subscription {
+  /* Contested: its durable name was in use when it was last asked for. */
+  isReady = false; isEnded = false; isContested = false;
   constructor(client, id, headers, heard) {
     Object.assign(this, { client, id, headers, heard });
-    /* Resolves once the broker has it in its journal, and is rejected if it is refused. */
-    this.ready = new Promise((resolve, reject) => Object.assign(this, { resolve, reject }));
-    this.ready.catch(NOTHING);
+    /* Resolves once the broker has it in its journal, and is rejected if it is refused or ended before. */
+    this.ready = leavable(new Promise((resolve, reject) => Object.assign(this, { resolve, reject })));
   }
   /* Ends it. What waits under a durable name goes on waiting. */
   end() {
-    const wasThere = this.client.drop(this);
-    if (!wasThere || !this.client.session) return Promise.resolve();
-    return this.client.ask(() => [["UNSUBSCRIBE", { id: this.id }]]);
+    const link = this.client.drop(this);
+    if (!link) return Promise.resolve();
+    const make = () => {
+      if (!this.client.isOpen(link)) throw unsent("its session is over");
+      return [["UNSUBSCRIBE", { id: this.id }]];
+    };
+    // If its session ends first, so does it.
+    return leavable(this.client.ask(make, () => link.forget(this)).catch(error => { if (error.kind == "refused") throw error; }));
   }
   /* Ends a durable one for good: its name is given up, with all that waits under it. */
   giveUp() {
-    this.client.drop(this);
     const name = this.headers["activemq.subscriptionName"];
-    return this.client.ask(() => [["UNSUBSCRIBE", { id: this.id, "activemq.subscriptionName": name }]]);
+    if (name === undefined) return leavable(Promise.reject(unsent("only a durable subscription has a name to give up")));
+    const link = this.client.drop(this);
+    return this.client.ask(() => [["UNSUBSCRIBE", { id: this.id, "activemq.subscriptionName": name }]], () => link?.forget(this));
   }
 }
 
 /* What a transaction is made of. */
 class Transaction {
-  makers = [];
-  send(destination, body, headers = {}) { this.makers.push(() => ["SEND", { ...headers, destination }, body]); }
-  ack(message) { this.makers.push(() => message.frame("ACK")); }
-  nack(message) { this.makers.push(() => message.frame("NACK")); }
+  constructor(client) { Object.assign(this, { client, makers: [] }); }
+  send(destination, body, headers = {}) {
+    const frame = sendFrame(destination, body, headers);
+    this.makers.push(() => frame);
+  }
+  ack(message) { this.makers.push(() => message.frame("ACK", this.client)); }
+  nack(message) { this.makers.push(() => message.frame("NACK", this.client)); }
+}
+
+/* What is told has no answer unless it is refused. */
+const TOLD = { isTold: true, reject: NOTHING };
+/* An idle connection is asked for something that changes nothing. */
+const PROBE = { make: () => [["BEGIN", { transaction: "probe" }], ["ABORT", { transaction: "probe" }]], resolve: NOTHING, reject: NOTHING };
+
+/* A connection, with what was asked on it and has no answer yet. Answers come in the order of what they answer. */
+class Link {
+  session = null;
+  isOver = false;
+  /* Subscriptions whose end has no receipt yet. */
+  ending = [];
+  #socket; #timer; #on; #openedAt; #count = 0; #asked = new Map(); #isToldLast = false;
+  /* Whether nothing was heard since the last look, and whether an answer was due then. */
+  #isQuiet = true; #wasDue = true;
+
+  /* `on` is called with what happens: opened, heard, refused, over. */
+  constructor(url, { WebSocket, clientId, answerTimeout }, on) {
+    this.#on = on;
+    const socket = this.#socket = new WebSocket(url, "v12.stomp");
+    socket.binaryType = "arraybuffer";
+    socket.onopen = () => this.write([["CONNECT", { "accept-version": "1.2", ...(clientId ? { "client-id": clientId } : {}) }]]);
+    socket.onmessage = ({ data }) => this.#hear(data);
+    // A close may follow or not, as in Node 20, where nobody listens.
+    socket.onerror = () => this.end({ code: 1006 });
+    socket.onclose = ({ code }) => this.end({ code });
+    this.#watch(answerTimeout);
+  }
+  get count() { return this.#asked.size; }
+  lasted() { return this.#openedAt === undefined ? 0 : performance.now() - this.#openedAt; }
+  forget(subscription) { this.ending = this.ending.filter(it => it !== subscription); }
+  write(frames) {
+    // If one can't be written, none is sent.
+    for (const text of frames.map(written)) this.#socket.send(text);
+  }
+  /* Sends what has no receipt, unless too much waits already. Whether it did. */
+  tell(frame) {
+    if (this.#socket.bufferedAmount > MOST_BUFFERED) return false;
+    this.write([frame]);
+    if (!this.#isToldLast) this.#asked.set(`told ${++this.#count}`, TOLD);
+    this.#isToldLast = true;
+    return true;
+  }
+  /* Sends the frames of a post, whose last one asks for a receipt. */
+  post(post) {
+    const frames = post.make(), [command, headers, body] = frames.at(-1), receipt = `receipt ${++this.#count}`;
+    this.write([...frames.slice(0, -1), [command, { ...headers, receipt }, body]]);
+    this.#asked.set(receipt, post);
+    this.#isToldLast = false;
+  }
+  /* Is over, by itself or since it is left. An engine may wait long for the end of a dead socket, so nobody waits for it here. */
+  end(detail) {
+    if (this.isOver) return;
+    this.isOver = true;
+    this.session = null;
+    clearTimeout(this.#timer);
+    Object.assign(this.#socket, { onopen: NOTHING, onmessage: NOTHING, onclose: NOTHING });
+    this.#socket.close();
+    const posts = [...this.#asked.values()];
+    this.#asked.clear();
+    this.#on.over(posts, detail);
+  }
+
+  #hear(data) {
+    this.#isQuiet = false;
+    let frame;
+    try { frame = read(data); } catch { return this.end({ reason: "what came is no STOMP" }); }
+    const { command, headers } = frame;
+    if (command == "MESSAGE") this.#on.heard(frame);
+    else if (command == "RECEIPT") this.#accept(headers["receipt-id"]);
+    else if (command == "ERROR") this.#refuse(headers["receipt-id"], headers.message);
+    else if (command == "CONNECTED") {
+      this.session = headers.session;
+      this.#openedAt = performance.now();
+      this.#on.opened();
+    }
+  }
+  #accept(receipt) {
+    const post = this.#asked.get(receipt);
+    if (!post) return;                         // that of a DISCONNECT
+    // What was told before it was accepted too.
+    for (const [key, it] of this.#asked) {
+      if (it === post) break;
+      if (it.isTold) this.#asked.delete(key);
+    }
+    this.#asked.delete(receipt);
+    post.resolve();
+  }
+  /* The session is over with a refusal, and what was asked after it is not carried out. An ERROR that names no receipt is of a frame without one,
+     or of one that could not be read: the first that has no answer yet. */
+  #refuse(receipt, message) {
+    this.session = null;
+    const asked = [...this.#asked], place = receipt === undefined ? 0 : asked.findIndex(([key]) => key == receipt);
+    const posts = asked.map(([, post]) => post);
+    this.#asked = new Map(place < 0 ? asked : asked.slice(0, place));
+    this.#on.refused(posts[place], place < 0 ? [] : posts.slice(place + 1), new StompdError("refused", message));
+  }
+  /* A connection that was quiet for a whole period is asked, and one that owed an answer all the while is dead. */
+  #watch(period) { this.#timer = after(period, () => this.#look(period)); }
+  #look(period) {
+    if (this.#isQuiet && this.#wasDue) return this.end({ reason: `no answer within ${period} ms` });
+    const isDue = () => !this.session || [...this.#asked.values()].some(it => !it.isTold);
+    if (this.#isQuiet && !isDue()) this.post(PROBE);
+    this.#isQuiet = true;
+    this.#wasDue = isDue();
+    this.#watch(period);
+  }
 }
 
 class Client {
-  #url; #options; #socket; #timer; #pause; #refusal; #count = 0; #isWanted = true;
-  #subscriptions = new Map(); #pending = new Map(); #waiting = []; #closing = [];
-  /* connecting, open, lost, refused or closed; and the session that is open, or null. */
+  #url; #options; #link; #timer; #pause; #refusal; #count = 0; #isWanted = true;
+  #subscriptions = new Map(); #waiting = new Set(); #closing = [];
+  /* connecting, open, lost, refused or closed. */
   state = "connecting";
-  session = null;
 
   constructor(url, options) {
     this.#url = url;
-    this.#options = { shortestPause: 500, longestPause: 8000, onstate: NOTHING, WebSocket: globalThis.WebSocket, ...options };
+    this.#options = { ...DEFAULTS, WebSocket: globalThis.WebSocket, ...options };
     this.#pause = this.#options.shortestPause;
+    if (typeof this.#options.WebSocket != "function") throw unsent(NO_WEBSOCKET);
+    if (/[\r\n\0]/.test(this.#options.clientId)) throw unsent("a clientId has no end of a line and no NUL");
     this.#start();
   }
 
-  /* Resolves at the receipt. Without a connection it waits for one. */
-  send(destination, body, headers = {}) { return this.ask(() => [["SEND", { ...headers, destination }, body]]); }
+  /* The session that is open, or null. */
+  get session() { return this.#link?.session ?? null; }
 
-  /* Sends without a receipt, for what is worth nothing later; without a connection it does nothing. Whether it was sent. */
+  /* Resolves at the receipt. Without a connection it waits for one. */
+  send(destination, body, headers = {}) {
+    return leavable((async () => {
+      const frame = sendFrame(destination, body, headers);
+      this.#hasRoom();
+      await this.ask(() => [frame]);
+    })());
+  }
+
+  /* Sends without a receipt, for what is worth nothing later; without a connection, or if it is slow, it does nothing. Whether it was sent. */
   tell(destination, body, headers = {}) {
-    if (this.session) this.#write(["SEND", { ...headers, destination }, body]);
-    return this.session !== null;
+    const frame = sendFrame(destination, body, headers);
+    return this.session !== null && this.#link.tell(frame);
   }
 
   /* Options: ack (auto, client, client-individual), durable (a name; the client needs a clientId then), id, headers. */
   subscribe(destination, heard, { ack = "auto", durable, id = `subscription ${++this.#count}`, headers = {} } = {}) {
-    if (this.#subscriptions.has(id)) throw new StompdError("unsent", `there is a subscription ${id}`);
+    if (this.#subscriptions.has(id)) throw unsent(`there is a subscription ${id}`);
     const name = durable === undefined ? {} : { "activemq.subscriptionName": durable };
-    const subscription = new Subscription(this, id, { ...headers, destination, ack, ...name }, heard);
+    const subscription = new Subscription(this, id, { ...given(headers), destination, ack, ...name }, heard);
     this.#subscriptions.set(id, subscription);
-    if (this.session) this.#open(subscription);
+    if (!this.#isWanted) this.drop(subscription);
+    else if (this.session) this.#open(subscription);
     return subscription;
   }
 
   /* Carries out all that `work` puts into the transaction, or nothing. Nothing is sent before `work` is done, so what it throws leaves nothing. */
-  async transaction(work) {
-    const made = new Transaction();
-    await work(made);
-    const transaction = `transaction ${++this.#count}`;
-    await this.ask(() => {
-      const members = made.makers.map(make => make()).map(([command, headers, body]) => [command, { ...headers, transaction }, body]);
-      return [["BEGIN", { transaction }], ...members, ["COMMIT", { transaction }]];
-    });
+  transaction(work) {
+    return leavable((async () => {
+      const made = new Transaction(this), transaction = `transaction ${++this.#count}`;
+      await work(made);
+      this.#hasRoom();
+      await this.ask(() => {
+        const members = made.makers.map(make => make()).map(([command, headers, body]) => [command, { ...headers, transaction }, body]);
+        return [["BEGIN", { transaction }], ...members, ["COMMIT", { transaction }]];
+      });
+    })());
   }
 
   /* Leaves. What has no receipt yet gets it, if the connection holds; what waited for a connection is rejected as unsent. */
   close() {
     if (this.state == "closed") return Promise.resolve();
-    clearTimeout(this.#timer);
-    this.#isWanted = false;
     const closed = new Promise(resolve => this.#closing.push(resolve));
-    if (this.session) this.#write(["DISCONNECT", { receipt: "bye" }]);
-    else if (this.#socket.readyState < 2) this.#socket.close();
-    else if (this.#socket.readyState == 3) this.#isOver(1000);
+    if (!this.#isWanted) return closed;
+    this.#isWanted = false;
+    clearTimeout(this.#timer);
+    const link = this.#link, { closeTimeout } = this.#options;
+    if (this.session) {
+      link.write([["DISCONNECT", { receipt: "bye" }]]);
+      this.#timer = after(closeTimeout, () => link.end({ reason: `no answer to the DISCONNECT within ${closeTimeout} ms` }));
+    } else if (link.isOver) this.#isClosed({ code: 1000 });
+    else link.end({ code: 1000 });
     return closed;
   }
 
   /* For the classes above: asks for what the frames say, whose last one asks for a receipt. They are made once there is a connection. */
-  ask(make) {
-    if (!this.#isWanted) return Promise.reject(new StompdError("unsent", "the client is closed"));
-    return new Promise((resolve, reject) => {
-      const post = { make, resolve, reject };
-      if (this.session) this.#post(post); else this.#waiting.push(post);
-    });
+  ask(make, accepted = NOTHING) {
+    return leavable(new Promise((resolve, reject) => {
+      if (!this.#isWanted) throw unsent("the client is closed");
+      const post = { make, reject, resolve: () => { accepted(); resolve(); }, waits: true };
+      if (this.session) return this.#post(post);
+      make();                                  // what can't be sent later either is told now
+      this.#wait(post);
+    }));
   }
+  isOpen(link) { return link === this.#link && link.session !== null; }
+  /* Forgets a subscription, and answers the connection that has it. */
   drop(subscription) {
-    if (this.#subscriptions.get(subscription.id) !== subscription) return false;
-    return this.#subscriptions.delete(subscription.id);
+    if (this.#subscriptions.get(subscription.id) !== subscription) return null;
+    this.#subscriptions.delete(subscription.id);
+    subscription.isEnded = true;
+    subscription.reject(unsent("the subscription was ended before it was ready"));
+    if (!this.session) return null;
+    this.#link.ending.push(subscription);
+    return this.#link;
   }
 
   #start() {
     this.#refusal = null;
     this.#tell("connecting");
-    const socket = this.#socket = new this.#options.WebSocket(this.#url, "v12.stomp"), { clientId } = this.#options;
-    socket.binaryType = "arraybuffer";
-    socket.onopen = () => this.#write(["CONNECT", { "accept-version": "1.2", ...(clientId ? { "client-id": clientId } : {}) }]);
-    socket.onmessage = ({ data }) => this.#hear(read(typeof data == "string" ? data : new TextDecoder().decode(data)));
-    socket.onerror = NOTHING;                  // a close follows
-    socket.onclose = ({ code }) => this.#isOver(code);
+    if (!this.#isWanted) return;               // `onstate` has closed it
+    this.#link = new Link(this.#url, this.#options, {
+      opened: () => this.#begin(),
+      heard: frame => this.#hear(frame),
+      refused: (post, later, error) => this.#isRefused(post, later, error),
+      over: (posts, detail) => this.#isOver(posts, detail),
+    });
   }
-  #write(frame) { this.#socket.send(written(frame)); }
+  /* What users give is called so that what they throw, at once or later, breaks nothing. */
+  #call(work, subscription) {
+    try {
+      Promise.resolve(work()).catch(error => this.#complain(error, subscription));
+    } catch (error) {
+      this.#complain(error, subscription);
+    }
+  }
+  #complain(error, subscription) {
+    try { this.#options.onerror(error, subscription); } catch (another) { console.error(another); }
+  }
   #tell(state, detail = {}) {
     this.state = state;
-    this.#options.onstate(state, detail);
+    this.#call(() => this.#options.onstate(state, detail));
   }
-  #post({ make, resolve, reject }) {
-    try {
-      const frames = make(), receipt = `receipt ${++this.#count}`;
-      frames.at(-1)[1] = { ...frames.at(-1)[1], receipt };
-      this.#pending.set(receipt, { resolve, reject });
-      frames.forEach(frame => this.#write(frame));
-    } catch (error) {
-      reject(error);
-    }
+  #hasRoom() {
+    const { mostWaiting } = this.#options;
+    if (this.#waiting.size + (this.#link?.count ?? 0) >= mostWaiting) throw unsent(`${mostWaiting} others wait already`);
+  }
+  #wait(post) {
+    const { waitTimeout } = this.#options;
+    this.#waiting.add(post);
+    post.timer = after(waitTimeout, () => {
+      this.#waiting.delete(post);
+      post.reject(unsent(`no connection within ${waitTimeout} ms`));
+    });
+  }
+  #post(post) {
+    try { this.#link.post(post); } catch (error) { post.reject(error); }
   }
   #open(subscription) {
     const { id, headers } = subscription;
-    const reject = error => {
-      if (error.kind != "refused") return;     // it comes back with the next session
-      this.drop(subscription);
-      subscription.reject(error);
-    };
-    this.#post({ make: () => [["SUBSCRIBE", { ...headers, id }]], resolve: subscription.resolve, reject });
+    const resolve = () => Object.assign(subscription, { isReady: true, isContested: false }).resolve();
+    // One that is lost comes back with the next session.
+    const reject = error => { if (error.kind != "unknown") this.#isDenied(subscription, error); };
+    this.#post({ make: () => [["SUBSCRIBE", { ...headers, id }]], resolve, reject });
   }
-  #hear({ command, headers, body }) {
-    if (command == "MESSAGE") this.#subscriptions.get(headers.subscription)?.heard(new Message(this, this.session, headers, body));
-    else if (command == "RECEIPT") this.#settle(headers["receipt-id"], it => it.resolve());
-    else if (command == "ERROR") {
-      // The session is over, so what is asked for from here on waits for the next one. Answers come in the order of what they answer: an error
-      // that names no receipt, as that of a member of a transaction, is of the first that has no answer yet.
-      this.session = null;
-      this.#refusal = headers.message;
-      const refused = headers["receipt-id"] ?? this.#pending.keys().next().value;
-      this.#settle(refused, it => it.reject(new StompdError("refused", headers.message)));
-    } else if (command == "CONNECTED") this.#begin(headers.session);
+  /* The broker holds a session that was lost without a close for up to 80 s, and its durable names with it. One that was ready is asked for again
+     with each session, after all else, so that what waits is carried out before the session is refused again. */
+  #isDenied(subscription, error) {
+    if (subscription.isEnded) return;
+    if (subscription.isReady && error.message.startsWith("E14 ")) subscription.isContested = true;
+    else { subscription.reject(error); this.drop(subscription); }
+    this.#complain(error, subscription);
   }
-  #begin(session) {
-    this.session = session;
-    this.#pause = this.#options.shortestPause;
-    if (!this.#isWanted) return;               // the socket is closing
-    for (const subscription of this.#subscriptions.values()) this.#open(subscription);
-    for (const post of this.#waiting.splice(0)) this.#post(post);
+  #begin() {
+    const subscriptions = [...this.#subscriptions.values()], waiting = [...this.#waiting];
+    this.#waiting.clear();
+    subscriptions.filter(it => !it.isContested).forEach(it => this.#open(it));
+    waiting.forEach(it => { clearTimeout(it.timer); this.#post(it); });
+    subscriptions.filter(it => it.isContested).forEach(it => this.#open(it));
     this.#tell("open");
   }
-  #settle(receipt, how) {
-    const post = this.#pending.get(receipt);
-    this.#pending.delete(receipt);
-    if (post) how(post);
+  #hear({ headers, body }) {
+    const link = this.#link, id = headers.subscription, ending = link.ending.find(it => it.id == id), subscription = ending ?? this.#subscriptions.get(id);
+    // What was on its way to one that is ended is heard if it left the broker; else it comes again.
+    if (!subscription || (ending && headers.ack !== undefined)) return;
+    this.#call(() => subscription.heard(new Message(this, link, subscription, headers, body)), subscription);
   }
-  #isOver(code) {
-    const pending = [...this.#pending.values()];
-    this.session = null;
-    this.#pending.clear();
-    for (const it of pending) it.reject(new StompdError("unknown", `the connection was lost (${code}) before the receipt`));
-    if (!this.#isWanted) {
-      for (const it of this.#waiting.splice(0)) it.reject(new StompdError("unsent", "the client is closed"));
-      this.#tell("closed", { code });
-      return this.#closing.splice(0).forEach(resolve => resolve());
-    }
+  /* What was asked after a refused one waits for the next session. */
+  #isRefused(post, later, error) {
+    this.#refusal = error.message;
+    later.filter(it => it.waits).forEach(it => this.#wait(it));
+    if (post && !post.isTold) post.reject(error); else this.#complain(error);
+  }
+  #isOver(posts, detail) {
+    for (const it of posts) it.reject(new StompdError("unknown", `the connection was lost (${detail.code ?? detail.reason}) before the receipt`));
+    if (!this.#isWanted) return this.#isClosed(detail);
+    const { shortestPause, longestPause } = this.#options;
+    if (this.#link.lasted() >= longestPause) this.#pause = shortestPause;
     // Many clients that were lost together come back one after another.
     const pause = this.#pause * (0.75 + Math.random() / 2);
-    this.#pause = Math.min(2 * this.#pause, this.#options.longestPause);
+    this.#pause = Math.min(2 * this.#pause, longestPause);
     this.#timer = setTimeout(() => this.#start(), pause);
-    this.#tell(this.#refusal ? "refused" : "lost", { code, pause, reason: this.#refusal });
+    this.#tell(this.#refusal ? "refused" : "lost", { pause, reason: this.#refusal, ...detail });
+  }
+  #isClosed(detail) {
+    clearTimeout(this.#timer);
+    for (const it of this.#waiting) clearTimeout(it.timer);
+    for (const it of [...this.#waiting, ...this.#subscriptions.values()]) it.reject(unsent("the client is closed"));
+    this.#waiting.clear();
+    this.#tell("closed", detail);
+    this.#closing.splice(0).forEach(resolve => resolve());
   }
 }
 

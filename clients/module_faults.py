@@ -1,0 +1,220 @@
+"""What clients/module.py tries over a fake broker: losses, refusals and silences that a real one seldom has at the right moment."""
+
+import contextlib
+
+from fake_broker import FakeBroker
+from lib.wire import BINARY, TEXT
+
+# So that a trial is short. The last ones are never met here.
+QUICK = "shortestPause: 20, longestPause: 2000, answerTimeout: 10000, waitTimeout: 10000, closeTimeout: 10000"
+
+
+@contextlib.contextmanager
+def opened(engine, options="", name="it", session="7"):
+    """A client of a fake broker, which it begins a session with: the broker and the connection."""
+    with FakeBroker() as fake:
+        engine.value(f"globalThis.URL_ = 'ws://127.0.0.1:{fake.port}/'; globalThis.{name} = open({{ {QUICK}, {options} }});")
+        link = fake.take(session)
+        engine.value(f"return soon(() => {name}.state == 'open')")
+        yield fake, link
+        engine.value(f"{name}.close()")
+
+
+def pauses_of(engine):
+    return [pause for _, pause, _ in engine.value("return it.states") if pause]
+
+
+def grows(pauses):
+    """Whether each is twice the one before, a quarter shorter or longer."""
+    return all(0.75 * 20 * 2**number <= pause <= 1.25 * 20 * 2**number for number, pause in enumerate(pauses))
+
+
+def a_name_in_use(engine, checks):
+    """a durable name that a lost session still holds is asked for again"""
+    run = engine.value
+    with opened(engine, "clientId: 'kiosk'") as (fake, link):
+        run("globalThis.heard = []; globalThis.paper = it.subscribe('/topic/news', it => heard.push(it.body), { durable: 'd' })")
+        link.accept_next()
+        checks.same("it is ready", run("return outcome(paper.ready)"), "resolved")
+        link.drop()
+        for _ in range(3):
+            link = fake.take()
+            link.refuse("E14 durable subscription unknown, in use or of another topic", link.take())
+        run("globalThis.late = outcome(it.send('/topic/room', 'late')); await soon(() => it.errors.length == 3)")
+        checks.same("each refusal is told, with its subscription", run("return it.errors.map(([error, it]) => [error.kind, error.message.slice(0, 3), it === paper])"), [["refused", "E14", True]] * 3)
+        link = fake.take()
+        frames = [link.accept_next(), link.accept_next()]
+        checks.same("what waits goes before it", [frame.command for frame in frames], ["SEND", "SUBSCRIBE"])
+        link.message(frames[1].headers["id"], "at last")
+        checks.same("and it is heard again", run("return [await soon(() => heard.length), heard[0], await late]"), [True, "at last", "resolved"])
+        pauses = pauses_of(engine)
+        checks.check("the pauses grow meanwhile", len(pauses) == 4 and grows(pauses), pauses)
+        first = run("globalThis.other = it.subscribe('/topic/news', () => {}, { durable: 'e' }); return it.states.length")
+        link.refuse("E14 durable subscription unknown, in use or of another topic", link.take())
+        checks.same("one that was never ready is refused", run("return outcome(other.ready)"), "refused")
+        link = fake.take()
+        checks.check("and doesn't come back", link.accept_next().headers["activemq.subscriptionName"] == "d" and run(f"return it.states.length > {first}"))
+
+
+def promises_left_alone(engine, checks):
+    """a promise that nobody awaits ends nothing"""
+    run = engine.value
+    with opened(engine) as (fake, link):
+        run("it.subscribe('/queue/jobs', async job => { await it.transaction(tx => { tx.ack(job); tx.send('/topic/room', 'done'); }); }, { ack: 'client-individual' })")
+        run("it.subscribe('/queue/acks', job => { job.ack(); }, { ack: 'client-individual', id: 'acks' })")
+        jobs, acks = link.accept_next(), link.accept_next()
+        link.message(jobs.headers["id"], "sweep", [("ack", "1")])
+        link.message(acks.headers["id"], "sweep", [("ack", "2")])
+        run("it.send('/topic/room', 'x'); it.transaction(tx => tx.send('/topic/room', 'x')); it.transaction(() => { throw new Error('mine'); })")
+        run("it.subscribe('/topic/bad', () => {}).end()")
+        link.take()
+        link.drop()
+        checks.check("all are lost", run("return soon(() => it.state == 'lost' || it.state == 'connecting')"))
+        fake.take()
+        run("return soon(() => it.state == 'open')")
+        checks.same("and none is an unhandled rejection", run("await soon(() => false, 0.1); return unhandled"), [])
+        checks.same("what a listener awaits is told", run("return it.errors.map(([error]) => error.kind)"), ["unknown"])
+
+
+def refusals(engine, checks):
+    """a refusal is of what was refused, and of nothing else"""
+    run = engine.value
+    with opened(engine) as (fake, link):
+        for number in range(4):
+            run(f"globalThis.full = outcome(it.send('/topic/room', '{number}'))")
+            link.refuse("E12 no room for the message", link.take())
+            checks.same("a refused SEND is told so", run("return full"), "refused")
+            link = fake.take()
+        pauses = pauses_of(engine)
+        checks.check("the pauses grow, since no session lasts", len(pauses) == 4 and grows(pauses), pauses)
+        run("await soon(() => it.state == 'open'); it.tell('/topic/full', 'told'); globalThis.after = outcome(it.send('/topic/room', 'after'))")
+        link.take_all(2)
+        link.refuse("E12 no room for the message")
+        link = fake.take()
+        checks.same("what was asked after a refused one without a receipt is carried out", (link.accept_next().body, run("return after")), (b"after", "resolved"))
+        checks.same("and the refusal is told", run("return it.errors.map(([error]) => error.message)"), ["E12 no room for the message"])
+        run("globalThis.ends = ['first', 'large', 'last'].map(text => outcome(it.send('/topic/room', text)))")
+        first = link.take()
+        link.take_all(2)
+        link.accept(first)
+        link.refuse("E2 frame too large")
+        link = fake.take()
+        checks.same("a frame that can't be read is the first without an answer", (link.accept_next().body, run("return Promise.all(ends)")), (b"last", ["resolved", "refused", "resolved"]))
+        run("it.tell('/topic/room', 'told'); globalThis.ends = [outcome(it.send('/topic/room', 'a'))]; it.tell('/topic/full', 'told'); ends.push(outcome(it.send('/topic/room', 'b')))")
+        frames = link.take_all(4)
+        link.accept(frames[1])
+        link.refuse("E12 no room for the message")
+        link = fake.take()
+        checks.same("also between others", (link.accept_next().body, run("return Promise.all(ends)")), (b"b", ["resolved", "resolved"]))
+    with opened(engine, "longestPause: 200") as (fake, link):
+        run("await soon(() => false, 0.3)")
+        for _ in range(3):
+            link.drop()
+            link = fake.take()
+        pauses = pauses_of(engine)
+        run("await soon(() => false, 0.3)")
+        link.drop()
+        link = fake.take()
+        checks.check("a session that lasted brings back the shortest pause", grows(pauses[:3]) and grows(pauses_of(engine)[3:]), pauses_of(engine))
+
+
+def waits_end(engine, checks):
+    """no wait is without an end"""
+    run = engine.value
+    with FakeBroker() as fake:
+        run(f"globalThis.URL_ = 'ws://127.0.0.1:{fake.port}/'; globalThis.it = open({{ answerTimeout: 200, waitTimeout: 400, shortestPause: 20 }})")
+        fake.take_silent()
+        checks.same("a SEND without a connection is unsent in time", run("return outcome(it.send('/topic/room', 'x'))"), "unsent")
+        checks.check("a handshake without an answer is left, and told", run("return soon(() => it.states.some(([state, , reason]) => state == 'lost' && /within 200 ms/.test(reason)))"))
+        checks.same("a client that connects closes at once", run("return outcome(it.close())"), "resolved")
+    with opened(engine, "answerTimeout: 300") as (fake, link):
+        checks.same("an idle link is asked", [frame.command for frame in link.take_all(2)], ["BEGIN", "ABORT"])
+        link.say("RECEIPT", [("receipt-id", link.head.decode().partition("receipt:")[2].partition("\n")[0])])
+        frames = link.take_all(2)
+        checks.same("and again", [(frame.command, frame.headers["transaction"]) for frame in frames], [("BEGIN", "probe"), ("ABORT", "probe")])
+        checks.check("one that doesn't answer is lost", run("return soon(() => it.states.some(([state, , reason]) => state == 'lost' && /within 300 ms/.test(reason)))"))
+        link = fake.take()
+        run("await soon(() => it.state == 'open'); globalThis.silent = outcome(it.send('/topic/room', 'x'))")
+        link.take()
+        checks.same("a SEND without an answer is unknown in time", run("return silent"), "unknown")
+    with opened(engine, "closeTimeout: 200") as (fake, link):
+        run("globalThis.doubt = outcome(it.send('/topic/room', 'x')); globalThis.sub = it.subscribe('/topic/room', () => {})")
+        checks.same("a close of a dead link ends, and what had no answer is unknown", run("return [await outcome(it.close()), it.state, await doubt, await outcome(sub.ready)]"), ["resolved", "closed", "unknown", "unsent"])
+        checks.same("afterwards nothing is begun", run("return outcome(it.subscribe('/topic/room', () => {}).ready)"), "unsent")
+    with opened(engine) as (fake, link):
+        checks.same("what is ended is never ready", run("const sub = it.subscribe('/topic/room', () => {}); sub.end(); return outcome(sub.ready)"), "unsent")
+        link.take_all(2)
+        link.drop()
+        checks.check("nor does it come back", fake.take() and run("return soon(() => it.state == 'open')"))
+
+
+def frames_are_right(engine, checks):
+    """bodies and headers are sent as they are, or not at all"""
+    run = engine.value
+    with opened(engine) as (fake, link):
+        for what, body in (("the bytes of a Uint8Array", "new Uint8Array([0, 255, 10])"), ("those of a buffer", "new Uint8Array([0, 255, 10]).buffer"), ("of a view", "new DataView(new Uint8Array([9, 0, 255, 10]).buffer, 1)")):
+            run(f"it.send('/topic/room', {body})")
+            checks.same(f"{what} are sent as such", (link.accept_next().body, link.kind), (b"\x00\xff\n", BINARY))
+        run("globalThis.text = new TextEncoder().encode('ab'); it.send('/topic/room', text); text[0] = 0")
+        checks.same("no body is an empty one", (link.accept_next().body, run("it.send('/topic/room', null)"), link.accept_next().body), (b"ab", None, b""))
+        checks.check("without a length", b"content-length" not in link.head, link.head)
+        checks.same("an object is none", run("return outcome(it.send('/topic/room', { a: 1 }))"), "unsent")
+        run("it.send('/topic/room', 'äb', { 'content-length': 1, receipt: 'mine', transaction: 't', none: undefined, key: 'k' })")
+        frame = link.accept_next()
+        checks.same("the module counts the body itself", (link.head.count(b"content-length"), frame.headers["content-length"], link.kind), (1, "3", TEXT))
+        checks.check("and sets its own headers", "transaction" not in frame.headers and "none" not in frame.headers and frame.headers["receipt"] != "mine" and frame.headers["key"] == "k", frame.headers)
+        checks.same("a NUL in a header is not sent", run("return outcome(it.send('/topic/room', 'x', { key: 'a\\0b' }))"), "unsent")
+        checks.check("nor an end of a line in a clientId", "clientId" in (run("try { open({ clientId: 'a\\nb:c' }).close(); } catch (error) { return error.message; }") or ""))
+        run("globalThis.heard = []; globalThis.sub = it.subscribe('/topic/room', it => heard.push(it), { id: 's' })")
+        link.accept_next()
+        link.say_bytes("MESSAGE", [("subscription", "s"), ("message-id", "1.0"), ("constructor", "c"), ("__proto__", "p"), ("toString", "t")], b"\n\n\xff\x00")
+        link.say_bytes("MESSAGE", [("subscription", "s"), ("message-id", "2.0")], "\ufefföx".encode())
+        link.message("s", "öx", number=3)
+        told = run("await soon(() => heard.length == 3); return heard.map(it => [typeof it.body == 'string' ? it.body : [...it.body], [...it.bytes]])")
+        checks.same("bytes come as such, and text as text", told, [[[10, 10, 255, 0]] * 2, ["\ufefföx", [239, 187, 191, 195, 182, 120]], ["öx", [195, 182, 120]]])
+        checks.same("headers have any name", run("return ['constructor', '__proto__', 'toString'].map(it => heard[0].headers[it])"), ["c", "p", "t"])
+        checks.same("what is taken by itself isn't acknowledged", run("return outcome(heard[0].ack())"), "unsent")
+        checks.same("a plain subscription has no name to give up", run("return outcome(sub.giveUp())"), "unsent")
+        run("globalThis.done = outcome(it.send('/topic/room', 'last'))")
+        checks.same("and nothing of these was sent", link.accept_next().body, b"last")
+    words = run("try { open({ WebSocket: undefined }); } catch (error) { return error.message; }")
+    checks.check("a Node without WebSocket is told what to do", "--experimental-websocket" in (words or ""), words)
+
+
+def nothing_breaks(engine, checks):
+    """listeners that throw, messages on their way, and many that wait"""
+    run = engine.value
+    with opened(engine, "mostWaiting: 3, onstate(state) { it?.states.push([state]); throw new Error('of the state'); }") as (fake, link):
+        run("globalThis.heard = []; globalThis.sub = it.subscribe('/topic/room', ({ body }) => { heard.push(body); throw new Error(body); }, { id: 's' })")
+        link.accept_next()
+        link.message("s", "a")
+        link.message("s", "b")
+        checks.same("a listener that throws hears on", run("await soon(() => heard.length == 2); return [heard, it.errors.slice(-2).map(([error, it]) => [error.message, it === sub])]"), [["a", "b"], [["a", True], ["b", True]]])
+        run("globalThis.ended = outcome(sub.end())")
+        end = link.take()
+        link.message("s", "on its way")
+        link.accept(end)
+        link.message("s", "too late")
+        checks.same("what was on its way is heard", run("return [await ended, await soon(() => heard.length > 2), heard]"), ["resolved", True, ["a", "b", "on its way"]])
+        run("globalThis.jobs = []; globalThis.hand = it.subscribe('/queue/jobs', job => jobs.push(job), { id: 'h', ack: 'client' })")
+        link.accept_next()
+        link.message("h", "in hand", [("ack", "1")])
+        run("await soon(() => jobs.length); globalThis.ended = outcome(hand.end()); globalThis.acked = outcome(jobs[0].ack())")
+        end = link.take()
+        link.message("h", "comes again", [("ack", "2")])
+        link.accept(end)
+        checks.same("what must be acknowledged isn't, nor can it be", run("return [await ended, await acked, jobs.length]"), ["resolved", "unsent", 1])
+        ends = "globalThis.ends = [1, 2, 3, 4].map(number => outcome(it.send('/topic/room', number)))"
+        run(ends)
+        frames = link.take_all(3)
+        for frame in frames:
+            link.accept(frame)
+        checks.same("so many wait, and no more", run("return Promise.all(ends)"), ["resolved"] * 3 + ["unsent"])
+    with opened(engine, name="it") as (_, link), opened(engine, name="two", session="7") as (_, other):
+        run("globalThis.jobs = []; it.subscribe('/queue/jobs', job => jobs.push(job), { id: 'h', ack: 'client' })")
+        link.accept_next()
+        link.message("h", "mine", [("ack", "1")])
+        checks.same("an acknowledgement is of one connection", run("await soon(() => jobs.length); return outcome(two.transaction(tx => tx.ack(jobs[0])))"), "unsent")
+
+
+TRIALS = [a_name_in_use, promises_left_alone, refusals, waits_end, frames_are_right, nothing_breaks]
