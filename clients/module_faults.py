@@ -106,6 +106,11 @@ def refusals(engine, checks):
         link.refuse("E12 no room for the message")
         link = fake.take()
         checks.same("also between others", (link.accept_next().body, run("return Promise.all(ends)")), (b"b", ["resolved", "resolved"]))
+        run("it.tell('/topic/room', 'told'); globalThis.ends = [outcome(it.send('/topic/room', 'a')), outcome(it.send('/topic/room', 'large'))]; globalThis.told = it.errors.length")
+        link.accept(link.take_all(3)[1])
+        link.refuse("E2 frame too large")
+        checks.same("what was told before one that is accepted was accepted too", run("return [await Promise.all(ends), it.errors.length - told]"), [["resolved", "refused"], 0])
+        link = fake.take()
     with opened(engine, "longestPause: 200") as (fake, link):
         run("await soon(() => false, 0.3)")
         for _ in range(3):
