@@ -215,6 +215,8 @@ def nothing_breaks(engine, checks):
         for frame in frames:
             link.accept(frame)
         checks.same("so many wait, and no more", run("return Promise.all(ends)"), ["resolved"] * 3 + ["unsent"])
+    with opened(engine):
+        checks.check("nothing is told to a broker that doesn't read", run("let count = 0; while (count < 500 && it.tell('/topic/room', 'x'.repeat(65536))) count++; return count < 500"))
     with opened(engine, name="it") as (_, link), opened(engine, name="two", session="7") as (_, other):
         run("globalThis.jobs = []; it.subscribe('/queue/jobs', job => jobs.push(job), { id: 'h', ack: 'client' })")
         link.accept_next()
