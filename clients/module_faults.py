@@ -160,8 +160,8 @@ def frames_are_right(engine, checks):
         for what, body in (("the bytes of a Uint8Array", "new Uint8Array([0, 255, 10])"), ("those of a buffer", "new Uint8Array([0, 255, 10]).buffer"), ("of a view", "new DataView(new Uint8Array([9, 0, 255, 10]).buffer, 1)")):
             run(f"it.send('/topic/room', {body})")
             checks.same(f"{what} are sent as such", (link.accept_next().body, link.kind), (b"\x00\xff\n", BINARY))
-        run("globalThis.text = new TextEncoder().encode('ab'); it.send('/topic/room', text); text[0] = 0")
-        checks.same("no body is an empty one", (link.accept_next().body, run("it.send('/topic/room', null)"), link.accept_next().body), (b"ab", None, b""))
+        run("it.send('/topic/room', null)")
+        checks.same("no body is an empty one", link.accept_next().body, b"")
         checks.check("without a length", b"content-length" not in link.head, link.head)
         checks.same("an object is none", run("return outcome(it.send('/topic/room', { a: 1 }))"), "unsent")
         run("it.send('/topic/room', 'äb', { 'content-length': 1, receipt: 'mine', transaction: 't', none: undefined, key: 'k' })")
@@ -182,6 +182,10 @@ def frames_are_right(engine, checks):
         checks.same("a plain subscription has no name to give up", run("return outcome(sub.giveUp())"), "unsent")
         run("globalThis.done = outcome(it.send('/topic/room', 'last'))")
         checks.same("and nothing of these was sent", link.accept_next().body, b"last")
+        link.drop()
+        run("await done; await soon(() => !it.session); const text = new TextEncoder().encode('ab'); it.send('/topic/room', text); text[0] = 0")
+        link = fake.take()
+        checks.same("bytes that wait stay what they were", [link.accept_next().body for _ in range(2)], [b"", b"ab"])
     words = run("try { open({ WebSocket: undefined }); } catch (error) { return error.message; }")
     checks.check("a Node without WebSocket is told what to do", "--experimental-websocket" in (words or ""), words)
 
