@@ -132,6 +132,9 @@ def waits_end(engine, checks):
         checks.same("a SEND without a connection is unsent in time", run("return outcome(it.send('/topic/room', 'x'))"), "unsent")
         checks.check("a handshake without an answer is left, and told", run("return soon(() => it.states.some(([state, , reason]) => state == 'lost' && /within 200 ms/.test(reason)))"))
         checks.same("a client that connects closes at once", run("return outcome(it.close())"), "resolved")
+    run("globalThis.it = open({ answerTimeout: Infinity })")
+    checks.check("where nobody listens the connection is lost at once", run("return soon(() => it.states.some(([state]) => state == 'lost'), 5)"))
+    run("await it.close()")
     with opened(engine, "answerTimeout: 300") as (fake, link):
         checks.same("an idle link is asked", [frame.command for frame in link.take_all(2)], ["BEGIN", "ABORT"])
         link.say("RECEIPT", [("receipt-id", link.head.decode().partition("receipt:")[2].partition("\n")[0])])
@@ -142,7 +145,7 @@ def waits_end(engine, checks):
         run("await soon(() => it.state == 'open'); globalThis.silent = outcome(it.send('/topic/room', 'x'))")
         link.take()
         checks.same("a SEND without an answer is unknown in time", run("return silent"), "unknown")
-    with opened(engine, "closeTimeout: 200") as (fake, link):
+    with opened(engine, "closeTimeout: 200, answerTimeout: Infinity") as (fake, link):
         run("globalThis.doubt = outcome(it.send('/topic/room', 'x')); globalThis.sub = it.subscribe('/topic/room', () => {})")
         checks.same("a close of a dead link ends, and what had no answer is unknown", run("return [await outcome(it.close()), it.state, await doubt, await outcome(sub.ready)]"), ["resolved", "closed", "unknown", "unsent"])
         checks.same("afterwards nothing is begun", run("return outcome(it.subscribe('/topic/room', () => {}).ready)"), "unsent")
