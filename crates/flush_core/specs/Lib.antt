@@ -1,4 +1,3 @@
-pub mod Backlogs
 pub mod Batches
 pub mod Calls
 pub mod Faults

@@ -2,9 +2,7 @@
 
 #![tactic(auto)]
 
-mod backlog;
 mod compacting;
-mod due;
 mod executing;
 mod faults;
 mod fitting;
