@@ -45,7 +45,8 @@ class Script:
 
 
 SCRIPTS = [
-    Script("tests/scripts.py", "--everywhere", light=""),
+    # bin/test runs them whole by itself.
+    Script("tests/scripts.py", "--everywhere"),
     Script("tests/program/statuses.py", light=""),
     Script("tests/program/ping.py", light=""),
     Script("tests/program/closed_streams.py", light=""),
