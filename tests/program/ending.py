@@ -3,7 +3,7 @@
 
     python3 tests/program/ending.py [PROGRAM]
 
-A server that is asked to end at once tells so too. Each client hears 1001, also one that has no session yet and one to which much is still to be
+A server that is asked to end at once tells so too, and one that ends by a fault ends though nobody reads what it tells. Each client hears 1001, also one that has no session yet and one to which much is still to be
 written; the server ends with status 0 within five seconds; and what was receipted is there when it is started again. Clients that answer no close and
 take nothing do not keep it.
 """
@@ -101,10 +101,40 @@ def at_once(program, journal, checks):
     checks.same(f"{STARTS} servers that are asked to end at once end so, and tell it last", silent, 0)
 
 
-def unread(program, journal, checks):
-    """asked to end while nobody reads what it tells"""
+def full_pipe():
+    """A pipe that takes nothing more: its ends."""
     reading, writing = os.pipe()
     os.write(writing, b"x" * fcntl.fcntl(writing, fcntl.F_SETPIPE_SZ, 4096))
+    return reading, writing
+
+
+def unread_fault(program, journal, checks):
+    """its journal is full while nobody reads what it tells"""
+    journal = journal.with_name("small")
+    subprocess.run([program, "format", journal, "8224"], check=True)
+    reading, writing = full_pipe()
+    port = scenario.free_port()
+    process = subprocess.Popen([program, "serve", journal, str(port)], stdin=subprocess.DEVNULL, stdout=subprocess.PIPE, stderr=writing)
+    checks.same("it serves", process.stdout.readline().decode(), f"listening {port}\n")
+    client = Client(port).connect()
+    start = time.monotonic()
+    # More than half of the journal holds.
+    for _ in range(10):
+        client.send("SEND", [("destination", "/queue/much")], "x" * 1_000)
+    try:
+        status = process.wait(timeout=LONGEST)
+    except subprocess.TimeoutExpired:
+        process.kill()
+        status = process.wait()
+    checks.same("a server with a fault and a full standard error ends with status 1", status, 1)
+    checks.check(f"within {LONGEST} s", time.monotonic() - start <= LONGEST, time.monotonic() - start)
+    os.close(reading)
+    os.close(writing)
+
+
+def unread(program, journal, checks):
+    """asked to end while nobody reads what it tells"""
+    reading, writing = full_pipe()
     words = [program, "serve", journal, str(scenario.free_port()), "--until-eof"]
     start = time.monotonic()
     status = subprocess.run(words, stdin=subprocess.DEVNULL, stdout=subprocess.DEVNULL, stderr=writing, timeout=4 * LONGEST).returncode
@@ -159,7 +189,7 @@ def at_work(program, journal, checks):
 def main():
     program = scenario.words_of(__doc__).parse_args().program
     checks = scenario.Checks()
-    for part in (idle, at_once, unread, at_work):
+    for part in (idle, at_once, unread, unread_fault, at_work):
         with tempfile.TemporaryDirectory(prefix="ending-") as folder:
             journal = pathlib.Path(folder) / "journal"
             subprocess.run([program, "format", "--sparse", journal, JOURNAL_BYTES], check=True)

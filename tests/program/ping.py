@@ -44,8 +44,8 @@ def is_answered(seen):
     return seen[0] == 0 and ANSWERED.fullmatch(seen[1]) is not None and seen[2] == ""
 
 
-def untold(line):
-    return 1, "", f"stompd: {line}\n"
+def untold(line, status=1):
+    return status, "", f"stompd: {line}\n"
 
 
 class Peer:
@@ -377,7 +377,7 @@ def full(program, checks):
             while len(clients) < 300:
                 clients.append(Client(broker.port))
         checks.check("a server may be full", 0 < len(clients) < 300, len(clients))
-        checks.same("a server that is full", ping(program, broker.port)[0], untold(NO_HANDSHAKE + "HTTP status 503"))
+        checks.same("a server that is full is alive", ping(program, broker.port)[0], untold(NO_HANDSHAKE + "HTTP status 503", 3))
         for client in clients:
             client.close()
     with serving(program, journal_bytes=8_224) as broker:

@@ -4,11 +4,11 @@ ghost use Rattle.std.specs.Prelude.{◌≡◌, ◌≢◌, IfErr, IfOk, OnOk};
 ghost use Rattle.std.specs.Io.KnownBytes.{Appends};
 ghost use Rattle.std.specs.Duration.{as_nanos};
 ghost use Rattle.journal_files.specs.JournalFiles.{show_text};
-ghost use Rattle.ping_core.specs.Texts.{ping_text};
+ghost use Rattle.ping_core.specs.Texts.{ping_status, ping_text};
 ghost use Rattle.command_line.specs.Failures.{line_of};
 ghost use Rattle.command_line.specs.Pings.{ping_line};
 
-use crate::program::{DONE, Ended, Failure, FileFault};
+use crate::program::{DONE, Ended, FAILED, FULL, Failure, FileFault};
 use crate::telling::end_by;
 use journal_files::ShowFault;
 use ping_core::PingFault;
@@ -27,8 +27,8 @@ pub fn end_ping<W: Write, E: Write>(
     ensures done { IfOk pinged (λ took. result.status ≡ 0 → Appends (W.contents writer.old) (W.contents writer.new) (ping_line (as_nanos took)) × (errors.new ≡ errors.old)) }
     ensures unwritten { IfOk pinged (λ _. result.status ≢ 0 → (result.status ≡ 1)
         × OnOk result.told (Appends (E.contents errors.old) (E.contents errors.new) (line_of (show_text ShowFault.Output)))) }
-    // What went wrong is reported in one line.
-    ensures failed { IfErr pinged (λ fault. (result.status ≡ 1) × (writer.new ≡ writer.old)
+    // What went wrong is reported in one line. A server that is full has a status of its own.
+    ensures failed { IfErr pinged (λ fault. (result.status ≡ ping_status fault) × (writer.new ≡ writer.old)
         × OnOk result.told (Appends (E.contents errors.old) (E.contents errors.new) (line_of (ping_text fault)))) }
 {
     match pinged {
@@ -39,7 +39,12 @@ pub fn end_ping<W: Write, E: Write>(
             },
             Err(_) => end_by(&Failure::File(FileFault::Show(ShowFault::Output)), errors),
         },
-        Err(fault) => end_by(&Failure::Ping(fault), errors),
+        Err(fault) => {
+            let is_full = fault.is_of_full_server();
+            let status = if is_full { FULL } else { FAILED };
+            let told = end_by(&Failure::Ping(fault), errors).told;
+            Ended { status, told }
+        }
     }
 }
 

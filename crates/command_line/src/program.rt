@@ -34,6 +34,9 @@ pub const DONE: u8 = 0;
 /// The status if it could not do it.
 pub const FAILED: u8 = 1;
 
+/// The status of a ping whose server has all the clients that it takes.
+pub const FULL: u8 = 3;
+
 /// The status if the words ask for nothing that it does, or for help.
 pub const BAD_COMMAND_LINE: u8 = 2;
 
@@ -120,7 +123,7 @@ impl Failure {
 /// How the program ends.
 #[derive(Drop)]
 pub struct Ended {
-    /// The status: 0 if it is done, 1 on a fault, 2 on a bad command line.
+    /// The status: 0 if it is done, 1 on a fault, 2 on a bad command line, 3 if the server that was pinged is full.
     pub status: u8,
     /// Whether what there was to tell could be written.
     pub told: io::Result<()>,

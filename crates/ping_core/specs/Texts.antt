@@ -1,5 +1,5 @@
 -- What is told of a ping that was not answered.
-use Rattle.std.specs.Prelude.{List, ℕ, ◌++◌, codes}
+use Rattle.std.specs.Prelude.{Bool, List, ℕ, ◌++◌, ◌==◌, codes, cond, false}
 use Rattle.std.specs.Fmt.{decimal}
 use Rattle.frame_core.specs.Verbs.{name_of}
 use Rattle.ping_core.specs.declared.fault.Cause.{Cause}
@@ -33,3 +33,12 @@ cause_text System = codes "the system refuses it"
 
 abbrev pub ping_text : PingFault → List ℕ
 ping_text fault = step_text fault.step ++ cause_text fault.cause
+
+-- the server has all the clients that it takes: it answers the handshake with 503 (RFC 9110, 15.6.4)
+abbrev pub is_of_full : Step → Cause → Bool
+is_of_full Handshake (Status status) = status == 503
+is_of_full _ _ = false
+
+-- the status of a ping that was not answered: a server that is full is alive
+abbrev pub ping_status : PingFault → ℕ
+ping_status fault = cond (is_of_full fault.step fault.cause) 3 1

@@ -97,6 +97,21 @@ pub struct PingFault {
     pub cause: Cause,
 }
 
+impl PingFault {
+    ghost use Rattle.std.specs.Prelude.{◌≡◌};
+    ghost use Rattle.ping_core.specs.Texts.{is_of_full};
+
+    /// Whether the server has all the clients that it takes: it answers the handshake with status 503, so it is alive.
+    pub fn is_of_full_server(&self) -> bool
+        ensures { result ≡ is_of_full self.now.step self.now.cause }
+    {
+        match (self.step, &self.cause) {
+            (Step::Handshake, Cause::Status(status)) => *status == 503,
+            _ => false,
+        }
+    }
+}
+
 /// The text for the user.
 impl fmt::Display for PingFault {
     ghost use Rattle.std.specs.Prelude.{Some};

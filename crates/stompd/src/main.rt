@@ -3,7 +3,7 @@
 #![tactic(auto)]
 
 use command_line::{
-    BAD_COMMAND_LINE, DONE, Failure, Subcommand, end_by, end_ping, subcommand_of, tool,
+    BAD_COMMAND_LINE, DONE, FAILED, Failure, Subcommand, end_by, end_ping, subcommand_of, tool,
 };
 use engine_core::ScriptFault;
 use ping_client::ping;
@@ -13,9 +13,9 @@ use std::fs::{File, Files, OpenOptions};
 use std::io::{ErrorKind, Lock, Read, Write};
 use std::net::{Net, TcpListener, TcpStream};
 use std::process::ExitCode;
-use std::sync::Wait;
-use std::thread::Threads;
-use std::time::Clock;
+use std::sync::{Arc, Wait};
+use std::thread::{Parker, Threads};
+use std::time::{Clock, Duration};
 use std::{env, io, mem, thread};
 
 /// Runs the program on its arguments, standard input, standard output and standard error.
@@ -33,7 +33,7 @@ fn main(rt: HostRuntime) -> ExitCode {
             let errors = rt.stderr().lock();
             let mut writer = rt.stdout().lock();
             let end = serve(&rt, rt.alloc(), asked, input, errors, &mut writer);
-            status_of(&rt, end)
+            status_of(&rt, rt.alloc(), end, rt.stderr())
         }
         None => run_other(&rt, words.as_slice()),
     };
@@ -67,12 +67,44 @@ fn hold_null(rt: &HostRuntime) -> io::Result<()> {
     Ok(())
 }
 
-/// The status of a server that has ended so. A fault is reported.
-fn status_of(rt: &HostRuntime, end: ServeEnd) -> u8 {
-    match end {
-        ServeEnd::Asked => DONE,
-        ServeEnd::Fault(fault) => told(rt, &Failure::Server(fault)),
+/// For how many milliseconds a server's fault is reported at most.
+const PATIENCE: u64 = 500;
+
+/// The status of a server that has ended so. A fault is reported, by a thread that is not waited for longer than half a second: if nobody
+/// reads standard error and it is full, the program ends all the same, and its port is free.
+fn status_of<R, E>(rt: &R, alloc: Global, end: ServeEnd, errors: E) -> u8
+where
+    R: Threads + Wait,
+    E: Write + Drop + Send + 'static,
+{
+    let fault = match end {
+        ServeEnd::Asked => {
+            drop(errors);
+            return DONE;
+        }
+        ServeEnd::Fault(fault) => fault,
+    };
+    if let Ok(reported) = report(rt, alloc, Failure::Server(fault), errors) {
+        reported.park_timeout(rt, Duration::from_millis(PATIENCE));
     }
+    FAILED
+}
+
+/// Starts a thread that reports a failure, and then wakes anyone who waits for that.
+fn report<R, E>(rt: &R, alloc: Global, failure: Failure, errors: E) -> io::Result<Arc<Parker>>
+where
+    R: Threads,
+    E: Write + Drop + Send + 'static,
+{
+    let reported = Arc::new(alloc, Parker::new())?;
+    let wakes = reported.clone()?;
+    let mut errors = errors;
+    let reports = move || {
+        drop(end_by(&failure, &mut errors));
+        wakes.unpark();
+    };
+    thread::spawn(rt, reports)?;
+    Ok(reported)
 }
 
 /// What is asked of a server.
