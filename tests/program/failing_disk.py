@@ -13,6 +13,7 @@ Python 3 alone; the gate does not run it.
   say that it listens.
 - If one of a block's fails, the server ends so, and the block's command gets no receipt; the commands before it are in
   the journal.
+- If its file is removed, replaced or cut while it runs, the server ends so at the next command.
 - If a block's sync fails after half a second, in which a client has asked for more than its window lets in, that client
   hears 1001: its worker, which sleeps until the mark rises, is woken.
 
@@ -35,6 +36,7 @@ from lib.stomp_client import Client
 
 # Areas of 4,096 bytes.
 SMALLEST = "8224"
+PAGE = 4_096
 DEVICE_FAILED = "stompd: J3 device failed\n"
 CANNOT_OPEN = "stompd: cannot open: FILE: the system refuses it\n"
 NO_SPACE = "stompd: no space left for the file\n"
@@ -160,8 +162,8 @@ def locking(checks):
 
 
 def opening(checks):
-    """Recovery syncs, writes the snapshot and syncs, and writes the selector and syncs."""
-    for call, numbers in (("fsync", (1, 2, 3)), ("pwrite64", (1, 2))):
+    """Recovery writes the header back and syncs, writes the snapshot and syncs, and writes the selector and syncs."""
+    for call, numbers in (("fsync", (1, 2, 3)), ("pwrite64", (1, 2, 3))):
         for number in numbers:
             what, path = f"serve without {call} {number}", make(checks, f"opened-{call}-{number}")
             words = checks.words(call, number, "serve", path, str(free_port()))
@@ -212,7 +214,7 @@ def asleep(checks):
 def storing(checks):
     """The CONNECT is the first block, and what is sent the second: a write, a sync, the gate's write, and a sync. A gate that
     is written stands in the file, be it synced or not."""
-    for call, number, count in (("pwrite64", 5, 1), ("fsync", 6, 1), ("pwrite64", 6, 1), ("fsync", 7, 2)):
+    for call, number, count in (("pwrite64", 6, 1), ("fsync", 6, 1), ("pwrite64", 7, 1), ("fsync", 7, 2)):
         what, path, port = f"a block without {call} {number}", make(checks, f"stored-{call}-{number}"), free_port()
         words = checks.words(call, number, "serve", path, str(port))
         with serving(words, port) as server:
@@ -227,6 +229,29 @@ def storing(checks):
         checks.same(f"{what}: what is held", (status, shown.splitlines()[3:]), (0, [f"count {count}", f"held {count - 1}"]))
 
 
+def replaced(path):
+    os.rename(path + ".new", path)
+
+
+def cut(path):
+    os.truncate(path, PAGE)
+
+
+def losing(checks):
+    """The file is removed, replaced by another or cut while the server runs: what is sent then has no receipt, and the server ends."""
+    for lose in (os.remove, replaced, cut):
+        what, path, port = f"a file that is lost by {lose.__name__}", make(checks, f"lost-{lose.__name__}"), free_port()
+        shutil.copy(path, path + ".new")
+        with serving([checks.program, "serve", path, str(port)], port) as server:
+            client = Client(port).connect()
+            lose(path)
+            client.send("SEND", [("destination", "/queue/kept"), ("receipt", "r")], "x")
+            checks.same(f"{what}: what the client hears", frames_to_the_end(client), [])
+            client.close()
+            output, errors = server.communicate(timeout=60)
+            checks.same(what, (server.returncode, output.decode(), last_line(errors)), (1, "", DEVICE_FAILED))
+
+
 def main():
     program = built_program(words_of(__doc__, BUILT).parse_args())
     if shutil.which("strace") is None:
@@ -234,7 +259,7 @@ def main():
         sys.exit(2)
     with tempfile.TemporaryDirectory() as name:
         checks = Checks(str(program), pathlib.Path(name).resolve())
-        for part in (formatting, filling, progress, showing, locking, opening, storing, asleep):
+        for part in (formatting, filling, progress, showing, locking, opening, storing, asleep, losing):
             part(checks)
     if checks.failed:
         sys.exit(f"failing_disk: {checks.failed} of {checks.count} are wrong")

@@ -6,7 +6,7 @@ docs/JOURNAL.md says. No contract can know this. Needs strace and Python 3 alone
 
 - The file is opened once, and its lock is that of the descriptor that is read and written. It is had before the file's size is
   looked at, and before anything is read or written.
-- A start is a sync, the snapshot of the restart into the area that is not live, a sync, the selector and a sync, and only
+- A start is the header as it reads, a sync, the snapshot of the restart into the area that is not live, a sync, the selector and a sync, and only
   then `listening`.
 - A block is one write of its length, its records and a closed gate, a sync, one write of one byte that opens the gate
   before it, and a sync. Nothing else is written into the file.
@@ -172,7 +172,7 @@ class Journal:
         check(bool(own) and own[0].name == "flock", "the file is not locked before all else")
         check(own[0].answer == 0 and "LOCK_EX" in own[0].words, "the file's exclusive lock is not had")
         sizes = [call for call in own if call.name in ("fstat", "newfstatat", "statx")]
-        check(len(sizes) == 1 and sizes[0].begun > own[0].ended, "the file's size is not looked at after the lock")
+        check(bool(sizes) and sizes[0].begun > own[0].ended, "the file's size is not looked at after the lock")
         check(not any(call.name == "flock" for call in own[1:]), "the file's lock is taken again or given up")
         names = ("pread64", "pwrite64", "pwritev", "write", "writev", "fsync", "fdatasync", "ftruncate")
         self.calls = [call for call in own if call.name in names]
@@ -210,6 +210,9 @@ class Journal:
 def start(journal, live, snapshot):
     """Checks a start: recovery's sync and reads, the snapshot into the other area in one write or more, and the switch.
     Answers the call that ended it."""
+    journal.reads()
+    place, data = journal.write("the header")
+    check(place == 0 and len(data) == HEAD and data[:6] == b"STOMPJ", f"the header is written back as {data} at {place}")
     journal.sync("recovery's sync")
     journal.reads()
     front, idle = b"", HEAD + AREA * (1 - live)

@@ -4,7 +4,7 @@ ghost use Rattle.std.specs.Prelude.{◌≡◌, replicate, IfOk, ⊤};
 use crate::faults::count;
 use crate::{DeviceFault, Disk};
 use std::fs::{File, OpenOptions, TryLockError};
-use std::os::unix::fs::{FileExt, OpenOptionsExt};
+use std::os::unix::fs::{FileExt, MetadataExt, OpenOptionsExt};
 use std::path::Path;
 use std::rt::Files;
 use std::{error, fmt, io};
@@ -47,14 +47,21 @@ impl From<io::Error> for OpenError {
 /// A disk in a file of the operating system.
 ///
 /// It claims nothing of its content and images, since no contract knows what a file holds: it is never honest. A sync
-/// asks the system to have the bytes and the size on the device (`fsync`). Nothing keeps another process from writing
-/// the file: a lock binds only those that ask for it. A read fails if the file no longer has the range.
+/// asks the system to have the bytes and the size on the device (`fsync`). The first one after opening also writes the
+/// first bytes back as they read: after an `fsync` that failed under an earlier process they may be on the way to the
+/// device no more. Nothing keeps another process from writing the file: a lock binds only those that ask for it. A read
+/// fails if the file no longer has the range, and a sync if the file was cut or has no name any more.
 #[derive(Drop)]
 pub struct FileDisk {
     file: File,
     size: u64,
     failures: u64,
+    // Whether the first bytes were not written back since the file was opened.
+    is_stale: bool,
 }
+
+// How many bytes are written back: a journal's header.
+const HEADER: usize = 32;
 
 impl FileDisk {
     ghost use Rattle.disk_core.specs.File.{file_size, file_failures};
@@ -83,6 +90,7 @@ impl FileDisk {
             file,
             size,
             failures: 0,
+            is_stale: false,
         })
     }
 
@@ -116,7 +124,36 @@ impl FileDisk {
             file,
             size,
             failures: 0,
+            is_stale: size >= HEADER as u64,
         })
+    }
+
+    // Writes back and syncs, and then looks whether the file still has a name and all of its bytes.
+    fn write_back_and_sync(&mut self) -> io::Result<()>
+        ensures size { self.new.size ≡ self.old.size }
+        ensures failures { self.new.failures ≡ self.old.failures }
+    {
+        self.write_header_back()?;
+        self.file.sync_all()?;
+        let there = self.file.metadata()?;
+        if there.nlink() == 0 || there.len() < self.size {
+            return Err(io::Error::from(io::ErrorKind::NotFound));
+        }
+        Ok(())
+    }
+
+    // Writes the first bytes back as they read, unless that was done since the file was opened.
+    fn write_header_back(&mut self) -> io::Result<()>
+        ensures size { self.new.size ≡ self.old.size }
+        ensures failures { self.new.failures ≡ self.old.failures }
+    {
+        if self.is_stale {
+            let mut header = [0; HEADER];
+            self.file.read_exact_at(&mut header, 0)?;
+            self.file.write_all_at(&header, 0)?;
+            self.is_stale = false;
+        }
+        Ok(())
     }
 }
 
@@ -173,7 +210,7 @@ impl Disk for FileDisk {
     }
 
     fn sync(&mut self) -> Result<(), DeviceFault> {
-        let outcome = self.file.sync_all();
+        let outcome = self.write_back_and_sync();
         count(outcome, &mut self.failures)
     }
 }

@@ -1,5 +1,5 @@
 -- What a flusher keeps, from call to call.
-use Rattle.std.proofs.Common.{◌≡◌, ◌<◌, ◌≤◌, ◌+◌, ◌-◌, ◌^◌, ◌++◌, ⊎_elim, ℕ, Bool, true, false, List, [], ◌∷◌, cond, drop, Option, length, length-append, take, refl, sym, ◌∙◌, ap, subst, arith}
+use Rattle.std.proofs.Common.{◌≡◌, ◌<◌, ◌≤◌, ◌+◌, ◌-◌, ◌^◌, ◌++◌, ⊎_elim, ℕ, Bool, true, false, List, [], ◌∷◌, cond, drop, length, length-append, take, refl, sym, ◌∙◌, ap, subst, arith}
 use Rattle.std.proofs.Math.Logic.{∥∥₁_map}
 use Rattle.std.proofs.lemmas.List.{length-take-le, take-append-drop, take-map}
 use Rattle.std.specs.List.{drop-map}
@@ -15,7 +15,7 @@ use Rattle.broker_core.specs.Steps.{outs_of, state_after}
 use Rattle.claim_core.specs.Seats.{FlushSeatValue, next_ticket, when_stopped, with_mark}
 use Rattle.recover_core.specs.Standing.{StandFor, Stands, StandsForEither}
 use Rattle.flush_core.specs.Batches.{IsBatch, between, from_on, state_at, with_more}
-use Rattle.flush_core.specs.Flushed.{AfterSome, AreUnder, Flushed, HoldBetween, IsFlusher, IsHeld, unexecuted}
+use Rattle.flush_core.specs.Flushed.{AfterSome, AreUnder, Compaction, Flushed, HoldBetween, IsFlusher, IsHeld, unexecuted}
 use Rattle.flush_core.specs.Outcomes.{executing, stored_entries}
 use Rattle.flush_core.specs.Sessions.{boxes_after, ended_of}
 use Rattle.outbox_core.specs.Boxes.{SenderValue}
@@ -245,9 +245,9 @@ module _ {D : Type 0} (honest : D → Type 0) (images : D → List ℕ → Type 
   })
 
   -- the journal is compacted
-  pub compacts : (f : Flushed D) (next : D) (size used : ℕ) (won : Option ℕ) → f.broken ≡ false → (honest next → StandFor (images next) (state_at f.opening f.seat f.stored)) → IsFlusher honest images f
-      → IsFlusher honest images (record f { disk = next; size = size; used = used; won = won })
-  compacts f next size used won whole stand kept =
+  pub compacts : (f : Flushed D) (next : D) (size used : ℕ) (last : Compaction) → f.broken ≡ false → (honest next → StandFor (images next) (state_at f.opening f.seat f.stored)) → IsFlusher honest images f
+      → IsFlusher honest images (record f { disk = next; size = size; used = used; last = last })
+  compacts f next size used last whole stand kept =
       let run = kept.running whole in
       record {
         begun = kept.begun;
@@ -263,8 +263,8 @@ module _ {D : Type 0} (honest : D → Type 0) (images : D → List ℕ → Type 
       }
 
   -- what was won is told
-  pub tells : (f : Flushed D) (won : Option ℕ) → IsFlusher honest images f → IsFlusher honest images (record f { won = won })
-  tells f won kept =
+  pub tells : (f : Flushed D) (last : Compaction) → IsFlusher honest images f → IsFlusher honest images (record f { last = last })
+  tells f last kept =
       record {
         begun = kept.begun;
         marked = kept.marked;

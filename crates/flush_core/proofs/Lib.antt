@@ -6,6 +6,8 @@ pub mod Turns
 pub mod Room
 pub mod Prefixes
 pub mod Compactions
+pub mod MayCompact
+pub mod Counting
 pub mod RoomWon
 pub mod Halting
 pub mod Calls

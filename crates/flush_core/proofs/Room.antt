@@ -1,5 +1,5 @@
 -- Where a block does not fit.
-use Rattle.std.proofs.Common.{◌≡◌, ◌≢◌, ◌⊎◌, ◌<◌, ◌≤◌, ◌+◌, ◌-◌, ℕ, List, [], false, Option, Err, length, take, ap, subst, sym, ◌∙◌, arith}
+use Rattle.std.proofs.Common.{◌≡◌, ◌≢◌, ◌⊎◌, ◌<◌, ◌≤◌, ◌+◌, ◌-◌, ℕ, List, [], false, Err, length, take, ap, subst, sym, ◌∙◌, arith}
 use Rattle.std.specs.Prelude.{IsErrOf}
 use Rattle.std.proofs.lemmas.Bool.{false≢true}
 use Rattle.std.proofs.Math.Logic.{∥∥₁_prop, ∥∥₁_elim}
@@ -17,7 +17,7 @@ use Rattle.flush_core.specs.declared.faults.FlushFault.{FlushFault}
 use Rattle.flush_core.specs.declared.faults.FlushFault.TheVariants.{Device, Full, Broken, Memory}
 use Rattle.flush_core.specs.Batches.{IsBatch, block_bytes, from_on, state_at}
 use Rattle.flush_core.specs.Calls.{RefusesToStore, RefusesTurn}
-use Rattle.flush_core.specs.Flushed.{Flushed, IsFlusher, gathered, state_stored}
+use Rattle.flush_core.specs.Flushed.{Compaction, Flushed, IsFlusher, gathered, state_stored}
 use Rattle.claim_core.specs.Seats.{FlushSeatValue, next_ticket}
 use Rattle.flush_core.specs.Outcomes.{IsOutcome, publishing, executing, storing, taking}
 use Rattle.recover_core.specs.Compactions.{HasNoRoomFor}
@@ -66,7 +66,7 @@ rest_stays {D} old new n Broken was = sym (ap (λ (f : Flushed D). from_on f.sea
 rest_stays old new n (Memory refused) fell = sym (ap (λ s. from_on s n) fell.seat)
 
 -- The disk is as it was where nothing was gathered: storing then changed nothing, and what comes behind it calls no disk.
-module _ {D : Type 0} (f g h : Flushed D) (entries : List (EntryValue SenderValue)) (n : ℕ) (next : D) (size used : ℕ) (won : Option ℕ) (took : g ≡ taking f entries) (did : h ≡ storing g n next size used won) (nothing : gathered g ≡ [] → h ≡ g) where
+module _ {D : Type 0} (f g h : Flushed D) (entries : List (EntryValue SenderValue)) (n : ℕ) (next : D) (size used : ℕ) (last : Compaction) (took : g ≡ taking f entries) (did : h ≡ storing g n next size used last) (nothing : gathered g ≡ [] → h ≡ g) where
   gathered_before : (seat : FlushSeatValue) → from_on h.seat g.stored ≡ from_on seat g.stored → from_on seat f.stored ≡ [] → gathered g ≡ []
   gathered_before seat rest none =
       ap (λ (x : Flushed D). from_on x.seat g.stored) (sym did) ∙ (rest ∙ (ap (λ (x : Flushed D). from_on seat x.stored) took ∙ none))
@@ -78,10 +78,10 @@ module _ {D : Type 0} (f g h : Flushed D) (entries : List (EntryValue SenderValu
       ap (λ (x : Flushed D). from_on x.seat g.stored) (sym did) ∙ (seat ∙ ap (λ (x : Flushed D). from_on l.seat x.stored) took)
 
   -- what is used and won once the turn went through is what storing left
-  same_used : (k l : Flushed D) → k ≡ executing h → l ≡ publishing k l.boxes → (l.used ≡ h.used) × (l.won ≡ h.won)
+  same_used : (k l : Flushed D) → k ≡ executing h → l ≡ publishing k l.boxes → (l.used ≡ h.used) × (l.last ≡ h.last)
   same_used k l executed published = (
     ap (λ (x : Flushed D). x.used) published ∙ ap (λ (x : Flushed D). x.used) executed,
-    ap (λ (x : Flushed D). x.won) published ∙ ap (λ (x : Flushed D). x.won) executed,
+    ap (λ (x : Flushed D). x.last) published ∙ ap (λ (x : Flushed D). x.last) executed,
   )
 
   -- nor does the number stored change
@@ -93,31 +93,31 @@ module _ {D : Type 0} (f g h : Flushed D) (entries : List (EntryValue SenderValu
       sym (ap (λ (x : Flushed D). next_ticket x.seat) published ∙ (ap (λ (x : Flushed D). next_ticket x.seat) executed ∙ ap (λ (x : Flushed D). next_ticket x.seat) did))
 
   pub came_behind : (k l : Flushed D) → k ≡ executing h → l ≡ publishing k l.boxes
-      → (Fits g.size g.used (gathered g) → gathered g ≢ [] → (h.stored ≡ next_ticket g.seat) × (h.used ≡ g.used + 9 + length (records (gathered g))) × (h.won ≡ g.won))
+      → (Fits g.size g.used (gathered g) → gathered g ≢ [] → (h.stored ≡ next_ticket g.seat) × (h.used ≡ g.used + 9 + length (records (gathered g))) × (h.last ≡ g.last))
       → Fits f.size f.used (from_on l.seat f.stored) → from_on l.seat f.stored ≢ []
-      → (l.stored ≡ next_ticket l.seat) × (l.used ≡ f.used + 9 + length (records (from_on l.seat f.stored))) × (l.won ≡ f.won)
+      → (l.stored ≡ next_ticket l.seat) × (l.used ≡ f.used + 9 + length (records (from_on l.seat f.stored))) × (l.last ≡ f.last)
   came_behind k l executed published told fits some =
       let same = same_used k l executed published in
-      let all = subst (λ (z : Flushed D × List CommandValue). Fits z.0.size z.0.used z.1 → z.1 ≢ [] → (h.stored ≡ next_ticket g.seat) × (h.used ≡ z.0.used + 9 + length (records z.1)) × (h.won ≡ z.0.won)) (λ i. (took i, taken_stays k l executed published i)) told fits some in
+      let all = subst (λ (z : Flushed D × List CommandValue). Fits z.0.size z.0.used z.1 → z.1 ≢ [] → (h.stored ≡ next_ticket g.seat) × (h.used ≡ z.0.used + 9 + length (records z.1)) × (h.last ≡ z.0.last)) (λ i. (took i, taken_stays k l executed published i)) told fits some in
       (same_stored k l executed published ∙ (all.0 ∙ same_end k l executed published), same.0 ∙ all.1, same.1 ∙ all.2)
 
   pub came_afresh : (k l : Flushed D) → k ≡ executing h → l ≡ publishing k l.boxes → f.stored ≤ next_ticket f.seat
       → (IsTooLong g.size g.used (gathered g) → gathered g ≢ []
-      → StoresAfresh g.size g.used (state_at g.opening g.seat g.stored) (gathered g) (h.stored - g.stored) h.used h.won)
+      → StoresAfresh g.size g.used g.stored (state_at g.opening g.seat g.stored) (gathered g) (h.stored - g.stored) h.used h.last)
       → IsTooLong f.size f.used (from_on l.seat f.stored) → from_on l.seat f.stored ≢ []
-      → StoresAfresh f.size f.used (state_at f.opening f.seat f.stored) (from_on l.seat f.stored) (l.stored - f.stored) l.used l.won
+      → StoresAfresh f.size f.used f.stored (state_at f.opening f.seat f.stored) (from_on l.seat f.stored) (l.stored - f.stored) l.used l.last
   came_afresh k l executed published few told long some =
       let state : state_at g.opening g.seat g.stored ≡ state_at f.opening f.seat f.stored = ap (λ (x : Flushed D). state_at x.opening x.seat x.stored) took ∙ at_more f.opening f.seat (commands entries) f.stored few in
       let same = same_used k l executed published in
-      let all = subst (λ (z : Flushed D × State × List CommandValue). IsTooLong z.0.size z.0.used z.2 → z.2 ≢ [] → StoresAfresh z.0.size z.0.used z.1 z.2 (h.stored - z.0.stored) h.used h.won) (λ i. (took i, state i, taken_stays k l executed published i)) told long some in
-      subst (λ (z : ℕ × ℕ × Option ℕ). StoresAfresh f.size f.used (state_at f.opening f.seat f.stored) (from_on l.seat f.stored) (z.0 - f.stored) z.1 z.2)
+      let all = subst (λ (z : Flushed D × State × List CommandValue). IsTooLong z.0.size z.0.used z.2 → z.2 ≢ [] → StoresAfresh z.0.size z.0.used z.0.stored z.1 z.2 (h.stored - z.0.stored) h.used h.last) (λ i. (took i, state i, taken_stays k l executed published i)) told long some in
+      subst (λ (z : ℕ × ℕ × Compaction). StoresAfresh f.size f.used f.stored (state_at f.opening f.seat f.stored) (from_on l.seat f.stored) (z.0 - f.stored) z.1 z.2)
       (sym (λ i. (same_stored k l executed published i, same.0 i, same.1 i))) all
 
   -- nothing is won where nothing was gathered
-  pub none_won : (k l : Flushed D) → k ≡ executing h → l ≡ publishing k l.boxes → from_on l.seat f.stored ≡ [] → l.won ≡ f.won
+  pub none_won : (k l : Flushed D) → k ≡ executing h → l ≡ publishing k l.boxes → from_on l.seat f.stored ≡ [] → l.last ≡ f.last
   none_won k l executed published none =
       let seat : from_on h.seat g.stored ≡ from_on l.seat g.stored = ap (λ (x : Flushed D). from_on x.seat g.stored) (sym executed) ∙ ap (λ (x : Flushed D). from_on x.seat g.stored) (sym published) in
-      (same_used k l executed published).1 ∙ ap (λ (x : Flushed D). x.won) (nothing (gathered_before l.seat seat none) ∙ took)
+      (same_used k l executed published).1 ∙ ap (λ (x : Flushed D). x.last) (nothing (gathered_before l.seat seat none) ∙ took)
 
   -- executing failed
   pub still_unexecuted : (k : Flushed D) (fault : FlushFault) → IsOutcome {X = Unit {0}} h k (Err fault) → k.disk ≡ h.disk → from_on k.seat f.stored ≡ [] → k.disk ≡ f.disk

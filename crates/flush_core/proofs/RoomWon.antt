@@ -1,5 +1,5 @@
 -- A batch is stored once room was won for it.
-use Rattle.std.proofs.Common.{◌≡◌, ◌≢◌, ◌<◌, ◌≤◌, ◌+◌, ◌-◌, ◌⊎◌, inl, inr, ⊎_elim, ℕ, List, [], Option, Result, Ok, Err, OnErr, OnOk, false, length, take, sym, ◌∙◌, ap, subst, arith}
+use Rattle.std.proofs.Common.{◌≡◌, ◌≢◌, ◌<◌, ◌≤◌, ◌+◌, ◌-◌, ◌⊎◌, inl, inr, ⊎_elim, ℕ, List, [], Result, Ok, Err, OnErr, OnOk, false, length, take, sym, ◌∙◌, ap, subst, arith}
 use Rattle.std.specs.Prelude.{IsErrOf}
 use Rattle.std.proofs.lemmas.Bool.{false≢true}
 use Rattle.std.proofs.lemmas.List.{take_all}
@@ -19,7 +19,7 @@ use Rattle.flush_core.specs.declared.faults.FlushFault.TheVariants.{Broken, Devi
 use Rattle.flush_core.specs.Batches.{state_at}
 use Rattle.flush_core.specs.Calls.{EitherThroughout, FlushBreaks, FlushCompacts, IsStoring, RefusesState, RefusesToStore, RefusesToStoreFirst, StoresFirst, StoresGathered, WinsRoom}
 use Rattle.flush_core.specs.Faults.{IfMemory, IsFlushCaused}
-use Rattle.flush_core.specs.Flushed.{Flushed, IsFlusher, gathered, state_stored}
+use Rattle.flush_core.specs.Flushed.{Compaction, Flushed, IsFlusher, gathered, state_stored}
 use Rattle.flush_core.specs.Outcomes.{Falls, IsNext, IsCompacted, IsLeft, IsOutcome, storing, using}
 use Rattle.flush_core.specs.Room.{Fits, HasNoRoomForState, HasNoRoomLeft, IsLongest, IsTooLong, LacksRoomForState, StoresAfresh, used_afresh}
 use Rattle.flush_core.proofs.Prefixes.{is_longest, records_cut}
@@ -69,11 +69,11 @@ unwon disk old new fault there wins refuses = record {
 
 module _ {D : Type 0} (disk : Ghosts D) (old mid : Flushed D) (made : IsLeft old mid ⊎ IsCompacted disk old mid) where
   -- nothing but the disk, the bytes used and what was won has changed
-  all_but_disk : mid ≡ using old mid.disk mid.used mid.won
+  all_but_disk : mid ≡ using old mid.disk mid.used mid.last
   all_but_disk =
       ⊎_elim
-      (λ (l : IsLeft old mid). l.same ∙ sym (λ i. using old ((l.same i).disk) ((l.same i).used) ((l.same i).won)))
-      (λ (w : IsCompacted disk old mid). w.is ∙ sym (λ i. using old mid.disk ((w.is i).used) ((w.is i).won)))
+      (λ (l : IsLeft old mid). l.same ∙ sym (λ i. using old ((l.same i).disk) ((l.same i).used) ((l.same i).last)))
+      (λ (w : IsCompacted disk old mid). w.is ∙ sym (λ i. using old mid.disk ((w.is i).used) ((w.is i).last)))
       made
 
   pub still_whole : old.broken ≡ false → mid.broken ≡ false
@@ -184,14 +184,14 @@ module _ {D : Type 0} (disk : Ghosts D) (old mid : Flushed D) (made : IsLeft old
       number_so : new.stored ≡ old.stored + count
       number_so = ap (λ (f : Flushed D). f.stored) did.stored ∙ ap (λ (f : Flushed D). f.stored + count) all_but_disk
 
-      won_so : new.won ≡ mid.won
-      won_so = ap (λ (f : Flushed D). f.won) did.stored
+      won_so : new.last ≡ mid.last
+      won_so = ap (λ (f : Flushed D). f.last) did.stored
 
-      stored_so : new ≡ storing old new.stored new.disk new.size new.used new.won
+      stored_so : new ≡ storing old new.stored new.disk new.size new.used new.last
       stored_so =
           let n : new.stored ≡ mid.stored + count = ap (λ (f : Flushed D). f.stored) did.stored in
-          subst (λ (z : ℕ × Option ℕ). new ≡ storing old z.0 new.disk new.size new.used z.1) (sym (λ i. (n i, won_so i)))
-          (did.stored ∙ ap (λ (f : Flushed D). storing f (mid.stored + count) new.disk new.size new.used mid.won) all_but_disk)
+          subst (λ (z : ℕ × Compaction). new ≡ storing old z.0 new.disk new.size new.used z.1) (sym (λ i. (n i, won_so i)))
+          (did.stored ∙ ap (λ (f : Flushed D). storing f (mid.stored + count) new.disk new.size new.used mid.last) all_but_disk)
 
       -- the disk stands for the state after as much as is stored
       stands_so : disk.honest mid.disk → StandFor (disk.images new.disk) (state_at old.opening old.seat new.stored)
@@ -201,7 +201,7 @@ module _ {D : Type 0} (disk : Ghosts D) (old mid : Flushed D) (made : IsLeft old
 
       -- the block stands behind what was used
       behind_so : Fits old.size old.used (gathered old)
-          → (new.stored ≡ next_ticket old.seat) × (new.used ≡ old.used + 9 + length (records (gathered old))) × (new.won ≡ old.won)
+          → (new.stored ≡ next_ticket old.seat) × (new.used ≡ old.used + 9 + length (records (gathered old))) × (new.last ≡ old.last)
       behind_so fits =
           let all : count ≡ length (gathered old) = count_behind fits in
           let first : take count (gathered mid) ≡ gathered old = (λ i. take (all i) (still_gathered i)) ∙ take_all (length (gathered old)) (gathered old) (omega arith) in
@@ -209,25 +209,25 @@ module _ {D : Type 0} (disk : Ghosts D) (old mid : Flushed D) (made : IsLeft old
           (λ (l : IsLeft old mid). (
             omega (arith, number_so, all, to_end),
             did.used ∙ (λ i. (l.same i).used + 9 + length (records (first i))),
-            won_so ∙ ap (λ (f : Flushed D). f.won) l.same,
+            won_so ∙ ap (λ (f : Flushed D). f.last) l.same,
           ))
           (λ (w : IsCompacted disk old mid). absurd (omega (arith, fits, w.long)))
           made
 
       -- or behind the snapshot
       afresh_so : IsTooLong old.size old.used (gathered old)
-          → StoresAfresh old.size old.used (state_stored old) (gathered old) (new.stored - old.stored) new.used new.won
+          → StoresAfresh old.size old.used old.stored (state_stored old) (gathered old) (new.stored - old.stored) new.used new.last
       afresh_so long =
           let s = state_stored old in
           let k : new.stored - old.stored ≡ count = omega (arith, number_so) in
-          let Of : ℕ → Type 0 = λ k. StoresAfresh old.size old.used s (gathered old) k new.used new.won in
+          let Of : ℕ → Type 0 = λ k. StoresAfresh old.size old.used old.stored s (gathered old) k new.used new.last in
           ⊎_elim
           (λ (l : IsLeft old mid). absurd (omega (arith, l.fits, long)))
           (λ (w : IsCompacted disk old mid). subst Of (sym k) (record {
             longest = count_afresh long;
             fits = subst (λ (z : Flushed D × List CommandValue). Fits z.0.size z.0.used (take count z.1)) (λ i. (w.is i, still_gathered i)) did.fits;
             used_is = did.used ∙ (λ i. (w.is i).used + 9 + length (records (take count (still_gathered i))));
-            won_is = won_so ∙ ap (λ (f : Flushed D). f.won) w.is;
+            last_is = won_so ∙ ap (λ (f : Flushed D). f.last) w.is;
           }))
           made
 

@@ -18,7 +18,7 @@ use Rattle.flush_core.specs.Batches.{between, from_on, state_at, state_taken, wi
 use Rattle.flush_core.specs.Flushed.{AreUnder}
 
 -- the first commands, and so many more
-take_further : (n m : ℕ) (cs : List CommandValue) → take n cs ++ take m (drop n cs) ≡ take (n + m) cs
+pub take_further : (n m : ℕ) (cs : List CommandValue) → take n cs ++ take m (drop n cs) ≡ take (n + m) cs
 take_further n m cs =
     ap (λ (l : List CommandValue). l ++ take m (drop n cs)) (sym (take-take n (n + m) cs (omega arith)))
     ∙ ap (λ (l : List CommandValue). take n (take (n + m) cs) ++ l) (sym (drop-take n m cs))

@@ -1,5 +1,5 @@
 -- A turn: what a stop within it leaves.
-use Rattle.std.proofs.Common.{◌<◌, ◌≤◌, ◌-◌, ◌++◌, [], drop, take, refl, ◌≡◌, inl, false, true, ℕ, List, Option, Err, sym, ◌∙◌, ap, subst, arith}
+use Rattle.std.proofs.Common.{◌<◌, ◌≤◌, ◌-◌, ◌++◌, [], drop, take, refl, ◌≡◌, inl, false, true, ℕ, List, Err, sym, ◌∙◌, ap, subst, arith}
 use Rattle.std.proofs.lemmas.List.{append-nil}
 use Rattle.std.proofs.lemmas.Bool.{false≢true}
 use Rattle.disk_core.specs.declared.disk.Disk.{Ghosts}
@@ -16,7 +16,7 @@ use Rattle.flush_core.specs.declared.faults.FlushFault.TheVariants.{Device, Full
 use Rattle.flush_core.specs.Batches.{between, from_on, state_at, with_more}
 use Rattle.flush_core.specs.Calls.{FlushBreaks, RefusesTurn, TurnBreaks}
 use Rattle.flush_core.specs.Faults.{IsFlushCaused, NeedsNoDisk}
-use Rattle.flush_core.specs.Flushed.{Flushed, IsFlusher, unexecuted}
+use Rattle.flush_core.specs.Flushed.{Compaction, Flushed, IsFlusher, unexecuted}
 use Rattle.flush_core.specs.Outcomes.{Falls, IsNext, IsOutcome, IsTurn, IsTurned, TurnFalls, publishing, executing, standing, stored_entries, storing, taking, turned_boxes, turned_outs}
 use Rattle.flush_core.specs.Sessions.{boxes_after, ended_of}
 use Rattle.outbox_core.specs.Giving.{AreGiven, Kept, unboxed, without}
@@ -65,9 +65,9 @@ module _ {D : Type 0} (disk : Ghosts D) where
       (here honest whole)))
 
   -- the disk stands for the state after what is stored, once that is executed and published
-  pub stands_so : (g did left new : Flushed D) (n : ℕ) (next : D) (size used : ℕ) (won : Option ℕ) → did ≡ storing g n next size used won → left ≡ executing did → left.disk ≡ did.disk → new ≡ publishing left new.boxes
+  pub stands_so : (g did left new : Flushed D) (n : ℕ) (next : D) (size used : ℕ) (last : Compaction) → did ≡ storing g n next size used last → left ≡ executing did → left.disk ≡ did.disk → new ≡ publishing left new.boxes
       → StandFor (disk.images did.disk) (state_at g.opening g.seat n) → StandFor (disk.images new.disk) (state_at new.opening new.seat new.stored)
-  stands_so g did left new n next size used won did_is left_is same new_is stand =
+  stands_so g did left new n next size used last did_is left_is same new_is stand =
       let opened : new.opening ≡ g.opening = ap (λ (f : Flushed D). f.opening) new_is ∙ (ap (λ (f : Flushed D). f.opening) left_is ∙ ap (λ (f : Flushed D). f.opening) did_is) in
       let taken : new.seat.taken ≡ g.seat.taken = ap (λ (f : Flushed D). f.seat.taken) new_is ∙ (ap (λ (f : Flushed D). f.seat.taken) left_is ∙ ap (λ (f : Flushed D). f.seat.taken) did_is) in
       let base : new.seat.base ≡ g.seat.base = ap (λ (f : Flushed D). f.seat.base) new_is ∙ (ap (λ (f : Flushed D). f.seat.base) left_is ∙ ap (λ (f : Flushed D). f.seat.base) did_is) in
@@ -105,12 +105,12 @@ module _ {D : Type 0} (disk : Ghosts D) where
   }
 
   -- a turn of the four steps
-  pub turned : (old took did left new : Flushed D) (entries : List (EntryValue SenderValue)) (n : ℕ) (next : D) (size used : ℕ) (won : Option ℕ) → old.executed ≡ old.stored → old.stored ≤ n → n ≤ next_ticket (with_more old.seat (commands entries))
-      → took ≡ taking old entries → did ≡ storing took n next size used won → left ≡ executing did → new ≡ publishing left new.boxes → AreGiven left.waiting (standing left) new.boxes → IsTurned old new entries
-  turned old took did left new entries n next size used won executed rises few took_is did_is left_is new_is given =
-      let stored = storing (taking old entries) n next size used won in
+  pub turned : (old took did left new : Flushed D) (entries : List (EntryValue SenderValue)) (n : ℕ) (next : D) (size used : ℕ) (last : Compaction) → old.executed ≡ old.stored → old.stored ≤ n → n ≤ next_ticket (with_more old.seat (commands entries))
+      → took ≡ taking old entries → did ≡ storing took n next size used last → left ≡ executing did → new ≡ publishing left new.boxes → AreGiven left.waiting (standing left) new.boxes → IsTurned old new entries
+  turned old took did left new entries n next size used last executed rises few took_is did_is left_is new_is given =
+      let stored = storing (taking old entries) n next size used last in
       let all = executing stored in
-      let is : left ≡ all = left_is ∙ ap (λ (f : Flushed D). executing f) (did_is ∙ ap (λ (f : Flushed D). storing f n next size used won) took_is) in
+      let is : left ≡ all = left_is ∙ ap (λ (f : Flushed D). executing f) (did_is ∙ ap (λ (f : Flushed D). storing f n next size used last) took_is) in
       let end : new ≡ publishing all new.boxes = new_is ∙ ap (λ (f : Flushed D). publishing f new.boxes) is in
       let more = commands entries in
       let number : new.stored ≡ n = ap (λ (f : Flushed D). f.stored) end in
@@ -139,10 +139,10 @@ module _ {D : Type 0} (disk : Ghosts D) where
       }
 
 -- a turn whose commands are taken and stored fails where executing them does
-module _ {D : Type 0} (old took did new : Flushed D) (entries : List (EntryValue SenderValue)) (n : ℕ) (next : D) (size used : ℕ) (won : Option ℕ)
-    (whole : old.broken ≡ false) (took_is : took ≡ taking old entries) (did_is : did ≡ storing took n next size used won) where
-  did_all : did ≡ storing (taking old entries) n next size used won
-  did_all = did_is ∙ ap (λ (f : Flushed D). storing f n next size used won) took_is
+module _ {D : Type 0} (old took did new : Flushed D) (entries : List (EntryValue SenderValue)) (n : ℕ) (next : D) (size used : ℕ) (last : Compaction)
+    (whole : old.broken ≡ false) (took_is : took ≡ taking old entries) (did_is : did ≡ storing took n next size used last) where
+  did_all : did ≡ storing (taking old entries) n next size used last
+  did_all = did_is ∙ ap (λ (f : Flushed D). storing f n next size used last) took_is
 
   turn_falls : Falls did new → TurnFalls old new
   turn_falls fell =
@@ -200,7 +200,7 @@ module _ {D : Type 0} (disk : Ghosts D) where
   pub store_breaks : (old took new : Flushed D) (entries : List (EntryValue SenderValue)) (fault : FlushFault) → old.broken ≡ false → took.broken ≡ false → took ≡ taking old entries
       → FlushBreaks {X = Unit {0}} disk took new (Err fault) → TurnBreaks {X = ℕ} disk old new (Err fault)
   store_breaks old took new entries fault whole sound is breaks = record {
-    outcome = execute_falls old took took new entries took.stored took.disk took.size took.used took.won whole is refl ℕ fault sound breaks.outcome;
+    outcome = execute_falls old took took new entries took.stored took.disk took.size took.used took.last whole is refl ℕ fault sound breaks.outcome;
     stops = breaks.stops;
     cause = subst (λ (f : Flushed D). IsFlushCaused {T = ℕ} (disk.failures f.disk) (disk.failures new.disk) (Err fault)) is (caused_as (Unit {0}) ℕ fault (disk.failures took.disk) (disk.failures new.disk) breaks.cause);
   }

@@ -23,6 +23,7 @@ use Rattle.recover_core.specs.Standing.{StandFor, StandsForEither}
 use Rattle.recover_core.specs.Stores.{disk_of, is_broken, size_of, used_of}
 use Rattle.flush_core.specs.declared.faults.FlushFault.{FlushFault}
 use Rattle.flush_core.specs.declared.faults.FlushFault.TheVariants.{Full}
+use Rattle.flush_core.specs.Backlogs.{IsLight}
 use Rattle.flush_core.specs.Batches.{IsBatch, block_bytes, from_on, state_at, with_more}
 use Rattle.flush_core.specs.Faults.{IfMemory, IsFlushCaused}
 use Rattle.flush_core.specs.Flushed.{Flushed, HasStopped, gathered, state_stored}
@@ -56,6 +57,18 @@ pub record FlushCompacts {D : Type 0} (disk : Ghosts D) (old new : Flushed D) : 
   pub alone : disk.honest old.disk → Each (disk.images new.disk) (HoldsItAlone new.size new.used (state_stored old))
   pub compacted_is : new ≡ compacted old new.disk (used_afresh (state_stored old))
 
+-- The journal was compacted, or nothing has changed. Or no snapshot of the state fits into an area, and what is stored from then on counts.
+pub data MayCompact {D : Type 0} (disk : Ghosts D) (old new : Flushed D) : Type 0 where
+  is_left : new ≡ old → MayCompact disk old new
+  is_compacted : FlushCompacts disk old new → MayCompact disk old new
+  is_too_long : HasNoRoomFor old.size (state_stored old) → new ≡ record old { last = record old.last { since = old.stored } } → MayCompact disk old new
+
+-- A start has less to repeat than it may. If it had before, nothing has changed.
+pub record CompactsIfDue {D : Type 0} (disk : Ghosts D) (old new : Flushed D) : Type 0 where
+  pub may : MayCompact disk old new
+  pub light : IsLight new
+  pub needed : IsLight old → new ≡ old
+
 -- If the answer is `Full`, no snapshot of that state fits into an area, and the disk stays.
 pub record RefusesState {D X : Type 0} (disk : Ghosts D) (old new : Flushed D) (result : Result X FlushFault) : Type 0 where
   pub full : IsErrOf result Full → HasNoRoomFor old.size (state_stored old) × (new.disk ≡ old.disk)
@@ -83,7 +96,7 @@ pub record RefusesFirst {B D T : Type 0} (disk : Ghosts D) (old new : Store D di
 -- The first `count` of the gathered commands are stored, in one block after what was used.
 pub record StoresFirst {D : Type 0} (disk : Ghosts D) (old new : Flushed D) (count : ℕ) : Type 0 where
   pub stands : disk.honest old.disk → StandFor (disk.images new.disk) (state_at old.opening old.seat (old.stored + count))
-  pub stored : new ≡ storing old (old.stored + count) new.disk new.size new.used old.won
+  pub stored : new ≡ storing old (old.stored + count) new.disk new.size new.used old.last
   pub used : new.used ≡ old.used + 9 + length (records (take count (gathered old)))
   pub fits : Fits old.size old.used (take count (gathered old))
 
@@ -114,9 +127,9 @@ StoresThroughout disk old new taken result = disk.honest old.disk → old.broken
 pub record StoresNext {D : Type 0} (disk : Ghosts D) (old new taken : Flushed D) : Type 0 where
   pub stands : disk.honest old.disk → StandFor (disk.images new.disk) (state_at taken.opening taken.seat new.stored)
   pub behind : Fits old.size old.used (to_store old taken) → to_store old taken ≢ []
-      → (new.stored ≡ next_ticket taken.seat) × (new.used ≡ old.used + 9 + length (records (to_store old taken))) × (new.won ≡ old.won)
+      → (new.stored ≡ next_ticket taken.seat) × (new.used ≡ old.used + 9 + length (records (to_store old taken))) × (new.last ≡ old.last)
   pub afresh : IsTooLong old.size old.used (to_store old taken) → to_store old taken ≢ []
-      → StoresAfresh old.size old.used (state_stored old) (to_store old taken) (new.stored - old.stored) new.used new.won
+      → StoresAfresh old.size old.used old.stored (state_stored old) (to_store old taken) (new.stored - old.stored) new.used new.last
 
 -- If the answer is `Full`, the block of what waits doesn't fit. Nor does a snapshot, and the disk stays; or the next command doesn't fit
 -- after one. The disk shows it.
@@ -127,7 +140,7 @@ pub record RefusesNext {D X : Type 0} (disk : Ghosts D) (old new taken : Flushed
 
 -- A part of what is gathered is stored, and nothing else has changed.
 pub record StoresGathered {D : Type 0} (disk : Ghosts D) (old new : Flushed D) : Type 0 where
-  pub stored : new ≡ storing old new.stored new.disk new.size new.used new.won
+  pub stored : new ≡ storing old new.stored new.disk new.size new.used new.last
   pub within : (old.stored ≤ new.stored) × (new.stored ≤ next_ticket old.seat)
   pub next : StoresNext disk old new old
 
@@ -146,7 +159,7 @@ pub record HasTurned {D : Type 0} (disk : Ghosts D) (most most_bytes : ℕ) (old
   pub turned : IsTurned old new more
   pub batch : IsBatch most (block_bytes old.size most_bytes) (to_store old new)
   pub stores : StoresNext disk old new new
-  pub idle : to_store old new ≡ [] → new.won ≡ old.won
+  pub idle : to_store old new ≡ [] → new.last ≡ old.last
 
 -- If the answer is `Full`, there is no room for what waits, which is a batch that is not empty.
 pub record RefusesTurn {D X : Type 0} (disk : Ghosts D) (most most_bytes : ℕ) (old new : Flushed D) (result : Result X FlushFault) : Type 0 where

@@ -16,12 +16,17 @@ use Rattle.recover_core.specs.Standing.{Stands, StandFor}
 use Rattle.recover_core.specs.Stores.{disk_of, size_of, used_of}
 use Rattle.flush_core.specs.Batches.{between, from_on, state_at}
 
+-- The last compaction: how many bytes of the area it won, if that was not asked for since; and the first command that is not in its
+-- snapshot. If none was made, that is the first command taken. If no snapshot fit when one was due, it is the first one stored after that.
+pub record Compaction : Type 0 where
+  pub won : Option ℕ
+  pub since : ℕ
+
 -- A flusher. It has its disk, the bytes of an area of the journal and those used; and its seat at the ring, with the commands taken and the
 -- mark. Then the state that the journal stood for when the flusher was made; the first number that is not stored, and the first that the
 -- broker has not executed. Then the entries that are taken and not executed; the broker; and the outboxes of sessions. Then the sessions
 -- that ended and whose last outputs wait for the mark, and those whose last outputs are given. Then the outputs that wait for the mark, and
--- those under it that went to no box; and whether a step failed. Last, how many bytes of its area the last compaction won, if that was not
--- asked for since.
+-- those under it that went to no box; and whether a step failed; and the last compaction.
 pub record Flushed (D : Type 0) : Type 0 where
   pub disk : D
   pub size : ℕ
@@ -38,11 +43,11 @@ pub record Flushed (D : Type 0) : Type 0 where
   pub waiting : List OutValue
   pub left : List OutValue
   pub broken : Bool
-  pub won : Option ℕ
+  pub last : Compaction
 
-abbrev pub flushed : {D : Type 0} {disk : Ghosts D} → Store D disk → FlushSeatValue → State → ℕ → ℕ → List (EntryValue SenderValue) → BrokerValue → Kept → List ℕ → List ℕ → List OutValue → List OutValue → Bool → Option ℕ → Flushed D
-flushed store seat opening stored executed brought broker boxes ended past waiting left broken won =
-    record { disk = disk_of store; size = size_of store; used = used_of store; seat = seat; opening = opening; stored = stored; executed = executed; brought = brought; broker = broker; boxes = boxes; ended = ended; past = past; waiting = waiting; left = left; broken = broken; won = won }
+abbrev pub flushed : {D : Type 0} {disk : Ghosts D} → Store D disk → FlushSeatValue → State → ℕ → ℕ → List (EntryValue SenderValue) → BrokerValue → Kept → List ℕ → List ℕ → List OutValue → List OutValue → Bool → Option ℕ → ℕ → Flushed D
+flushed store seat opening stored executed brought broker boxes ended past waiting left broken won since =
+    record { disk = disk_of store; size = size_of store; used = used_of store; seat = seat; opening = opening; stored = stored; executed = executed; brought = brought; broker = broker; boxes = boxes; ended = ended; past = past; waiting = waiting; left = left; broken = broken; last = record { won = won; since = since } }
 
 -- the state after all that is stored
 abbrev pub state_stored : {D : Type 0} → Flushed D → State
@@ -118,7 +123,7 @@ pub record IsSame {C D : Type 0} (one : Flushed C) (other : Flushed D) : Type 0 
   pub waiting : other.waiting ≡ one.waiting
   pub left : other.left ≡ one.left
   pub broken : other.broken ≡ one.broken
-  pub won : other.won ≡ one.won
+  pub last : other.last ≡ one.last
 
 -- How the fields show it while no step has failed. The journal is whole, and there is room for the outputs that wait. Entries stand for the
 -- commands that wait to be stored, and for those that wait to be executed.

@@ -1,3 +1,4 @@
+pub mod Backlogs
 pub mod Batches
 pub mod Calls
 pub mod Faults

@@ -42,7 +42,7 @@ impl<D: Disk, B: Bell, W: Width> Flusher<D, B, W> {
     }
 
     // The same for a flusher that is not broken.
-    fn compact_journal(
+    pub(crate) fn compact_journal(
         &mut self,
         alloc: Global,
         ring: &BrokerRing<OutSender<B>>,
@@ -60,6 +60,8 @@ impl<D: Disk, B: Bell, W: Width> Flusher<D, B, W> {
             Ok(()) => {
                 let won = before.saturating_sub(self.journal.used());
                 self.won = Some(won);
+                self.since = self.stored;
+                self.counted = 0;
                 Ok(())
             }
             Err(fault) => {
@@ -80,8 +82,8 @@ impl<D: Disk, B: Bell, W: Width> Flusher<D, B, W> {
     /// How many bytes of the live area the last compaction won, in a turn too: those used before it less those used after it. `None` if
     /// there was no compaction since the last call of this.
     pub fn take_won(&mut self) -> Option<u64>
-        ensures won { result ≡ self.old.won }
-        ensures told { self.new ≡ record self.old { won = None } }
+        ensures won { result ≡ self.old.last.won }
+        ensures told { self.new ≡ record self.old { last = record self.old.last { won = None } } }
     {
         self.won.take()
     }

@@ -46,6 +46,9 @@ pub struct Flusher<D: Disk, B: Bell, W: Width> {
     pub(crate) broken: bool,
     // How many bytes the last compaction won, if that was not asked for since.
     pub(crate) won: Option<u64>,
+    // The first number from which on what a start would repeat is counted, and what it costs to repeat what is executed since.
+    pub(crate) since: u64,
+    pub(crate) counted: u64,
     pub(crate) width: PhantomData<W>,
 }
 
@@ -53,18 +56,20 @@ impl<D: Disk, B: Bell, W: Width> Model for Flusher<D, B, W> {
     ghost use Rattle.std.specs.Prelude.{◌≡◌, ◌++◌, false, length, vec_capacity};
     ghost use Rattle.recover_core.specs.Stores.{is_broken, size_of};
     ghost use Rattle.area_core.specs.Areas.{commands};
+    ghost use Rattle.flush_core.specs.Backlogs.{IsCounted};
     ghost use Rattle.flush_core.specs.Batches.{IsBatch, block_bytes};
     ghost use Rattle.flush_core.specs.Flushed.{Flushed, IsFlusher, IsHeld, IsSpare, flushed};
 
     ghost Value = { Flushed D };
 
-    ghost view = { λ a. flushed a.journal a.seat a.opening.value.state a.stored a.executed (a.done.items ++ a.batch.items) a.broker a.outlet.boxes a.outlet.ended.items a.outlet.past.items a.outlet.waiting.items a.outlet.left.items a.broken a.won };
+    ghost view = { λ a. flushed a.journal a.seat a.opening.value.state a.stored a.executed (a.done.items ++ a.batch.items) a.broker a.outlet.boxes a.outlet.ended.items a.outlet.past.items a.outlet.waiting.items a.outlet.left.items a.broken a.won a.since };
 
-    ghost invariant = { λ a. IsFlusher D.honest D.images (flushed a.journal a.seat a.opening.value.state a.stored a.executed (a.done.items ++ a.batch.items) a.broker a.outlet.boxes a.outlet.ended.items a.outlet.past.items a.outlet.waiting.items a.outlet.left.items a.broken a.won)
+    ghost invariant = { λ a. IsFlusher D.honest D.images (flushed a.journal a.seat a.opening.value.state a.stored a.executed (a.done.items ++ a.batch.items) a.broker a.outlet.boxes a.outlet.ended.items a.outlet.past.items a.outlet.waiting.items a.outlet.left.items a.broken a.won a.since)
         × (a.broken ≡ false → IsHeld a.seat a.stored a.executed (is_broken a.journal) a.batch.items a.done.items a.bytes
         (length a.outlet.left.items) (length a.outlet.waiting.items) (vec_capacity a.outlet.left))
         × (a.broken ≡ false → IsSpare (length a.outlet.spare.items) (length a.outlet.waiting.items) (vec_capacity a.outlet.spare))
-        × (a.broken ≡ false → IsBatch W.COMMANDS (block_bytes (size_of a.journal) W.BYTES) (commands a.batch.items)) };
+        × (a.broken ≡ false → IsBatch W.COMMANDS (block_bytes (size_of a.journal) W.BYTES) (commands a.batch.items))
+        × (a.broken ≡ false → IsCounted a.opening.value.state a.seat a.since a.executed a.counted) };
 }
 
 impl<D: Disk, B: Bell, W: Width> Flusher<D, B, W> {
@@ -80,7 +85,7 @@ impl<D: Disk, B: Bell, W: Width> Flusher<D, B, W> {
         requires stands { D.honest (disk_of journal) → StandFor (D.images (disk_of journal)) broker.state }
         requires fresh { (seat.taken ≡ []) × (seat.published ≡ seat.base) }
         requires count { broker.state.count ≡ seat.base }
-        ensures { result ≡ flushed journal seat broker.state seat.base seat.base [] broker [] [] [] [] [] false None }
+        ensures { result ≡ flushed journal seat broker.state seat.base seat.base [] broker [] [] [] [] [] false None seat.base }
     {
         let next = seat.next();
         let broken = broker.is_broken();
@@ -97,6 +102,8 @@ impl<D: Disk, B: Bell, W: Width> Flusher<D, B, W> {
             outlet: Outlet::new(alloc),
             broken,
             won: None,
+            since: next,
+            counted: 0,
             width: PhantomData,
         }
     }
@@ -181,6 +188,8 @@ impl<D: Disk, B: Bell, W: Width> Flusher<D, B, W> {
             outlet,
             broken,
             won,
+            since,
+            counted,
             width,
         } = self;
         Flusher {
@@ -196,6 +205,8 @@ impl<D: Disk, B: Bell, W: Width> Flusher<D, B, W> {
             outlet,
             broken,
             won,
+            since,
+            counted,
             width,
         }
     }

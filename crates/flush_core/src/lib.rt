@@ -2,7 +2,9 @@
 
 #![tactic(auto)]
 
+mod backlog;
 mod compacting;
+mod due;
 mod executing;
 mod faults;
 mod fitting;

@@ -24,7 +24,7 @@ pub some_of : {X : Type 0} (o : Option X) (x : X) (P : X → Type 0) → Some x 
 some_of o x P e p = let At : Option _ → Type 0 = λ k. IfSome k P in subst At (sym e) p
 
 pub first : {D : Type 0} {disk : Ghosts D} (f : Flushed D) (store : Store D disk) (seat : FlushSeatValue) (broker : BrokerValue) (ring : TableId) (base : ℕ)
-    → f ≡ flushed store seat broker.state seat.base seat.base [] broker [] [] [] [] [] false None → seat ≡ new_flushing ring base SEATS → broker.broken ≡ false → IsFirst ring base f
+    → f ≡ flushed store seat broker.state seat.base seat.base [] broker [] [] [] [] [] false None seat.base → seat ≡ new_flushing ring base SEATS → broker.broken ≡ false → IsFirst ring base f
 first f store seat broker ring base is seat_is whole =
     let base_is : seat.base ≡ base = ap (λ (s : FlushSeatValue). s.base) seat_is in
     let broker_is : f.broker ≡ broker = ap (λ (x : Flushed _). x.broker) is in
@@ -39,6 +39,7 @@ first f store seat broker ring base is seat_is whole =
       ended = (ap (λ (x : Flushed _). x.ended) is, ap (λ (x : Flushed _). x.past) is);
       waiting = ap (λ (x : Flushed _). x.waiting) is;
       left = ap (λ (x : Flushed _). x.left) is;
+      since = ap (λ (x : Flushed _). x.last.since) is ∙ base_is;
       whole = ap (λ (x : Flushed _). x.broken) is;
     }
   where

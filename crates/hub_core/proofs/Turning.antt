@@ -5,7 +5,10 @@ use Rattle.outbox_core.specs.Boxes.{SenderValue}
 use Rattle.area_core.specs.Areas.{commands}
 use Rattle.claim_core.specs.Seats.{FlushSeatValue}
 use Rattle.flush_core.specs.Flushed.{Flushed, IsFlusher}
-use Rattle.flush_core.specs.Outcomes.{IsTurned, IsTurn, TurnFalls}
+use Rattle.disk_core.specs.declared.disk.Disk.{Ghosts}
+use Rattle.flush_core.specs.Backlogs.{IsLight}
+use Rattle.flush_core.specs.Calls.{MayCompact, is_compacted, is_left, is_too_long}
+use Rattle.flush_core.specs.Outcomes.{Falls, IsOutcome, IsTurned, IsTurn, TurnFalls}
 use Rattle.flush_core.specs.declared.faults.FlushFault.{FlushFault}
 use Rattle.flush_core.specs.declared.faults.FlushFault.TheVariants.{Device, Full, Broken, Memory}
 use Rattle.hub_core.specs.Flushes.{Flushes}
@@ -44,7 +47,7 @@ more f g h a b = record {
 
 -- a turn, whose outputs are then taken away, and which is then asked what it won
 pub turned : {D : Type 0} (honest : D → Type 0) (images : D → List ℕ → Type 0) (old mid : Flushed D) (cs : List (EntryValue SenderValue))
-    → IsFlusher honest images old → old.broken ≡ false → IsTurned old mid cs → Flushes old (record mid { left = []; won = None })
+    → IsFlusher honest images old → old.broken ≡ false → IsTurned old mid cs → Flushes old (record mid { left = []; last = record mid.last { won = None } })
 turned honest images old mid cs kept whole t =
     let published : mid.seat.published ≡ mid.stored = ap (λ (s : FlushSeatValue). s.published) t.seat in
     record {
@@ -83,6 +86,59 @@ failed X old new (Memory refused) t = falls old new t
 
 -- the same, as a turn's clauses have it
 pub passed : {D : Type 0} (honest : D → Type 0) (images : D → List ℕ → Type 0) (old mid dropped new : Flushed D) (cs : List (EntryValue SenderValue))
-    → IsFlusher honest images old → old.broken ≡ false → IsTurned old mid cs → dropped ≡ record mid { left = [] } → new ≡ record dropped { won = None } → Flushes old new
+    → IsFlusher honest images old → old.broken ≡ false → IsTurned old mid cs → dropped ≡ record mid { left = [] } → new ≡ record dropped { last = record dropped.last { won = None } } → Flushes old new
 passed {D} honest images old mid dropped new cs kept whole t taken told =
-    let At : Flushed _ → Type 0 = λ f. Flushes old f in subst At (sym (told ∙ ap (λ (f : Flushed D). record f { won = None }) taken)) (turned honest images old mid cs kept whole t)
+    let At : Flushed _ → Type 0 = λ f. Flushes old f in subst At (sym (told ∙ ap (λ (f : Flushed D). record f { last = record f.last { won = None } }) taken)) (turned honest images old mid cs kept whole t)
+
+-- neither the seat nor a number has changed
+unmoved : {D : Type 0} (f g : Flushed D) → g.seat ≡ f.seat → g.opening ≡ f.opening → g.broken ≡ f.broken → g.stored ≡ f.stored → g.executed ≡ f.executed → g.left ≡ f.left → Flushes f g
+unmoved f g seat opening broken stored executed left = record {
+  ring = ap (λ (s : FlushSeatValue). s.ring) seat;
+  base = ap (λ (s : FlushSeatValue). s.base) seat;
+  seats = ap (λ (s : FlushSeatValue). s.seats) seat;
+  taken = ([], ap (λ (s : FlushSeatValue). s.taken) seat ∙ sym (append-nil f.seat.taken));
+  raised = omega (arith, ap (λ (s : FlushSeatValue). s.published) seat);
+  opening = opening;
+  broken = λ e. broken ∙ e;
+  executed = λ e whole. executed ∙ (e (sym broken ∙ whole) ∙ sym stored);
+  caught_up = λ e whole. stored ∙ (e ∙ sym (ap (λ (s : FlushSeatValue). s.published) seat));
+  left = λ e whole. left ∙ e;
+}
+
+-- what was won is forgotten
+pub forgotten : {D : Type 0} (f g : Flushed D) → g ≡ record f { last = record f.last { won = None } } → Flushes f g
+forgotten {D} f g is =
+    unmoved f g (ap (λ (x : Flushed D). x.seat) is) (ap (λ (x : Flushed D). x.opening) is) (ap (λ (x : Flushed D). x.broken) is) (ap (λ (x : Flushed D). x.stored) is) (ap (λ (x : Flushed D). x.executed) is) (ap (λ (x : Flushed D). x.left) is)
+
+pub still_light : {D : Type 0} (f g : Flushed D) → g ≡ record f { last = record f.last { won = None } } → IsLight f → IsLight g
+still_light f g is light = subst (λ (x : Flushed _). IsLight x) (sym is) light
+
+-- the journal may have been compacted
+pub may_flush : {D : Type 0} (disk : Ghosts D) (old new : Flushed D) → MayCompact disk old new → Flushes old new
+may_flush {D} disk old new (is_left same) = let At : Flushed D → Type 0 = λ f. Flushes old f in subst At (sym same) (none old)
+may_flush {D} disk old new (is_compacted did) =
+    let is = did.compacted_is in
+    unmoved old new (ap (λ (x : Flushed D). x.seat) is) (ap (λ (x : Flushed D). x.opening) is) (ap (λ (x : Flushed D). x.broken) is) (ap (λ (x : Flushed D). x.stored) is) (ap (λ (x : Flushed D). x.executed) is) (ap (λ (x : Flushed D). x.left) is)
+may_flush {D} disk old new (is_too_long none is) =
+    unmoved old new (ap (λ (x : Flushed D). x.seat) is) (ap (λ (x : Flushed D). x.opening) is) (ap (λ (x : Flushed D). x.broken) is) (ap (λ (x : Flushed D). x.stored) is) (ap (λ (x : Flushed D). x.executed) is) (ap (λ (x : Flushed D). x.left) is)
+
+-- a step that failed
+fell : {D : Type 0} (old new : Flushed D) → Falls old new → Flushes old new
+fell old new t = record {
+  ring = ap (λ (s : FlushSeatValue). s.ring) t.seat;
+  base = ap (λ (s : FlushSeatValue). s.base) t.seat;
+  seats = ap (λ (s : FlushSeatValue). s.seats) t.seat;
+  taken = ([], ap (λ (s : FlushSeatValue). s.taken) t.seat ∙ sym (append-nil old.seat.taken));
+  raised = omega (arith, ap (λ (s : FlushSeatValue). s.published) t.seat);
+  opening = t.opening;
+  broken = λ e. t.now;
+  executed = λ e b. let n = t.now in cc;
+  caught_up = λ e b. let n = t.now in cc;
+  left = λ e b. let n = t.now in cc;
+}
+
+pub fell_flush : {D : Type 0} (old new : Flushed D) (fault : FlushFault) → IsOutcome {X = Unit {0}} old new (Err fault) → Flushes old new
+fell_flush {D} old new Broken t = let At : Flushed D → Type 0 = λ f. Flushes old f in subst At (sym t.1) (none old)
+fell_flush old new Device t = fell old new t
+fell_flush old new Full t = fell old new t
+fell_flush old new (Memory refused) t = fell old new t

@@ -1,5 +1,5 @@
 -- What contracts see of a hub.
-use Rattle.std.specs.Prelude.{◌≡◌, ◌≤◌, ◌^◌, ℕ, List, [], ◌∷◌, ◌++◌, Option, Some, None, false, length, slice_get, All, IfSome}
+use Rattle.std.specs.Prelude.{◌≡◌, ℕ, List, [], Option, Some, false, length, slice_get, All, IfSome}
 use Rattle.atomic_table.specs.Seated.{TableId}
 use Rattle.disk_core.specs.declared.disk.Disk.{Ghosts}
 use Rattle.disk_core.specs.Calls.{Lasts, Throughout}
@@ -28,7 +28,7 @@ hub ring base seats flusher = record { ring = ring; base = base; seats = seats; 
 abbrev pub AreNew : TableId → ℕ → List SessionSeatValue → Type 0
 AreNew ring base seats = All (λ (seat : SessionSeatValue). seat ≡ new_session ring base seat.number) seats
 
--- a flusher that has done nothing yet: its seat is that of a new ring with all sessions' seats
+-- a flusher that has done nothing yet: its seat is that of a new ring with all sessions' seats, and a start would have nothing to repeat
 pub record IsFirst {D : Type 0} (ring : TableId) (base : ℕ) (f : Flushed D) : Type 0 where
   pub seat : f.seat ≡ new_flushing ring base SEATS
   pub stored : f.stored ≡ base
@@ -39,6 +39,7 @@ pub record IsFirst {D : Type 0} (ring : TableId) (base : ℕ) (f : Flushed D) : 
   pub ended : (f.ended ≡ []) × (f.past ≡ [])
   pub waiting : f.waiting ≡ []
   pub left : f.left ≡ []
+  pub since : f.last.since ≡ base
   pub whole : f.broken ≡ false
 
 -- what was not handed out yet is new

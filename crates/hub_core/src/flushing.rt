@@ -1,6 +1,7 @@
 //! What the flusher's thread does.
 
-ghost use Rattle.std.specs.Prelude.{◌≡◌, [], IfOk, None, OnErr, true, false};
+ghost use Rattle.std.specs.Prelude.{◌≡◌, [], IfOk, None, OnErr, OnOk, true, false};
+ghost use Rattle.flush_core.specs.Backlogs.{IsLight};
 ghost use Rattle.flush_core.specs.Faults.{IsFlushCaused};
 ghost use Rattle.hub_core.specs.Flushes.{Flushes};
 
@@ -13,7 +14,8 @@ use outbox_core::{Bell, OutSender};
 use std::alloc::Global;
 
 /// Makes so many turns of the flusher, counting those that its pace held up, and then answers the mark. Outputs of
-/// sessions that have no outbox are dropped. A fault ends it at once, and the pace hears that the flusher has stopped. The
+/// sessions that have no outbox are dropped. After each turn the journal is compacted if a start would have more to repeat
+/// than it may. A fault ends it at once, and the pace hears that the flusher has stopped. The
 /// fault is `Device` exactly if a call of the disk failed.
 pub fn flush_loop<D: Disk, B: Bell, P: Pacing>(
     alloc: Global,
@@ -26,6 +28,7 @@ pub fn flush_loop<D: Disk, B: Bell, P: Pacing>(
     requires executed { flusher.old.broken ≡ false → flusher.old.executed ≡ flusher.old.stored }
     ensures mark { IfOk result (λ mark. mark ≡ flusher.new.seat.published) }
     ensures flushes { Flushes flusher.old flusher.new }
+    ensures light { IsLight flusher.old → OnOk result (IsLight flusher.new) }
     ensures cause { IsFlushCaused (D.failures flusher.old.disk) (D.failures flusher.new.disk) result }
     ensures stops { OnErr result ((flusher.new.broken ≡ true) × (flusher.new.seat.stopped ≡ true)) }
 {
@@ -37,7 +40,27 @@ pub fn flush_loop<D: Disk, B: Bell, P: Pacing>(
     Ok(flusher.mark())
 }
 
-// One turn.
+/// Compacts the journal if a start would have anything to repeat: once all is published, at the end. A refusal of memory, or
+/// a state whose snapshot fits into no area, leaves a journal that stands for the same, so it is no fault; the flusher may be
+/// broken then.
+pub fn compact_last<D: Disk, B: Bell>(
+    alloc: Global,
+    ring: &BrokerRing<OutSender<B>>,
+    flusher: &mut HubFlusher<D, B>,
+) -> Result<(), FlushFault>
+    requires ring { flusher.old.seat.ring ≡ ring.now }
+    requires executed { flusher.old.broken ≡ false → flusher.old.executed ≡ flusher.old.stored }
+    ensures flushes { Flushes flusher.old flusher.new }
+    ensures none { IfOk result (λ _. flusher.new.broken ≡ false → flusher.new.last.since ≡ flusher.new.stored) }
+    ensures stops { OnErr result ((flusher.new.broken ≡ true) × (flusher.new.seat.stopped ≡ true)) }
+{
+    match flusher.compact_rest(alloc, ring) {
+        Err(FlushFault::Memory(_) | FlushFault::Full) => Ok(()),
+        ended => ended,
+    }
+}
+
+// One turn, and a compaction if one is due.
 fn flush<D: Disk, B: Bell, P: Pacing>(
     alloc: Global,
     ring: &BrokerRing<OutSender<B>>,
@@ -47,6 +70,7 @@ fn flush<D: Disk, B: Bell, P: Pacing>(
     requires ring { flusher.old.seat.ring ≡ ring.now }
     requires executed { flusher.old.broken ≡ false → flusher.old.executed ≡ flusher.old.stored }
     ensures flushes { Flushes flusher.old flusher.new }
+    ensures light { OnOk result (IsLight flusher.new) }
     ensures cause { IsFlushCaused (D.failures flusher.old.disk) (D.failures flusher.new.disk) result }
     ensures stops { OnErr result ((flusher.new.broken ≡ true) × (flusher.new.seat.stopped ≡ true)) }
 {
@@ -56,6 +80,32 @@ fn flush<D: Disk, B: Bell, P: Pacing>(
             drop_left(flusher);
             tell_mark(pace, before, flusher.mark());
             tell_compaction(pace, flusher);
+            compact_if_due(alloc, ring, flusher, pace)
+        }
+        Err(fault) => {
+            pace.stopped();
+            Err(fault)
+        }
+    }
+}
+
+// Compacts the journal if a start would have more to repeat than it may. The pace hears only if that fails.
+fn compact_if_due<D: Disk, B: Bell, P: Pacing>(
+    alloc: Global,
+    ring: &BrokerRing<OutSender<B>>,
+    flusher: &mut HubFlusher<D, B>,
+    pace: &P,
+) -> Result<(), FlushFault>
+    requires ring { flusher.old.seat.ring ≡ ring.now }
+    requires executed { flusher.old.broken ≡ false → flusher.old.executed ≡ flusher.old.stored }
+    ensures flushes { Flushes flusher.old flusher.new }
+    ensures light { OnOk result (IsLight flusher.new) }
+    ensures cause { IsFlushCaused (D.failures flusher.old.disk) (D.failures flusher.new.disk) result }
+    ensures stops { OnErr result ((flusher.new.broken ≡ true) × (flusher.new.seat.stopped ≡ true)) }
+{
+    match flusher.compact_if_due(alloc, ring) {
+        Ok(()) => {
+            forget_won(flusher);
             Ok(())
         }
         Err(fault) => {
@@ -63,6 +113,13 @@ fn flush<D: Disk, B: Bell, P: Pacing>(
             Err(fault)
         }
     }
+}
+
+// Nobody is told what the compaction won.
+fn forget_won<D: Disk, B: Bell>(flusher: &mut HubFlusher<D, B>)
+    ensures { flusher.new ≡ record flusher.old { last = record flusher.old.last { won = None } } }
+{
+    let _won = flusher.take_won();
 }
 
 // Drops the outputs of sessions that have no outbox.
@@ -81,7 +138,7 @@ fn tell_mark<P: Pacing>(pace: &P, before: u64, mark: u64) {
 
 // Tells the pace of the compaction that the turn made, if it made one.
 fn tell_compaction<D: Disk, B: Bell, P: Pacing>(pace: &P, flusher: &mut HubFlusher<D, B>)
-    ensures { flusher.new ≡ record flusher.old { won = None } }
+    ensures { flusher.new ≡ record flusher.old { last = record flusher.old.last { won = None } } }
 {
     if let Some(won) = flusher.take_won() {
         pace.compacted(won);

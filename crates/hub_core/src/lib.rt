@@ -10,7 +10,7 @@ mod pacing;
 mod sizes;
 
 pub use closed::Closed;
-pub use flushing::flush_loop;
+pub use flushing::{compact_last, flush_loop};
 pub use hub::{Hub, SeatRoom};
 pub use pacing::Pacing;
 pub use sizes::{HubFlusher, HubWidth};

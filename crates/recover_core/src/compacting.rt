@@ -61,6 +61,15 @@ impl<D: Disk> Store<D> {
         self.area.takes(batch)
     }
 
+    /// Whether a snapshot of the broker's state fits into an area.
+    pub fn fits_state(&self, broker: &Broker) -> bool
+        requires whole { broker.now.broken ≡ false }
+        ensures yes { result ≡ true → HasRoomFor (size_of self.now) broker.now.state }
+        ensures no { result ≡ false → HasNoRoomFor (size_of self.now) broker.now.state }
+    {
+        has_room_for(broker, self.area.size())
+    }
+
     /// Makes room again: writes a snapshot of the state as it is, its sessions included, into the area that is not live, and makes that
     /// area live. The broker must have the state that the store stands for.
     ///

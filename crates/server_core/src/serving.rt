@@ -22,7 +22,7 @@ use connection_core::SESSION_BYTES;
 use disk_core::FileDisk;
 use event_log::{Event, ServeFault, Start};
 use flush_core::FlushFault;
-use hub_core::{Hub, HubFlusher, SeatRoom, flush_loop};
+use hub_core::{Hub, HubFlusher, SeatRoom, compact_last, flush_loop};
 use std::alloc::Global;
 use std::fs::{File, Files};
 use std::io::Write;
@@ -386,8 +386,9 @@ fn flush<R: Wait + Clock + Drop>(
         match flush_loop(alloc, &shared.ring, flusher, &shared.wakeups, 1) {
             Ok(mark) if is_last(shared, &mut last, mark) => {
                 shared.wakeups.log().note(&shared.rt, Event::Ending);
+                let compacted = compact_last(alloc, &shared.ring, flusher);
                 flusher.stop(&shared.ring);
-                return Ok(());
+                return compacted;
             }
             Ok(mark) => tell_figures(shared, flusher, mark),
             Err(fault) => return Err(fault),

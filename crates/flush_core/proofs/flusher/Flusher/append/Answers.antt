@@ -33,7 +33,7 @@ pub invariant_of-self : goal.invariant_of-self
 invariant_of-self g c =
     let it = c.self.inside in
     let whole : it.broken ≡ false = ap (λ (f : Flushed g.row.D.Denot). f.broken) c.self.view_is ∙ c.requires.done.0 in
-    let f = flushed it.journal it.seat it.opening.value.state it.stored it.executed (it.done.items ++ it.batch.items) it.broker it.outlet.boxes it.outlet.ended.items it.outlet.past.items it.outlet.waiting.items it.outlet.left.items it.broken it.won in
+    let f = flushed it.journal it.seat it.opening.value.state it.stored it.executed (it.done.items ++ it.batch.items) it.broker it.outlet.boxes it.outlet.ended.items it.outlet.past.items it.outlet.waiting.items it.outlet.left.items it.broken it.won it.since in
     let opening = it.opening.value.state in
     let kept = c.self.invariant.0 in
     let held = c.self.invariant.1 whole in
@@ -71,13 +71,14 @@ invariant_of-self g c =
       λ w. subst (λ (z : ℕ × List CommandValue). IsBatch g.W.Width.COMMANDS (block_bytes z.0 g.W.Width.BYTES) z.1)
           (λ i. (sym c.append_first.ensures.size i, sym (ap (λ (l : List (EntryValue SenderValue)). commands l) rest ∙ sym (drop-map (λ (entry : EntryValue SenderValue). entry.command) c.args.count it.batch.items)) i))
           (rest_is_batch g.W.Width.COMMANDS (block_bytes (size_of it.journal) g.W.Width.BYTES) c.args.count (commands it.batch.items) (c.self.invariant.3 whole)),
+      c.self.invariant.4,
     )
 
 pub invariant_of-self-in-Err : goal.invariant_of-self-in-Err
 invariant_of-self-in-Err g c =
     let it = c.self.inside in
     let whole : it.broken ≡ false = ap (λ (f : Flushed g.row.D.Denot). f.broken) c.self.view_is ∙ c.requires.done.0 in
-    let f = flushed it.journal it.seat it.opening.value.state it.stored it.executed (it.done.items ++ it.batch.items) it.broker it.outlet.boxes it.outlet.ended.items it.outlet.past.items it.outlet.waiting.items it.outlet.left.items it.broken it.won in
+    let f = flushed it.journal it.seat it.opening.value.state it.stored it.executed (it.done.items ++ it.batch.items) it.broker it.outlet.boxes it.outlet.ended.items it.outlet.past.items it.outlet.waiting.items it.outlet.left.items it.broken it.won it.since in
     let opening = it.opening.value.state in
     let kept = c.self.invariant.0 in
     let s = state_at opening it.seat it.stored in
@@ -92,6 +93,7 @@ invariant_of-self-in-Err g c =
           hold_either (g.D.Disk.images c.append_first.new.journal.disk) opening it.seat it.stored (it.stored + c.args.count) (omega (arith, kept.marked, kept.executed)) (omega arith) (omega (arith, within, length_from it.seat it.stored begun kept.stored))
           (λ image among. subst (λ (t : State). StandsForEither s t image) state
           (leaves.each image (g.met.D.Disk.counts_now c.append_first.new.journal.disk (g.D.Disk.moment it.journal.disk) image leaves.later among)))) kept,
+      λ w. absurd (cc w),
       λ w. absurd (cc w),
       λ w. absurd (cc w),
       λ w. absurd (cc w),
@@ -137,7 +139,7 @@ returns-in-Ok-clause-stores g c = record {
       (c.in-Ok.ensures.adds.adds.stands h s ((c.self.invariant.0.running whole).stands h)));
   stored = let it = c.self.inside in
       let whole : it.broken ≡ false = ap (λ (f : Flushed g.row.D.Denot). f.broken) c.self.view_is ∙ c.requires.done.0 in
-      let f = flushed it.journal it.seat it.opening.value.state it.stored it.executed (it.done.items ++ it.batch.items) it.broker it.outlet.boxes it.outlet.ended.items it.outlet.past.items it.outlet.waiting.items it.outlet.left.items it.broken it.won in
+      let f = flushed it.journal it.seat it.opening.value.state it.stored it.executed (it.done.items ++ it.batch.items) it.broker it.outlet.boxes it.outlet.ended.items it.outlet.past.items it.outlet.waiting.items it.outlet.left.items it.broken it.won it.since in
       let kept = c.self.invariant.0 in
       let held = c.self.invariant.1 whole in
       let executed : it.executed ≡ it.stored = subst (λ (f : Flushed g.row.D.Denot). f.executed ≡ f.stored) (sym c.self.view_is) c.requires.done.1 in
@@ -159,7 +161,7 @@ returns-in-Ok-clause-stores g c = record {
       let rest : c.replace.new.dest.items ≡ drop c.args.count it.batch.items = (λ i. (c.replace.ensures.after i).items) ∙ c.in-Ok.ensures.adds.rest_is in
       let same = stored_brought it.seat it.stored it.executed c.args.count _ it.batch.items it.done.items _ _ _ _ _ _ rest done executed held in
       (λ i. record f { disk = disk_of c.append_first.new.journal; size = size_of c.append_first.new.journal; used = used_of c.append_first.new.journal; stored = number i; brought = same i })
-      ∙ ap (λ (f : Flushed g.row.D.Denot). storing f (f.stored + c.args.count) (disk_of c.append_first.new.journal) (size_of c.append_first.new.journal) (used_of c.append_first.new.journal) f.won) c.self.view_is;
+      ∙ ap (λ (f : Flushed g.row.D.Denot). storing f (f.stored + c.args.count) (disk_of c.append_first.new.journal) (size_of c.append_first.new.journal) (used_of c.append_first.new.journal) f.last) c.self.view_is;
   used = let it = c.self.inside in
       let whole : it.broken ≡ false = ap (λ (f : Flushed g.row.D.Denot). f.broken) c.self.view_is ∙ c.requires.done.0 in
       let is : commands (take c.args.count it.batch.items) ≡ take c.args.count (from_on it.seat it.stored) = sym (take-map (λ (entry : EntryValue SenderValue). entry.command) c.args.count it.batch.items) ∙ ap (λ (l : List CommandValue). take c.args.count l) (c.self.invariant.1 whole).batch_is in
@@ -221,7 +223,7 @@ returns-in-Err-clause-breaks g c = record {
   outcome = let it = c.self.inside in
       let whole : it.broken ≡ false = ap (λ (f : Flushed g.row.D.Denot). f.broken) c.self.view_is ∙ c.requires.done.0 in
       let now = c.args.self.now in
-      let new = flushed c.append_first.new.journal c.stop.new.seat it.opening.value.state it.stored it.executed (it.done.items ++ c.append_first.new.batch.items) it.broker it.outlet.boxes it.outlet.ended.items it.outlet.past.items it.outlet.waiting.items it.outlet.left.items true it.won in
+      let new = flushed c.append_first.new.journal c.stop.new.seat it.opening.value.state it.stored it.executed (it.done.items ++ c.append_first.new.batch.items) it.broker it.outlet.boxes it.outlet.ended.items it.outlet.past.items it.outlet.waiting.items it.outlet.left.items true it.won it.since in
       let other : c.in-Err.fault ≡ area.Broken → ⊥ = λ is. absurd (cc (c.append_first.ensures.refuses.sound (c.in-Err.is ∙ ap (λ (fault : AreaFault). Err fault) is), (c.self.invariant.1 whole).whole)) in
       subst (λ (fault : FlushFault). IsOutcome {X = Unit {0}} now new (Err fault)) (sym c.from.ensures)
       (fell_so c.in-Err.fault now new other (record {

@@ -20,6 +20,7 @@ use Rattle.area_core.specs.Areas.{commands}
 use Rattle.flush_core.specs.Flushed.{Flushed, flushed}
 use Rattle.flush_core.specs.Room.{HasNoRoomForState, used_afresh}
 use Rattle.flush_core.proofs.Compactions.{given_state, leaves_state, stand_then}
+use Rattle.flush_core.proofs.Counting.{counts_none}
 use Rattle.flush_core.proofs.Keeping.{compacts, hold_at, store_fails}
 use Rattle.flush_core.proofs.Room.{lacks_room_for_state}
 use Rattle.flush_core.proofs.StoreFaults.{caused_so, fell_so, only_full, same_fault}
@@ -29,7 +30,7 @@ pub invariant_of-self : goal.invariant_of-self
 invariant_of-self g c =
     let it = c.self.inside in
     let whole : it.broken ≡ false = ap (λ (f : Flushed g.row.D.Denot). f.broken) c.self.view_is ∙ c.requires.done.0 in
-    let f = flushed it.journal it.seat it.opening.value.state it.stored it.executed (it.done.items ++ it.batch.items) it.broker it.outlet.boxes it.outlet.ended.items it.outlet.past.items it.outlet.waiting.items it.outlet.left.items it.broken it.won in
+    let f = flushed it.journal it.seat it.opening.value.state it.stored it.executed (it.done.items ++ it.batch.items) it.broker it.outlet.boxes it.outlet.ended.items it.outlet.past.items it.outlet.waiting.items it.outlet.left.items it.broken it.won it.since in
     let kept = c.self.invariant.0 in
     let s = state_at it.opening.value.state it.seat it.stored in
     let same : it.broker.state ≡ s = given_state g.D.Disk.honest g.D.Disk.images _ c.args.self.now c.self.view_is c.self.invariant.0 whole c.requires.done.1 in
@@ -40,13 +41,14 @@ invariant_of-self g c =
       λ w. let held = c.self.invariant.1 w in record { whole = c.in-Ok.ensures.breaks.ok; batch_is = held.batch_is; bytes_is = held.bytes_is; done_is = held.done_is; few = held.few; room_is = held.room_is },
       c.self.invariant.2,
       λ w. subst (λ n. IsBatch g.W.Width.COMMANDS (block_bytes n g.W.Width.BYTES) (commands it.batch.items)) (sym c.compact.ensures.keeps.size) (c.self.invariant.3 w),
+      λ w. counts_none it.opening.value.state it.seat it.stored it.executed (omega (arith, kept.begun, kept.marked, kept.executed)) (subst (λ (f : Flushed g.row.D.Denot). f.executed ≡ f.stored) (sym c.self.view_is) c.requires.done.1),
     )
 
 pub invariant_of-self-in-Err : goal.invariant_of-self-in-Err
 invariant_of-self-in-Err g c =
     let it = c.self.inside in
     let whole : it.broken ≡ false = ap (λ (f : Flushed g.row.D.Denot). f.broken) c.self.view_is ∙ c.requires.done.0 in
-    let f = flushed it.journal it.seat it.opening.value.state it.stored it.executed (it.done.items ++ it.batch.items) it.broker it.outlet.boxes it.outlet.ended.items it.outlet.past.items it.outlet.waiting.items it.outlet.left.items it.broken it.won in
+    let f = flushed it.journal it.seat it.opening.value.state it.stored it.executed (it.done.items ++ it.batch.items) it.broker it.outlet.boxes it.outlet.ended.items it.outlet.past.items it.outlet.waiting.items it.outlet.left.items it.broken it.won it.since in
     let kept = c.self.invariant.0 in
     let s = state_at it.opening.value.state it.seat it.stored in
     let same : it.broker.state ≡ s = given_state g.D.Disk.honest g.D.Disk.images _ c.args.self.now c.self.view_is c.self.invariant.0 whole c.requires.done.1 in
@@ -55,6 +57,7 @@ invariant_of-self-in-Err g c =
     (λ t image le among. g.met.D.Disk.counts_now c.compact.new.self.disk t image le among) in (
       store_fails g.D.Disk.honest g.D.Disk.images f c.stop.new.seat c.compact.new.self.disk _ _ (it.done.items ++ it.batch.items) c.stop.ensures
           (λ h. hold_at (g.D.Disk.images c.compact.new.self.disk) it.opening.value.state it.seat it.stored (omega (arith, kept.marked, kept.executed)) kept.stored (stand h)) kept,
+      λ w. absurd (cc w),
       λ w. absurd (cc w),
       λ w. absurd (cc w),
       λ w. absurd (cc w),
@@ -99,12 +102,12 @@ returns-in-Ok-clause-compacts g c = record {
       (λ h. subst (λ (s : State). Each (g.D.Disk.images c.compact.new.self.disk) (HoldsItAlone (size_of c.compact.new.self) (used_of c.compact.new.self) s)) same (c.in-Ok.ensures.compacts.alone h));
   compacted_is = let it = c.self.inside in
       let whole : it.broken ≡ false = ap (λ (f : Flushed g.row.D.Denot). f.broken) c.self.view_is ∙ c.requires.done.0 in
-      let f = flushed it.journal it.seat it.opening.value.state it.stored it.executed (it.done.items ++ it.batch.items) it.broker it.outlet.boxes it.outlet.ended.items it.outlet.past.items it.outlet.waiting.items it.outlet.left.items it.broken it.won in
+      let f = flushed it.journal it.seat it.opening.value.state it.stored it.executed (it.done.items ++ it.batch.items) it.broker it.outlet.boxes it.outlet.ended.items it.outlet.past.items it.outlet.waiting.items it.outlet.left.items it.broken it.won it.since in
       let s = state_at it.opening.value.state it.seat it.stored in
       let same : it.broker.state ≡ s = given_state g.D.Disk.honest g.D.Disk.images _ c.args.self.now c.self.view_is c.self.invariant.0 whole c.requires.done.1 in
       let afresh : used_of c.compact.new.self ≡ used_afresh s = c.in-Ok.ensures.compacts.used ∙ ap (λ (s : State). used_afresh s) same in
       let won : c.saturating_sub-won.result ≡ used_of it.journal - used_afresh s = omega (arith, c.saturating_sub-won.ensures, c.used-before.ensures, c.used.ensures, afresh) in
-      (λ i. record f { disk = disk_of c.compact.new.self; size = c.in-Ok.ensures.keeps.size i; used = afresh i; won = Some (won i) })
+      (λ i. record f { disk = disk_of c.compact.new.self; size = c.in-Ok.ensures.keeps.size i; used = afresh i; last = record { won = Some (won i); since = it.stored } })
       ∙ ap (λ (f : Flushed g.row.D.Denot). compacted f (disk_of c.compact.new.self) (used_afresh (state_at f.opening f.seat f.stored))) c.self.view_is;
 }
 
@@ -154,7 +157,7 @@ returns-in-Err-clause-breaks g c = record {
   outcome = let it = c.self.inside in
       let whole : it.broken ≡ false = ap (λ (f : Flushed g.row.D.Denot). f.broken) c.self.view_is ∙ c.requires.done.0 in
       let now = c.args.self.now in
-      let new = flushed c.compact.new.self c.stop.new.seat it.opening.value.state it.stored it.executed (it.done.items ++ it.batch.items) it.broker it.outlet.boxes it.outlet.ended.items it.outlet.past.items it.outlet.waiting.items it.outlet.left.items true it.won in
+      let new = flushed c.compact.new.self c.stop.new.seat it.opening.value.state it.stored it.executed (it.done.items ++ it.batch.items) it.broker it.outlet.boxes it.outlet.ended.items it.outlet.past.items it.outlet.waiting.items it.outlet.left.items true it.won it.since in
       let other : c.in-Err.fault ≡ area.Broken → ⊥ = λ is. absurd (cc (c.compact.ensures.breaks.sound (c.in-Err.is ∙ ap (λ (fault : AreaFault). Err fault) is), (c.self.invariant.1 whole).whole)) in
       subst (λ (fault : FlushFault). IsOutcome {X = Unit {0}} now new (Err fault)) (sym c.from.ensures)
       (fell_so c.in-Err.fault now new other (record {

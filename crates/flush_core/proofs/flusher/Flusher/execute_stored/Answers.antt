@@ -1,5 +1,5 @@
-use Rattle.std.proofs.Common.{arith, ap, refl, subst, sym, ◌∙◌, ◌++◌, ◌≡◌, Err, List, Result, false}
-use Rattle.area_core.specs.Areas.{commands}
+use Rattle.std.proofs.Common.{arith, ap, length, length-append, min, refl, subst, sym, ◌∙◌, ◌++◌, ◌≡◌, Err, List, Result, false}
+use Rattle.area_core.specs.Areas.{commands, records}
 use Rattle.broker_core.specs.States.{BrokerValue}
 use Rattle.broker_core.specs.Steps.{outs_of, state_after}
 use Rattle.command_core.specs.Commands.{CommandValue}
@@ -7,11 +7,16 @@ use Rattle.command_core.specs.Entries.{EntryValue}
 use Rattle.outbox_core.specs.Boxes.{SenderValue}
 use Rattle.claim_core.specs.Seats.{FlushSeatValue, when_stopped}
 use Rattle.flush_core.specs.declared.faults.FlushFault.{FlushFault}
+use Rattle.command_core.specs.Outs.{OutValue}
+use Rattle.flush_core.specs.Backlogs.{most_counted}
+use Rattle.flush_core.specs.Batches.{between, state_at}
+use Rattle.flush_core.proofs.Taken.{length_commands}
 use Rattle.flush_core.specs.Faults.{IsMemory}
 use Rattle.flush_core.proofs.StoreFaults.{fell_for_memory, needs_memory}
 use Rattle.flush_core.specs.Flushed.{Flushed, flushed}
 use Rattle.flush_core.specs.Outcomes.{executing}
 use Rattle.flush_core.specs.Sessions.{boxes_after, ended_of}
+use Rattle.flush_core.proofs.Counting.{counts_more}
 use Rattle.flush_core.proofs.Keeping.{broker_count, counts, fails, held_executed, executed_entries, executes, executing_is}
 use Rattle.flush_core.proofs.flusher.Flusher.execute_stored.Goals as goal
 
@@ -19,7 +24,7 @@ pub execute_all-requires-clause-count : goal.execute_all-requires-clause-count
 execute_all-requires-clause-count g c =
     let it = c.self.inside in
     let whole : it.broken ≡ false = ap (λ (f : Flushed g.row.D.Denot). f.broken) c.self.view_is ∙ c.requires.whole in
-    let f = flushed it.journal it.seat it.opening.value.state it.stored it.executed (it.done.items ++ it.batch.items) it.broker it.outlet.boxes it.outlet.ended.items it.outlet.past.items it.outlet.waiting.items it.outlet.left.items it.broken it.won in
+    let f = flushed it.journal it.seat it.opening.value.state it.stored it.executed (it.done.items ++ it.batch.items) it.broker it.outlet.boxes it.outlet.ended.items it.outlet.past.items it.outlet.waiting.items it.outlet.left.items it.broken it.won it.since in
     let held = c.self.invariant.1 whole in
     counts g.D.Disk.honest g.D.Disk.images f it.done.items whole c.self.invariant.0 held.done_is held.few
 
@@ -27,9 +32,12 @@ pub invariant_of-self : goal.invariant_of-self
 invariant_of-self g c =
     let it = c.self.inside in
     let whole : it.broken ≡ false = ap (λ (f : Flushed g.row.D.Denot). f.broken) c.self.view_is ∙ c.requires.whole in
-    let f = flushed it.journal it.seat it.opening.value.state it.stored it.executed (it.done.items ++ it.batch.items) it.broker it.outlet.boxes it.outlet.ended.items it.outlet.past.items it.outlet.waiting.items it.outlet.left.items it.broken it.won in
+    let f = flushed it.journal it.seat it.opening.value.state it.stored it.executed (it.done.items ++ it.batch.items) it.broker it.outlet.boxes it.outlet.ended.items it.outlet.past.items it.outlet.waiting.items it.outlet.left.items it.broken it.won it.since in
     let held = c.self.invariant.1 whole in
     let did = c.in-Ok.ensures in
+    let state : it.broker.state ≡ state_at it.opening.value.state it.seat it.executed = ap (λ (b : BrokerValue). b.state) (c.self.invariant.0.running whole).broker in
+    let outs : outs_of it.broker.state (commands it.done.items) ≡ outs_of (state_at it.opening.value.state it.seat it.executed) (between it.seat it.executed it.stored) = (λ i. outs_of (state i) (held.done_is i)) in
+    let added = ap (λ (l : List OutValue). length l) did.done.outs ∙ length-append it.outlet.waiting.items (outs_of it.broker.state (commands it.done.items)) in
     let now = c.execute_all.new in (
       executes g.D.Disk.honest g.D.Disk.images f (now.done.items ++ it.batch.items) now.broker now.outlet.boxes now.outlet.ended.items now.outlet.past.items now.outlet.waiting.items now.outlet.left.items
           (ap (λ (l : List (EntryValue SenderValue)). commands (l ++ it.batch.items)) did.same.0 ∙ held.batch_is)
@@ -39,15 +47,21 @@ invariant_of-self g c =
       λ w. held_executed it.seat it.stored it.executed _ it.batch.items it.done.items now.done.items it.bytes _ _ _ _ _ _ did.same.0 did.room.behind held,
       λ w. record { none = did.room.none; room_is = did.room.beside },
       c.self.invariant.3,
+      λ w. counts_more it.opening.value.state it.seat it.since it.executed it.stored it.counted c.count_more-self-inside.result c.len-commands.result c.bytes_of-bytes.result c.saturating_sub-outs.result c.self.invariant.0.executed
+          (omega (arith, c.len-commands.ensures, it.done.ok.0, length_commands it.done.items, ap (λ (l : List CommandValue). length l) held.done_is))
+          (c.bytes_of-bytes.ensures ∙ (ap (λ es. min (length (records (commands es))) most_counted) c.deref.ensures.value ∙ ap (λ (l : List CommandValue). min (length (records l)) most_counted) held.done_is))
+          (omega (arith, c.saturating_sub-outs.ensures, c.len.ensures, c.len-waited.ensures, it.outlet.waiting.ok.0, c.execute_all.new.outlet.waiting.ok.0, added, ap (λ (l : List OutValue). length l) outs))
+          c.count_more-self-inside.ensures (c.self.invariant.4 whole),
     )
 
 pub invariant_of-self-in-Err : goal.invariant_of-self-in-Err
 invariant_of-self-in-Err g c =
     let it = c.self.inside in
-    let f = flushed it.journal it.seat it.opening.value.state it.stored it.executed (it.done.items ++ it.batch.items) it.broker it.outlet.boxes it.outlet.ended.items it.outlet.past.items it.outlet.waiting.items it.outlet.left.items it.broken it.won in
+    let f = flushed it.journal it.seat it.opening.value.state it.stored it.executed (it.done.items ++ it.batch.items) it.broker it.outlet.boxes it.outlet.ended.items it.outlet.past.items it.outlet.waiting.items it.outlet.left.items it.broken it.won it.since in
     let now = c.execute_all.new in (
       fails g.D.Disk.honest g.D.Disk.images f c.stop.new.seat (now.done.items ++ it.batch.items) now.broker now.outlet.boxes now.outlet.ended.items now.outlet.past.items now.outlet.waiting.items now.outlet.left.items
           c.stop.ensures c.execute_all.ensures.same.2 c.self.invariant.0,
+      λ w. absurd (cc w),
       λ w. absurd (cc w),
       λ w. absurd (cc w),
       λ w. absurd (cc w),
@@ -57,7 +71,7 @@ pub returns-in-Ok-clause-executed : goal.returns-in-Ok-clause-executed
 returns-in-Ok-clause-executed g c =
     let it = c.self.inside in
     let whole : it.broken ≡ false = ap (λ (f : Flushed g.row.D.Denot). f.broken) c.self.view_is ∙ c.requires.whole in
-    let f = flushed it.journal it.seat it.opening.value.state it.stored it.executed (it.done.items ++ it.batch.items) it.broker it.outlet.boxes it.outlet.ended.items it.outlet.past.items it.outlet.waiting.items it.outlet.left.items it.broken it.won in
+    let f = flushed it.journal it.seat it.opening.value.state it.stored it.executed (it.done.items ++ it.batch.items) it.broker it.outlet.boxes it.outlet.ended.items it.outlet.past.items it.outlet.waiting.items it.outlet.left.items it.broken it.won it.since in
     let kept = c.self.invariant.0 in
     let held = c.self.invariant.1 whole in
     let did = c.in-Ok.ensures in

@@ -38,4 +38,5 @@ invariant_of-result g c =
       },
       c.self.invariant.2,
       λ w. subst (λ n. IsBatch g.W.Width.COMMANDS (block_bytes n g.W.Width.BYTES) (commands it.batch.items)) (sym c.fuse.ensures.size) (c.self.invariant.3 w),
+      c.self.invariant.4,
     )

@@ -1,4 +1,4 @@
-use Rattle.std.proofs.Common.{arith, ap, length, sym, subst, ◌∙◌, ◌++◌, ◌≡◌, List}
+use Rattle.std.proofs.Common.{arith, ap, length, refl, sym, subst, ◌∙◌, ◌++◌, ◌≡◌, List}
 use Rattle.broker_core.specs.States.{BrokerValue, State}
 use Rattle.broker_core.specs.Sound.{IsSound}
 use Rattle.area_core.specs.Areas.{commands, records}
@@ -6,6 +6,7 @@ use Rattle.command_core.specs.Commands.{CommandValue}
 use Rattle.command_core.specs.Outs.{OutValue}
 use Rattle.recover_core.specs.Standing.{StandFor}
 use Rattle.flush_core.specs.Batches.{IsBatch, block_bytes}
+use Rattle.flush_core.proofs.Counting.{counts_none}
 use Rattle.flush_core.proofs.Keeping.{no_batch, starts}
 use Rattle.flush_core.proofs.Taken.{between_none, from_end}
 use Rattle.flush_core.proofs.flusher.Flusher.new.Goals as goal
@@ -34,4 +35,5 @@ invariant_of-result g c =
       },
       λ _. record { none = ap (λ (l : List OutValue). length l) c.new-3.ensures.outs.2; room_is = omega (arith, ap (λ (l : List OutValue). length l) c.new-3.ensures.outs.0) },
       λ _. subst (IsBatch g.W.Width.COMMANDS (block_bytes c.args.journal.area.size g.W.Width.BYTES)) (sym (ap (λ l. commands l) c.new.ensures.items)) (no_batch g.W.Width.COMMANDS (block_bytes c.args.journal.area.size g.W.Width.BYTES)),
+      λ _. counts_none c.of.result.value.state seat c.next-next.result c.next-next.result (omega (arith, base)) refl,
     )

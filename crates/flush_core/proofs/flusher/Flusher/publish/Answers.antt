@@ -7,6 +7,7 @@ use Rattle.recover_core.specs.Standing.{StandFor}
 use Rattle.flush_core.specs.Batches.{state_at}
 use Rattle.flush_core.specs.Flushed.{AreUnder, Flushed, flushed}
 use Rattle.flush_core.specs.Outcomes.{publishing, standing}
+use Rattle.flush_core.proofs.Counting.{counts_marked}
 use Rattle.flush_core.proofs.Keeping.{held_marked, publishes}
 use Rattle.flush_core.proofs.flusher.Flusher.publish.Goals as goal
 
@@ -18,7 +19,7 @@ give-requires-clause-room g c =
 pub invariant_of-self : goal.invariant_of-self
 invariant_of-self g c =
     let it = c.self.inside in
-    let f = flushed it.journal it.seat it.opening.value.state it.stored it.executed (it.done.items ++ it.batch.items) it.broker it.outlet.boxes it.outlet.ended.items it.outlet.past.items it.outlet.waiting.items it.outlet.left.items it.broken it.won in
+    let f = flushed it.journal it.seat it.opening.value.state it.stored it.executed (it.done.items ++ it.batch.items) it.broker it.outlet.boxes it.outlet.ended.items it.outlet.past.items it.outlet.waiting.items it.outlet.left.items it.broken it.won it.since in
     let whole : it.broken ≡ false = ap (λ (f : Flushed g.row.D.Denot). f.broken) c.self.view_is ∙ c.requires.whole in
     let executed : it.executed ≡ it.stored = subst (λ (f : Flushed g.row.D.Denot). f.executed ≡ f.stored) (sym c.self.view_is) c.requires.executed in
     let waiting = ap (λ (l : List OutValue). length l) c.give.ensures.none.0 in (
@@ -28,12 +29,13 @@ invariant_of-self g c =
           (λ some. omega (arith, waiting, c.give.new.self.left.ok.0, c.give.new.self.left.ok.1)) (c.self.invariant.1 w),
       λ w. record { none = ap (λ (l : List OutValue). length l) c.give.ensures.none.1; room_is = omega (arith, waiting) },
       c.self.invariant.3,
+      λ w. counts_marked it.opening.value.state it.seat c.raise.new.seat it.stored _ _ _ c.raise.ensures (c.self.invariant.4 w),
     )
 
 pub returns-clause-published : goal.returns-clause-published
 returns-clause-published g c =
     let it = c.self.inside in
-    let f = flushed it.journal it.seat it.opening.value.state it.stored it.executed (it.done.items ++ it.batch.items) it.broker it.outlet.boxes it.outlet.ended.items it.outlet.past.items it.outlet.waiting.items it.outlet.left.items it.broken it.won in
+    let f = flushed it.journal it.seat it.opening.value.state it.stored it.executed (it.done.items ++ it.batch.items) it.broker it.outlet.boxes it.outlet.ended.items it.outlet.past.items it.outlet.waiting.items it.outlet.left.items it.broken it.won it.since in
     (λ i. record f { seat = c.raise.ensures i; boxes = c.give.new.self.boxes; ended = c.give.ensures.ended.0 i; past = c.give.ensures.ended.1 i; waiting = c.give.ensures.none.0 i; left = c.give.ensures.left i })
     ∙ ap (λ (f : Flushed g.row.D.Denot). publishing f c.give.new.self.boxes) c.self.view_is
 

@@ -7,6 +7,7 @@ use Rattle.claim_core.specs.Seats.{FlushSeatValue, when_stopped}
 use Rattle.flush_core.specs.Batches.{IsBatch, from_on, block_bytes, with_more}
 use Rattle.flush_core.specs.Flushed.{Flushed, flushed}
 use Rattle.flush_core.specs.Outcomes.{taking}
+use Rattle.flush_core.proofs.Counting.{counts_taken}
 use Rattle.flush_core.proofs.Keeping.{all_brought, fails, held_more, takes}
 use Rattle.flush_core.proofs.Sessions.{commands_both}
 use Rattle.flush_core.proofs.Taken.{from_more}
@@ -16,7 +17,7 @@ pub invariant_of-self : goal.invariant_of-self
 invariant_of-self g c =
     let it = c.self.inside in
     let whole : it.broken ≡ false = ap (λ (f : Flushed g.row.D.Denot). f.broken) c.self.view_is ∙ c.requires.whole in
-    let f = flushed it.journal it.seat it.opening.value.state it.stored it.executed (it.done.items ++ it.batch.items) it.broker it.outlet.boxes it.outlet.ended.items it.outlet.past.items it.outlet.waiting.items it.outlet.left.items it.broken it.won in
+    let f = flushed it.journal it.seat it.opening.value.state it.stored it.executed (it.done.items ++ it.batch.items) it.broker it.outlet.boxes it.outlet.ended.items it.outlet.past.items it.outlet.waiting.items it.outlet.left.items it.broken it.won it.since in
     let kept = c.self.invariant.0 in
     let held = c.self.invariant.1 whole in
     let took = c.in-Ok.ensures.taken in
@@ -33,14 +34,16 @@ invariant_of-self g c =
       c.self.invariant.2,
       λ _. subst (λ n. IsBatch g.W.Width.COMMANDS n (commands c.fill.new.batch.items))
           (c.bytes_wanted-wanted.ensures.wanted ∙ ap (λ (f : Flushed g.row.D.Denot). block_bytes f.size g.W.Width.BYTES) (sym c.self.view_is)) c.fill.ensures.batch,
+      λ _. counts_taken it.opening.value.state it.seat c.fill.new.seat more _ _ _ seat (omega (arith, kept.executed, kept.stored)) (c.self.invariant.4 whole),
     )
 
 pub invariant_of-self-in-Err : goal.invariant_of-self-in-Err
 invariant_of-self-in-Err g c =
     let it = c.self.inside in
-    let f = flushed it.journal it.seat it.opening.value.state it.stored it.executed (it.done.items ++ it.batch.items) it.broker it.outlet.boxes it.outlet.ended.items it.outlet.past.items it.outlet.waiting.items it.outlet.left.items it.broken it.won in (
+    let f = flushed it.journal it.seat it.opening.value.state it.stored it.executed (it.done.items ++ it.batch.items) it.broker it.outlet.boxes it.outlet.ended.items it.outlet.past.items it.outlet.waiting.items it.outlet.left.items it.broken it.won it.since in (
       fails g.D.Disk.honest g.D.Disk.images f c.stop.new.seat (it.done.items ++ c.fill.new.batch.items) it.broker it.outlet.boxes it.outlet.ended.items it.outlet.past.items it.outlet.waiting.items it.outlet.left.items
           (c.stop.ensures ∙ ap (λ (s : FlushSeatValue). when_stopped s) c.in-Err.ensures.refused) refl c.self.invariant.0,
+      λ w. absurd (cc w),
       λ w. absurd (cc w),
       λ w. absurd (cc w),
       λ w. absurd (cc w),
@@ -61,7 +64,7 @@ returns-in-Ok-clause-batch g c =
 pub returns-in-Ok-clause-taken : goal.returns-in-Ok-clause-taken
 returns-in-Ok-clause-taken g c =
     let it = c.self.inside in
-    let f = flushed it.journal it.seat it.opening.value.state it.stored it.executed (it.done.items ++ it.batch.items) it.broker it.outlet.boxes it.outlet.ended.items it.outlet.past.items it.outlet.waiting.items it.outlet.left.items it.broken it.won in
+    let f = flushed it.journal it.seat it.opening.value.state it.stored it.executed (it.done.items ++ it.batch.items) it.broker it.outlet.boxes it.outlet.ended.items it.outlet.past.items it.outlet.waiting.items it.outlet.left.items it.broken it.won it.since in
     let took = c.in-Ok.ensures.taken in (
       took.0,
       took.1,

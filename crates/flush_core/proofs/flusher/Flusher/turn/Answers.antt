@@ -248,7 +248,7 @@ returns-clause-turns g c =
     record {
       more = took.0;
       many = took.1;
-      turned = turned g.D.Disk now c.take_batch.new.self c.store_gathered.new.self c.execute_stored.new.self new took.0 c.store_gathered.new.self.stored c.store_gathered.new.self.disk c.store_gathered.new.self.size c.store_gathered.new.self.used c.store_gathered.new.self.won
+      turned = turned g.D.Disk now c.take_batch.new.self c.store_gathered.new.self c.execute_stored.new.self new took.0 c.store_gathered.new.self.stored c.store_gathered.new.self.disk c.store_gathered.new.self.size c.store_gathered.new.self.used c.store_gathered.new.self.last
           (c.requires.executed whole) (omega (arith, before, did.within.0)) (omega (arith, end, did.within.1)) took.2 did.stored executed published c.publish.ensures.given;
       batch = subst (λ (l : List CommandValue). IsBatch g.W.Width.COMMANDS (block_bytes now.size g.W.Width.BYTES) l) (taken_stays c.args.self.now c.take_batch.new.self c.store_gathered.new.self took.0 _ _ _ _ _ took.2 did.stored (λ waits. (c.store_gathered.ensures.refuses.nothing c.in_ok-count.ensures.outcome.1 waits).1) c.execute_stored.new.self c.publish.new.self executed published) c.in_ok-count.ensures.batch;
       stores = record {

@@ -1,4 +1,4 @@
-use Rattle.std.proofs.Common.{◌≡◌, arith, sym, subst, Some, List}
+use Rattle.std.proofs.Common.{◌≡◌, arith, sym, subst, List}
 use Rattle.claim_core.specs.Seats.{SessionSeatValue}
 use Rattle.flush_core.specs.Flushed.{Flushed}
 use Rattle.hub_core.specs.Hubs.{AreNew, IsFirst}
