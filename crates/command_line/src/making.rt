@@ -6,10 +6,10 @@ ghost use Rattle.command_line.specs.Failures.{IsTooShort};
 
 use crate::program::FileFault;
 use area_core::{FormatFault, format};
-use disk_core::FileDisk;
+use disk_core::{FileDisk, OpenError};
 use journal_files::area_in;
 use std::alloc::Global;
-use std::fs::{File, OpenOptions};
+use std::fs::File;
 use std::io;
 use std::io::{ErrorKind, Write};
 use std::rt::Files;
@@ -51,11 +51,11 @@ pub fn make_journal<R: Files<File = File> + Clock, P: Write>(
     let filled = if is_sparse {
         Ok(())
     } else {
-        fill(rt, path, bytes, progress)
+        fill(rt, &mut disk, bytes, progress)
     };
     let made = match filled {
         Ok(()) => write_journal(alloc, &mut disk, area),
-        Err(error) => not_filled(&error),
+        Err(error) => not_filled(error),
     };
     if made.is_err() {
         let _removed = std::fs::remove_file(rt, path);
@@ -76,41 +76,45 @@ fn write_journal(alloc: Global, disk: &mut FileDisk, area: u64) -> Result<(), Fi
 }
 
 // Why a file was not filled.
-fn not_filled(error: &io::Error) -> Result<(), FileFault>
+fn not_filled(error: io::Error) -> Result<(), FileFault>
     ensures { IsTooShort result → ⊥ }
 {
     match error.kind() {
         ErrorKind::StorageFull | ErrorKind::QuotaExceeded => Err(FileFault::NoSpace),
+        ErrorKind::FileTooLarge => Err(FileFault::Open(OpenError::System(error))),
         _ => Err(FileFault::Format(FormatFault::Device)),
     }
 }
 
-// Writes the zeros of a file, and has them on the device.
-fn fill<R: Files<File = File> + Clock, P: Write>(
+// Writes the zeros of a file by its own descriptor: its name may be another file's meanwhile. The journal's sync has them on the device.
+fn fill<R: Clock, P: Write>(
     rt: &R,
-    path: &str,
+    disk: &mut FileDisk,
     bytes: u64,
     progress: &mut P,
-) -> io::Result<()> {
-    let mut file = OpenOptions::new().write(true).open(rt, path)?;
+) -> io::Result<()>
+    ensures { file_size disk.new ≡ file_size disk.old }
+{
     let mut told = Instant::now(rt)?;
     let mut left = bytes;
     for _piece in 0..=bytes / PIECE as u64 {
-        left = fill_piece(&mut file, left)?;
+        left = fill_piece(disk, bytes, left)?;
         if bytes >= LARGE && told.elapsed(rt)? >= Duration::from_secs(1) {
             told = Instant::now(rt)?;
             tell(progress, bytes.saturating_sub(left), bytes);
         }
     }
-    file.sync_all()
+    Ok(())
 }
 
 // Writes the next zeros, and says how many are still left.
-fn fill_piece(file: &mut File, left: u64) -> io::Result<u64>
-    ensures { IfOk result (λ rest. rest ≤ left) }
+fn fill_piece(disk: &mut FileDisk, bytes: u64, left: u64) -> io::Result<u64>
+    requires { left ≤ bytes }
+    ensures rest { IfOk result (λ rest. rest ≤ left) }
+    ensures size { file_size disk.new ≡ file_size disk.old }
 {
     let count = left.min(PIECE as u64) as usize;
-    file.write_all(&ZEROS[..count])?;
+    disk.fill_at(bytes - left, &ZEROS[..count])?;
     Ok(left - count as u64)
 }
 

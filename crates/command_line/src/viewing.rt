@@ -5,7 +5,8 @@ ghost use Rattle.disk_core.specs.Faults.{HasCause};
 ghost use Rattle.command_line.specs.Views.{zeros};
 
 use disk_core::{DeviceFault, Disk, OpenError};
-use std::fs::{File, OpenOptions};
+use std::fs::{self, File, OpenOptions};
+use std::io::{self, ErrorKind};
 use std::os::unix::fs::FileExt;
 use std::rt::Files;
 
@@ -25,6 +26,14 @@ impl FileView {
     pub fn open<R: Files<File = File>>(rt: &R, path: &str) -> Result<FileView, OpenError>
         ensures { IfOk result (λ disk. disk.failures ≡ 0) }
     {
+        // Opening a FIFO would wait for somebody who writes it.
+        let there = fs::metadata(rt, path)?;
+        if there.is_dir() {
+            return Err(OpenError::System(io::Error::from(ErrorKind::IsADirectory)));
+        }
+        if !there.is_file() {
+            return Err(OpenError::NotAFile);
+        }
         let file = OpenOptions::new().read(true).open(rt, path)?;
         let size = file.metadata()?.len();
         Ok(FileView {

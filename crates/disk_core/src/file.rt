@@ -16,6 +16,8 @@ pub enum OpenError {
     Exists,
     /// The file's lock is taken, or it is shared and the exclusive one was asked for.
     Locked,
+    /// It is a FIFO, a socket or a device.
+    NotAFile,
     /// The system refuses to open, make, lock, size or sync the file.
     System(io::Error),
 }
@@ -119,13 +121,25 @@ impl FileDisk {
     fn over(file: File) -> Result<FileDisk, OpenError>
         ensures { IfOk result (λ disk. file_failures disk ≡ 0) }
     {
-        let size = file.metadata()?.len();
+        let there = file.metadata()?;
+        if !there.is_file() {
+            return Err(OpenError::NotAFile);
+        }
+        let size = there.len();
         Ok(FileDisk {
             file,
             size,
             failures: 0,
             is_stale: size >= HEADER as u64,
         })
+    }
+
+    /// Writes bytes where the file may have no room yet, and tells what the system refuses. All else is as with `write_at`.
+    pub fn fill_at(&mut self, at: u64, bytes: &[u8]) -> io::Result<()>
+        ensures size { file_size self.new ≡ file_size self.old }
+        ensures failures { file_failures self.new ≡ file_failures self.old }
+    {
+        self.file.write_all_at(bytes, at)
     }
 
     // Writes back and syncs, and then looks whether the file still has a name and all of its bytes.

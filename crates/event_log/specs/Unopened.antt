@@ -6,13 +6,14 @@ use Rattle.std.specs.declared.io.ErrorKind.TheVariants as kinds
 use Rattle.disk_core.specs.declared.file.OpenError.{OpenError}
 use Rattle.disk_core.specs.declared.file.OpenError.TheVariants as errors
 use Rattle.event_log.specs.declared.unopened.Unopened.{Unopened}
-use Rattle.event_log.specs.declared.unopened.Unopened.TheVariants.{Exists, Missing, Locked, Denied, Directory, InUse, Refused}
+use Rattle.event_log.specs.declared.unopened.Unopened.TheVariants.{Exists, Missing, Locked, Denied, Directory, NotAFile, TooLarge, InUse, Refused}
 
 -- why the system did not open it
 abbrev pub unopened_by : ErrorKind → Unopened
 unopened_by kinds.NotFound = Missing
 unopened_by kinds.PermissionDenied = Denied
 unopened_by kinds.IsADirectory = Directory
+unopened_by kinds.FileTooLarge = TooLarge
 unopened_by kinds.AddrInUse = InUse
 unopened_by _ = Refused
 
@@ -20,6 +21,7 @@ unopened_by _ = Refused
 abbrev pub unopened : OpenError → Unopened
 unopened errors.Exists = Exists
 unopened errors.Locked = Locked
+unopened errors.NotAFile = NotAFile
 unopened (errors.System error) = unopened_by (error_kind error)
 
 -- what the user is told of that
@@ -29,6 +31,8 @@ reason_text Missing = codes "there is no such file"
 reason_text Locked = codes "another server has its lock"
 reason_text Denied = codes "permission denied"
 reason_text Directory = codes "it is a directory"
+reason_text NotAFile = codes "it is no file"
+reason_text TooLarge = codes "no file may be so large here"
 reason_text InUse = codes "another program listens there"
 reason_text Refused = codes "the system refuses it"
 

@@ -19,6 +19,10 @@ pub enum Unopened {
     Denied,
     /// It is a directory.
     Directory,
+    /// It is a FIFO, a socket or a device.
+    NotAFile,
+    /// It would be larger than a file of this user or file system may be.
+    TooLarge,
     /// Another program listens at the port.
     InUse,
     /// The system refuses it for another reason.
@@ -33,6 +37,7 @@ impl Unopened {
         match error {
             OpenError::Exists => Unopened::Exists,
             OpenError::Locked => Unopened::Locked,
+            OpenError::NotAFile => Unopened::NotAFile,
             OpenError::System(error) => Unopened::by(error.kind()),
         }
     }
@@ -45,6 +50,7 @@ impl Unopened {
             ErrorKind::NotFound => Unopened::Missing,
             ErrorKind::PermissionDenied => Unopened::Denied,
             ErrorKind::IsADirectory => Unopened::Directory,
+            ErrorKind::FileTooLarge => Unopened::TooLarge,
             ErrorKind::AddrInUse => Unopened::InUse,
             _ => Unopened::Refused,
         }
@@ -60,6 +66,8 @@ impl Unopened {
             Unopened::Locked => "another server has its lock",
             Unopened::Denied => "permission denied",
             Unopened::Directory => "it is a directory",
+            Unopened::NotAFile => "it is no file",
+            Unopened::TooLarge => "no file may be so large here",
             Unopened::InUse => "another program listens there",
             Unopened::Refused => "the system refuses it",
         }
