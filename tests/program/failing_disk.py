@@ -7,6 +7,8 @@ Python 3 alone; the gate does not run it.
 
 - If a write or a sync of `stompd format` fails, it ends with status 1 and one line, and the file is gone again. If the
   file system has no room for its zeros, the line says so.
+- If its name becomes a link while it is made, what that leads to stays as it is. A limit on the size of files is told.
+- `show`, `held` and `serve` of a directory, a FIFO or a device say so at once.
 - If a read of `stompd show` fails, it is `J3 device failed`, and nothing is printed.
 - If the file of `stompd serve` can't be locked, it ends with `cannot open`, and the file is as it was.
 - If a write or a sync of `stompd serve` fails while it opens its journal, it ends with `J3 device failed` and does not
@@ -24,6 +26,7 @@ import contextlib
 import os
 import pathlib
 import re
+import resource
 import shutil
 import signal
 import subprocess
@@ -40,6 +43,9 @@ PAGE = 4_096
 DEVICE_FAILED = "stompd: J3 device failed\n"
 CANNOT_OPEN = "stompd: cannot open: FILE: the system refuses it\n"
 NO_SPACE = "stompd: no space left for the file\n"
+TOO_LARGE = "stompd: cannot open: FILE: no file may be so large here\n"
+NO_FILE = "stompd: cannot open: FILE: it is no file\n"
+DIRECTORY = "stompd: cannot open: FILE: it is a directory\n"
 
 
 class Checks:
@@ -77,11 +83,11 @@ def run(words):
 
 
 def formatting(checks):
-    """A new file is sized, synced, and synced with its folder; its zeros are written, and synced, unless it is to be sparse; then
-    front and header are written, and synced."""
+    """A new file is sized, synced, and synced with its folder; its zeros are written, unless it is to be sparse; then front and header are
+    written, and all is synced."""
     cases = [("ftruncate", 1, CANNOT_OPEN), ("fsync", 1, CANNOT_OPEN), ("fsync", 2, CANNOT_OPEN)]
-    cases += [("pwrite64", 1, DEVICE_FAILED), ("pwrite64", 2, DEVICE_FAILED)]
-    for option, further in (((), [("fsync", 3, DEVICE_FAILED), ("fsync", 4, DEVICE_FAILED)]), (("--sparse",), [("fsync", 3, DEVICE_FAILED)])):
+    cases += [("pwrite64", 1, DEVICE_FAILED), ("pwrite64", 2, DEVICE_FAILED), ("fsync", 3, DEVICE_FAILED)]
+    for option, further in (((), [("pwrite64", 3, DEVICE_FAILED)]), (("--sparse",), [])):
         for call, number, text in cases + further:
             what, path = f"format {option} without {call} {number}", checks.path("made")
             checks.same(what, run(checks.words(call, number, "format", *option, path, SMALLEST)), (1, "", text))
@@ -95,8 +101,8 @@ def filling(checks):
     for error, text in (("ENOSPC", NO_SPACE), ("EDQUOT", NO_SPACE), ("EIO", DEVICE_FAILED)):
         for number in (1, 9, 17):
             what, path = f"format with {error} at piece {number}", checks.path("filled")
-            fault = f"inject=write:error={error}:when={number}"
-            words = ["strace", "-f", "-o", checks.path("trace"), "-P", path, "-e", "trace=write", "-e", fault, checks.program]
+            fault = f"inject=pwrite64:error={error}:when={number}"
+            words = ["strace", "-f", "-o", checks.path("trace"), "-P", path, "-e", "trace=pwrite64", "-e", fault, checks.program]
             checks.same(what, run([*words, "format", path, str(size)]), (1, "", text))
             checks.was_injected(what)
             checks.same(f"{what}: the file is there", os.path.exists(path), False)
@@ -114,8 +120,8 @@ def progress(checks):
     lines = []
     for size in (67_108_864, 67_108_863):
         path = checks.path(f"large-{size}")
-        fault = "inject=write:delay_enter=20000"
-        words = ["strace", "-f", "-o", checks.path("trace"), "-P", path, "-e", "trace=write", "-e", fault, checks.program]
+        fault = "inject=pwrite64:delay_enter=20000"
+        words = ["strace", "-f", "-o", checks.path("trace"), "-P", path, "-e", "trace=pwrite64", "-e", fault, checks.program]
         start = time.monotonic()
         status, output, errors = run([*words, "format", path, str(size)])
         seconds = time.monotonic() - start
@@ -125,6 +131,49 @@ def progress(checks):
         checks.same(f"{size} bytes: what is told", fits and len(lines[-1]) <= seconds, True)
         os.remove(path)
     checks.same("the large one is told of, the smaller is not", (len(lines[0]) > 2, lines[1]), (True, []))
+
+
+def swapping(checks):
+    """A file that is being made loses its name to a link to another file, which stays as it is."""
+    path, other = checks.path("swapped"), checks.path("other")
+    pathlib.Path(other).write_bytes(b"x" * PAGE)
+    words = ["strace", "-f", "-o", checks.path("trace"), "-e", "trace=fsync", "-e", "inject=fsync:delay_enter=500000:when=1", checks.program]
+    made = subprocess.Popen([*words, "format", path, SMALLEST], stdout=subprocess.PIPE, stderr=subprocess.PIPE)
+    deadline = time.monotonic() + 30
+    while not os.path.exists(path):
+        if time.monotonic() > deadline:
+            raise RuntimeError("the file is not made")
+        time.sleep(0.01)
+    os.rename(path, path + ".away")
+    os.symlink(other, path)
+    made.communicate(timeout=60)
+    checks.same("a link in a new file's place: what it leads to", pathlib.Path(other).read_bytes() == b"x" * PAGE, True)
+
+
+def limiting(checks):
+    """A limit on the size of files is told, with the signal for it ignored and not, and nothing is left."""
+    limit = lambda: resource.setrlimit(resource.RLIMIT_FSIZE, (PAGE, PAGE))
+    for ignores in (True, False):
+        for option in ((), ("--sparse",)):
+            what, path = f"format {option} over the limit, ignoring {ignores}", checks.path("limited")
+            handler = signal.SIG_IGN if ignores else signal.SIG_DFL
+            words = [checks.program, "format", *option, path, SMALLEST]
+            limited = lambda: (signal.signal(signal.SIGXFSZ, handler), limit())
+            done = subprocess.run(words, capture_output=True, timeout=60, preexec_fn=limited, restore_signals=False, check=False)
+            checks.same(what, (done.returncode, done.stdout.decode(), done.stderr.decode()), (1, "", TOO_LARGE))
+            checks.same(f"{what}: the file is there", os.path.exists(path), False)
+
+
+def what_is_no_file(checks):
+    """A FIFO is not waited for, and a directory is told as one."""
+    fifo, folder = checks.path("fifo"), checks.path("folder")
+    os.mkfifo(fifo)
+    os.mkdir(folder)
+    for subcommand in ("show", "held"):
+        for path, text in ((fifo, NO_FILE), (folder, DIRECTORY), ("/dev/null", NO_FILE)):
+            checks.same(f"{subcommand} of {path}", run([checks.program, subcommand, path]), (1, "", text))
+    for path, text in ((fifo, NO_FILE), (folder, DIRECTORY)):
+        checks.same(f"serve over {path}", run([checks.program, "serve", path, str(free_port())]), (1, "", text))
 
 
 def make(checks, name):
@@ -259,7 +308,7 @@ def main():
         sys.exit(2)
     with tempfile.TemporaryDirectory() as name:
         checks = Checks(str(program), pathlib.Path(name).resolve())
-        for part in (formatting, filling, progress, showing, locking, opening, storing, asleep, losing):
+        for part in (formatting, filling, progress, swapping, limiting, what_is_no_file, showing, locking, opening, storing, asleep, losing):
             part(checks)
     if checks.failed:
         sys.exit(f"failing_disk: {checks.failed} of {checks.count} are wrong")

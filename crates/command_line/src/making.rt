@@ -11,7 +11,7 @@ use journal_files::area_in;
 use std::alloc::Global;
 use std::fs::File;
 use std::io;
-use std::io::{ErrorKind, Write};
+use std::io::{ErrorKind, Read, Write};
 use std::rt::Files;
 use std::time::{Clock, Duration, Instant};
 
@@ -44,6 +44,9 @@ pub fn make_journal<R: Files<File = File> + Clock, P: Write>(
     let Some(area) = area_in(bytes) else {
         return Err(FileFault::Format(FormatFault::TooSmall));
     };
+    if most_bytes(rt).is_some_and(|most| most < bytes) {
+        return Err(FileFault::Open(too_large()));
+    }
     let mut disk = match FileDisk::create(rt, path, bytes) {
         Ok(disk) => disk,
         Err(error) => return Err(FileFault::Open(error)),
@@ -61,6 +64,30 @@ pub fn make_journal<R: Files<File = File> + Clock, P: Write>(
         let _removed = std::fs::remove_file(rt, path);
     }
     made
+}
+
+// How many bytes a file of this process may have, if the system tells a limit. One more would end the process by a signal, for which it can
+// have no handler.
+fn most_bytes<R: Files<File = File>>(rt: &R) -> Option<u64> {
+    let mut text = [0; 4_096];
+    let mut file = File::open(rt, "/proc/self/limits").ok()?;
+    let count = file.read(&mut text).ok()?;
+    limit_in(str::from_utf8(&text[..count]).ok()?)
+}
+
+// The limit on a file's bytes in the system's table of limits; `None` if it is unlimited.
+fn limit_in(table: &str) -> Option<u64> {
+    for line in table.lines() {
+        if let Some(rest) = line.strip_prefix("Max file size") {
+            return rest.split_whitespace().next()?.parse().ok();
+        }
+    }
+    None
+}
+
+// What is told of a file that would be too large.
+fn too_large() -> OpenError {
+    OpenError::System(io::Error::from(ErrorKind::FileTooLarge))
 }
 
 // Writes an empty journal.
