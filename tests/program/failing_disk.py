@@ -13,6 +13,7 @@ Python 3 alone; the gate does not run it.
 - If the file of `stompd serve` can't be locked, it ends with `cannot open`, and the file is as it was.
 - If a write or a sync of `stompd serve` fails while it opens its journal, it ends with `J3 device failed` and does not
   say that it listens.
+- While it opens its journal it says each second for how long.
 - If one of a block's fails, the server ends so, and the block's command gets no receipt; the commands before it are in
   the journal.
 - If its file is removed, replaced or cut while it runs, the server ends so at the next command.
@@ -220,6 +221,18 @@ def opening(checks):
             checks.was_injected(what)
 
 
+def slow_opening(checks):
+    """A server whose first read takes two and a half seconds says so after each of them, and nothing of the kind once it listens."""
+    path, port = make(checks, "slow"), free_port()
+    words = ["strace", "-f", "-o", checks.path("trace"), "-P", path, "-e", "trace=pread64", "-e", "inject=pread64:delay_enter=2500000:when=1"]
+    with serving([*words, checks.program, "serve", path, str(port)], port) as server:
+        time.sleep(1.5)
+        os.kill(child_of(server.pid), signal.SIGKILL)
+        errors = server.communicate(timeout=60)[1].decode()
+    told = [line for line in errors.splitlines() if "opening the journal" in line]
+    checks.same("a slow opening is told", told, [f"stompd: opening the journal, {seconds} s so far" for seconds in (1, 2)])
+
+
 def frames_to_the_end(client):
     """The commands of the frames up to the end of the connection."""
     try:
@@ -308,7 +321,7 @@ def main():
         sys.exit(2)
     with tempfile.TemporaryDirectory() as name:
         checks = Checks(str(program), pathlib.Path(name).resolve())
-        for part in (formatting, filling, progress, swapping, limiting, what_is_no_file, showing, locking, opening, storing, asleep, losing):
+        for part in (formatting, filling, progress, swapping, limiting, what_is_no_file, showing, locking, opening, slow_opening, storing, asleep, losing):
             part(checks)
     if checks.failed:
         sys.exit(f"failing_disk: {checks.failed} of {checks.count} are wrong")

@@ -13,6 +13,7 @@ use std::fs::{File, Files, OpenOptions};
 use std::io::{ErrorKind, Lock, Read, Write};
 use std::net::{Net, TcpListener, TcpStream};
 use std::process::ExitCode;
+use std::sync::atomic::{AtomicBool, Ordering};
 use std::sync::{Arc, Wait};
 use std::thread::{Parker, Threads};
 use std::time::{Clock, Duration};
@@ -32,7 +33,10 @@ fn main(rt: HostRuntime) -> ExitCode {
             let input = rt.stdin().lock();
             let errors = rt.stderr().lock();
             let mut writer = rt.stdout().lock();
-            let end = serve(&rt, rt.alloc(), asked, input, errors, &mut writer);
+            let end = match tell_while_opening(&rt, rt.alloc(), rt.stderr()) {
+                Ok(is_open) => serve(&rt, rt.alloc(), asked, &is_open, input, errors, &mut writer),
+                Err(fault) => ServeEnd::Fault(fault),
+            };
             status_of(&rt, rt.alloc(), end, rt.stderr())
         }
         None => run_other(&rt, words.as_slice()),
@@ -123,12 +127,45 @@ struct Asked<'a> {
     until_eof: bool,
 }
 
+/// Starts a thread that tells each second how long a server has been opening its journal, until what it answers is set.
+fn tell_while_opening<R, E>(rt: &R, alloc: Global, errors: E) -> Result<Arc<AtomicBool>, ServeFault>
+where
+    R: Threads + Wait + Clock + Clone + Drop + Send + 'static,
+    E: Write + Drop + Send + 'static,
+{
+    let is_open = Arc::new(alloc, AtomicBool::new(false)).map_err(|_| ServeFault::Memory)?;
+    let (is_over, its) = (is_open.clone()?, rt.clone()?);
+    let mut errors = errors;
+    let tells = move || tell_opening(&its, &is_over, &mut errors);
+    match thread::spawn(rt, tells) {
+        Ok(_) => Ok(is_open),
+        Err(_) => Err(ServeFault::Threads),
+    }
+}
+
+/// Tells each second how long a server has been opening its journal, until it has.
+fn tell_opening<R: Wait + Clock, E: Write>(rt: &R, is_over: &AtomicBool, errors: &mut E) {
+    for seconds in 1..=LONGEST_OPENING {
+        thread::sleep(rt, Duration::from_secs(1));
+        if is_over.load(Ordering::SeqCst) {
+            return;
+        }
+        if writeln!(errors, "stompd: opening the journal, {seconds} s so far").is_err() {
+            return;
+        }
+    }
+}
+
+/// For how many seconds it is told that a server opens its journal.
+const LONGEST_OPENING: u64 = 86_400;
+
 /// Serves what is asked for until the server ends, and answers why it did, or why it did not start. What an operator is told is
-/// written to `errors`, and the line that it listens to `writer`.
+/// written to `errors`, the line that it listens to `writer`, and once the journal is open `is_open` is set.
 fn serve<R, I, E, W: Write>(
     rt: &R,
     alloc: Global,
     asked: Asked<'_>,
+    is_open: &AtomicBool,
     input: I,
     errors: E,
     writer: &mut W,
@@ -140,7 +177,9 @@ where
     E: Write + Drop + Send + 'static,
 {
     let until_eof = asked.until_eof;
-    match opened(rt, alloc, asked) {
+    let opened = opened(rt, alloc, asked);
+    is_open.store(true, Ordering::SeqCst);
+    match opened {
         Ok(server) => {
             let mut server = server;
             match start(rt, alloc, &mut server, until_eof, input, errors) {
