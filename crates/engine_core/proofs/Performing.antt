@@ -10,12 +10,12 @@ use Rattle.disk_core.specs.Memory.{Memory}
 use Rattle.recover_core.specs.Opens.{IsRestartOf}
 use Rattle.recover_core.specs.Standing.{Stands}
 use Rattle.recover_core.proofs.Single.{stands_one}
-use Rattle.script_journal.specs.Journals.{IsFull}
+use Rattle.script_journal.specs.Journals.{IsFull, StandsAfterFront}
 use Rattle.script_journal.specs.Placed.{commands_of}
 use Rattle.script_journal.specs.declared.waiting.Waiting.{Waiting}
 use Rattle.engine_core.specs.Queues.{LacksRoom, QueueValue}
 use Rattle.engine_core.specs.Running.{ScriptValue}
-use Rattle.engine_core.specs.Scripts.{Opens, Crashes, GoesBy, GoesOn, IsNotUnderstood, IsOpenedAs, IsStopped, OnRunning, Prints, Reopens, RunsOn, StandsAs, disk_of}
+use Rattle.engine_core.specs.Scripts.{Opens, Crashes, GoesBy, GoesOn, IsNotUnderstood, IsOpenedAs, IsStopped, OnRunning, Prints, Reopens, RunsOn, StandsAs, StandsWithin, disk_of}
 use Rattle.engine_core.specs.declared.script.Script.{Script}
 use Rattle.engine_core.specs.declared.script.Script.TheVariants.{Running, Stopped, Over}
 use Rattle.script_text.proofs.ConnectionNumbers.{one_digit, two_digits}
@@ -101,3 +101,8 @@ pub lacks_room : (q : QueueValue) (waiting : List Waiting) (state : State) (cont
 lacks_room q waiting state content same_waiting same_state full =
     subst (λ s. IsFull s (commands_of q.waiting) content) same_state
     (subst (λ w. IsFull state (commands_of w) content) same_waiting full)
+
+pub stood_within : (q : QueueValue) (waiting : List Waiting) (state : State) (content : List ℕ) → waiting ≡ q.waiting → state ≡ q.state → ∥ StandsAfterFront state (commands_of waiting) content ∥₁ → ∥ StandsWithin q content ∥₁
+stood_within q waiting state content same_waiting same_state stands =
+    subst (λ s. ∥ StandsAfterFront s (commands_of q.waiting) content ∥₁) same_state
+    (subst (λ w. ∥ StandsAfterFront state (commands_of w) content ∥₁) same_waiting stands)
