@@ -1,6 +1,6 @@
 //! Making the file of a journal.
 
-ghost use Rattle.std.specs.Prelude.{◌+◌, ◌*◌, ◌<◌, ◌≤◌, IfOk, OnOk};
+ghost use Rattle.std.specs.Prelude.{◌≡◌, ◌+◌, ◌*◌, ◌<◌, ◌≤◌, IfOk, OnOk};
 ghost use Rattle.disk_core.specs.File.{file_size};
 ghost use Rattle.command_line.specs.Failures.{IsTooShort};
 
