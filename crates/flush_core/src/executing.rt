@@ -10,7 +10,7 @@ ghost use Rattle.flush_core.specs.Outcomes.{IsOutcome, executing};
 ghost use Rattle.flush_core.specs.Sessions.{ended_by, opened};
 
 use crate::FlushFault;
-use crate::backlog::{bytes_of, count_more};
+use crate::backlog::{bytes_of, count_more, steps_of};
 use crate::flusher::Flusher;
 use crate::outlet::Outlet;
 use crate::width::Width;
@@ -192,12 +192,12 @@ impl<D: Disk, B: Bell, W: Width> Flusher<D, B, W> {
         ensures stops { OnErr result (HasStopped self.new) }
         ensures fault { NeedsNoDisk result }
     {
-        let (commands, bytes) = (self.done.len(), bytes_of(&self.done));
+        let (steps, bytes) = (steps_of(&self.done), bytes_of(&self.done));
         let waited = self.outlet.waiting.len();
         match execute_all(alloc, &mut self.broker, &mut self.done, &mut self.outlet) {
             Ok(()) => {
                 let outs = self.outlet.waiting.len().saturating_sub(waited);
-                self.counted = count_more(self.counted, commands, bytes, outs);
+                self.counted = count_more(self.counted, steps, bytes, outs);
                 self.executed = self.stored;
                 Ok(())
             }
