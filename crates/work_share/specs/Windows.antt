@@ -8,7 +8,7 @@ abbrev pub IsGranted : (cost all : ℕ) (is_first : Bool) (window : ℕ) → Typ
 IsGranted cost all is_first window =
     (all + cost ≤ GREEDY) ⊎ (window * cost ≤ SHARE) ⊎ ((window ≡ 1) × ((all ≡ 0) ⊎ ((is_first ≡ true) × (all + cost ≤ BUDGET))))
 
--- So many commands of a desk may be under way, with one that comes next and costs so much, while those of all desks under way cost so much. 
+-- So many commands of a desk may be under way, with one that comes next and costs so much, while those of all desks under way cost so much.
 -- It is one at least if nothing is under way, if the share holds it, and if no other has waited longer and the budget holds it.
 pub record IsWindow (cost all : ℕ) (is_first : Bool) (window : ℕ) : Type 0 where
   pub most : window ≤ WIDEST

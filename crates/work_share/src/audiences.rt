@@ -1,22 +1,26 @@
 //! How many listen to each topic, as far as is known.
 
-ghost use Rattle.std.specs.Prelude.{◌≤◌, ◌*◌, ◌+◌, length};
+ghost use Rattle.std.specs.Prelude.{◌≤◌, ◌*◌, ◌+◌, length, max};
 ghost use Rattle.work_share.specs.Costs.{least_cost};
 ghost use Rattle.work_share.specs.declared.audiences.TheConstants.{OPERATION};
 
 use crate::sample::Sample;
+use crate::words::Words;
 use command_core::{Member, Op};
 use record_core::Dest;
-use crate::words::Words;
 use std::alloc::{AllocError, Global};
 
 /// In how many places topics are counted.
 const PLACES: usize = 4_096;
 
-// What it costs to carry out an operation and a delivery, in nanoseconds of a processor.
-pub const OPERATION: u64 = 1_000;
+/// What it costs to carry out an operation, in nanoseconds of a processor, beside workers that have the others.
+pub const OPERATION: u64 = 3_000;
 
+// What a delivery costs.
 const DELIVERY: u64 = 4_000;
+
+// A count that is too large falls by this part of itself with each message to the topic.
+const FALL: u64 = 16;
 
 /// How many listen to each topic, as far as is known. Topics share places, so that a count may be too large. The flusher counts, and others look.
 #[derive(Drop)]
@@ -37,12 +41,12 @@ impl Audiences {
         match sample {
             Sample::Nothing => {}
             Sample::Joins(place) => {
-                let _ = self.counts.count(place);
-            },
+                let known = self.counts.get(place);
+                self.counts.set(place, known.saturating_add(1));
+            }
             Sample::Hears(place, count) => {
                 let known = self.counts.get(place);
-                let each = outs / count.max(1);
-                self.counts.set(place, each.max(known - known / 16));
+                self.counts.set(place, heard(known, outs / count.max(1)));
             }
         }
     }
@@ -89,6 +93,14 @@ impl Audiences {
             Member::Ack(_) | Member::Nack(_) => OPERATION,
         }
     }
+}
+
+// The audience of a topic that was taken for so many, once a message went to so many: what is too much falls slowly, since topics share a
+// place.
+fn heard(known: u64, seen: u64) -> u64
+    ensures { (seen ≤ result) × (result ≤ max known seen) }
+{
+    seen.max(known - known / FALL)
 }
 
 /// The place of a topic; `None` for a queue.

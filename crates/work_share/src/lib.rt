@@ -3,14 +3,14 @@
 #![tactic(auto)]
 
 mod audiences;
+mod granting;
 mod loads;
 mod pace;
 mod sample;
-mod granting;
 mod words;
 
 pub use audiences::Audiences;
+pub use granting::{BUDGET, GREEDY, SHARE, WIDEST, window};
 pub use loads::Loads;
 pub use pace::Pace;
 pub use sample::Sample;
-pub use granting::{BUDGET, GREEDY, SHARE, WIDEST, window};

@@ -4,40 +4,86 @@ ghost use Rattle.std.specs.Prelude.{◌≤◌};
 ghost use Rattle.work_share.specs.declared.granting.TheConstants.{WIDEST};
 
 use crate::granting::{SHARE, WIDEST, window};
-use crate::words::Words;
+use crate::words::{Words, get, set};
 use std::alloc::{AllocError, Global};
+use std::sync::atomic::{AtomicU64, Ordering};
 
-/// What the commands cost that each desk has under way, and which desks wait with one that is dear. Each desk writes what is its own, and looks at the others.
+/// What a desk has under way. It alone writes this, and others look.
 #[derive(Drop)]
-pub struct Loads {
-    desks: usize,
-    // The tickets of each desk's last commands, and what they cost; and how many commands it has had.
+struct Load {
+    // The tickets of its last commands, what each of them cost, and how many it has had.
     tickets: Words,
     costs: Words,
-    counts: Words,
-    // Each desk's last ticket, and what its commands under way cost.
-    lasts: Words,
-    sums: Words,
-    // What each desk has asked about last, and since which turn it waits with a dear one.
-    asked: Words,
-    waits: Words,
-    turns: Words,
+    count: AtomicU64,
+    // Its last ticket, and what its commands under way cost.
+    last: AtomicU64,
+    sum: AtomicU64,
+    // What the command costs that it has asked about last; and its number in line, if it waits with one that is dear.
+    asked: AtomicU64,
+    line: AtomicU64,
+}
+
+impl Load {
+    // It has nothing under way.
+    fn new(alloc: Global) -> Result<Load, AllocError> {
+        Ok(Load {
+            tickets: Words::new(alloc, WIDEST)?,
+            costs: Words::new(alloc, WIDEST)?,
+            count: AtomicU64::new(0),
+            last: AtomicU64::new(0),
+            sum: AtomicU64::new(0),
+            asked: AtomicU64::new(0),
+            line: AtomicU64::new(0),
+        })
+    }
+
+    // What its commands cost that are under way at this mark.
+    fn under_way(&self, mark: u64) -> u64 {
+        if get(&self.last) < mark {
+            0
+        } else {
+            get(&self.sum)
+        }
+    }
+
+    // The command that it has asked about last has that ticket.
+    fn add(&self, ticket: u64, mark: u64) {
+        let cost = get(&self.asked);
+        let place = (self.count.fetch_add(1, Ordering::SeqCst) % WIDEST as u64) as usize;
+        self.tickets.set(place, ticket);
+        self.costs.set(place, cost);
+        let mut sum: u64 = 0;
+        for place in 0..WIDEST {
+            if self.tickets.get(place) >= mark {
+                sum = sum.saturating_add(self.costs.get(place));
+            }
+        }
+        set(&self.sum, sum);
+        set(&self.last, ticket);
+        if cost > SHARE {
+            set(&self.line, 0);
+        }
+    }
+}
+
+/// What the commands cost that all desks have under way, and which desks wait with one that is dear.
+#[derive(Drop)]
+pub struct Loads {
+    desks: Vec<Load>,
+    // The number in line that was given last.
+    line: AtomicU64,
 }
 
 impl Loads {
     /// Of so many desks that have nothing under way.
-    pub fn new(alloc: Global, desks: usize) -> Result<Loads, AllocError> {
-        let places = desks.saturating_mul(WIDEST);
+    pub fn new(alloc: Global, count: usize) -> Result<Loads, AllocError> {
+        let mut desks = Vec::with_capacity(alloc, count)?;
+        for _desk in 0..count {
+            desks.push(Load::new(alloc)?)?;
+        }
         Ok(Loads {
             desks,
-            tickets: Words::new(alloc, places)?,
-            costs: Words::new(alloc, places)?,
-            counts: Words::new(alloc, desks)?,
-            lasts: Words::new(alloc, desks)?,
-            sums: Words::new(alloc, desks)?,
-            asked: Words::new(alloc, desks)?,
-            waits: Words::new(alloc, desks)?,
-            turns: Words::new(alloc, 1)?,
+            line: AtomicU64::new(0),
         })
     }
 
@@ -45,55 +91,51 @@ impl Loads {
     pub fn window(&self, desk: usize, cost: u64, mark: u64) -> usize
         ensures { result ≤ WIDEST }
     {
-        self.asked.set(desk, cost);
+        let Some(own) = self.desks.get(desk) else {
+            return WIDEST;
+        };
+        set(&own.asked, cost);
         if cost <= SHARE / WIDEST as u64 {
             return WIDEST;
         }
-        let window = window(cost, self.under_way(mark), self.is_first(desk));
-        if window == 0 && self.waits.get(desk) == 0 {
-            self.waits.set(desk, self.turns.count(0));
+        let window = window(cost, self.under_way(mark), self.is_first(own));
+        if window == 0 && get(&own.line) == 0 {
+            let line = self.line.fetch_add(1, Ordering::SeqCst);
+            set(&own.line, line.saturating_add(1));
         }
         window
     }
 
     /// The command that this desk has asked about last has that ticket.
     pub fn appended(&self, desk: usize, ticket: u64, mark: u64) {
-        let cost = self.asked.get(desk);
-        let count = self.counts.count(desk);
-        let first = desk.saturating_mul(WIDEST);
-        let place = first.saturating_add((count % WIDEST as u64) as usize);
-        self.tickets.set(place, ticket);
-        self.costs.set(place, cost);
-        let mut sum: u64 = 0;
-        for place in first..first.saturating_add(WIDEST) {
-            if self.tickets.get(place) >= mark {
-                sum = sum.saturating_add(self.costs.get(place));
-            }
+        if let Some(own) = self.desks.get(desk) {
+            own.add(ticket, mark);
         }
-        self.sums.set(desk, sum);
-        self.lasts.set(desk, ticket);
-        if cost > SHARE {
-            self.waits.set(desk, 0);
+    }
+
+    /// Whether that desk waits with a command that is dear.
+    pub fn waits(&self, desk: usize) -> bool {
+        match self.desks.get(desk) {
+            Some(own) => get(&own.line) != 0,
+            None => false,
         }
     }
 
     // What the commands of all desks cost that are under way at this mark.
     fn under_way(&self, mark: u64) -> u64 {
         let mut sum: u64 = 0;
-        for desk in 0..self.desks {
-            if self.lasts.get(desk) >= mark {
-                sum = sum.saturating_add(self.sums.get(desk));
-            }
+        for desk in &self.desks {
+            sum = sum.saturating_add(desk.under_way(mark));
         }
         sum
     }
 
-    // Whether no other desk waits with a dear command for longer.
-    fn is_first(&self, desk: usize) -> bool {
-        let own = self.waits.get(desk);
-        for other in 0..self.desks {
-            let since = self.waits.get(other);
-            if other != desk && since != 0 && (own == 0 || since < own) {
+    // Whether nobody stands in line before this desk.
+    fn is_first(&self, own: &Load) -> bool {
+        let stands = get(&own.line);
+        for desk in &self.desks {
+            let line = get(&desk.line);
+            if line != 0 && (stands == 0 || line < stands) {
                 return false;
             }
         }

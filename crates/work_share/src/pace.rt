@@ -37,6 +37,11 @@ impl Pace {
         self.loads.window(desk, self.audiences.cost(op), mark)
     }
 
+    /// Whether that desk waits with a command that is dear.
+    pub fn waits(&self, desk: usize) -> bool {
+        self.loads.waits(desk)
+    }
+
     /// The command that this desk has asked about last has got that ticket.
     pub fn appended(&self, desk: usize, ticket: u64, mark: u64) {
         self.loads.appended(desk, ticket, mark);

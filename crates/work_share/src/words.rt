@@ -3,7 +3,17 @@
 use std::alloc::{AllocError, Global};
 use std::sync::atomic::{AtomicU64, Ordering};
 
-/// Numbers by their places, which one thread writes and others read. A place that there isn't has 0.
+/// Reads a number that another thread may write.
+pub(crate) fn get(word: &AtomicU64) -> u64 {
+    word.load(Ordering::SeqCst)
+}
+
+/// Writes a number that another thread may read.
+pub(crate) fn set(word: &AtomicU64, value: u64) {
+    word.store(value, Ordering::SeqCst);
+}
+
+/// Such numbers by their places. A place that there isn't has 0.
 #[derive(Drop)]
 pub(crate) struct Words {
     all: Vec<AtomicU64>,
@@ -21,22 +31,14 @@ impl Words {
 
     pub(crate) fn get(&self, place: usize) -> u64 {
         match self.all.get(place) {
-            Some(word) => word.load(Ordering::SeqCst),
+            Some(word) => get(word),
             None => 0,
         }
     }
 
     pub(crate) fn set(&self, place: usize, value: u64) {
         if let Some(word) = self.all.get(place) {
-            word.store(value, Ordering::SeqCst);
-        }
-    }
-
-    /// Adds one, and answers the sum.
-    pub(crate) fn count(&self, place: usize) -> u64 {
-        match self.all.get(place) {
-            Some(word) => word.fetch_add(1, Ordering::SeqCst).wrapping_add(1),
-            None => 0,
+            set(word, value);
         }
     }
 }
