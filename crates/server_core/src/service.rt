@@ -358,14 +358,18 @@ impl<'a, R: Wait + Clock + Drop> Service<'a, R> {
     fn turn(&mut self, number: usize)
         ensures shared { self.new.shared ≡ self.old.shared }
     {
+        let mark = self.desk.look(&self.shared.ring);
         let ropes = Ropes {
             mailbox: &self.mailbox,
             client: number,
+            pace: &self.shared.pace,
+            mark,
         };
         let desk = &mut self.desk;
         let Some(turned) = take_turns(self.alloc, &self.shared.ring, desk, &ropes) else {
             return;
         };
+        let turned = ropes.since(turned);
         if turned.appended {
             self.shared.wakeups.wake_flusher();
         }
