@@ -8,7 +8,8 @@ use crate::log_thread::LogThread;
 use crate::mailbox::{Arrival, Mailbox};
 use claim_core::SEATS;
 use event_log::{Kind, ServeFault, Unopened};
-use std::net::{Net, TcpListener, TcpStream};
+use std::io;
+use std::net::{Ipv4Addr, Net, SocketAddr, SocketAddrV4, TcpListener, TcpStream};
 use std::sync::{Arc, Wait};
 use std::thread;
 use std::time::{Clock, Duration};
@@ -62,15 +63,21 @@ impl<R> Acceptor<R> {
     }
 }
 
-/// Opens the port at 127.0.0.1. `Port` if the system refuses it.
-pub(crate) fn listen<R: Net<Listener = TcpListener, Stream = TcpStream>>(
-    net: &R,
-    port: u16,
-) -> Result<TcpListener, ServeFault> {
-    match TcpListener::bind(net, ("127.0.0.1", port)) {
+/// Opens the port at 127.0.0.1. `Port` if the system refuses it. So many clients may wait there as the system lets: the standard library's
+/// listener has room for 128, and the others would try again after a second.
+pub(crate) fn listen<R: Net>(net: &R, port: u16) -> Result<TcpListener, ServeFault> {
+    let address = SocketAddr::V4(SocketAddrV4::new(Ipv4Addr::LOCALHOST, port));
+    match bind(net, address) {
         Ok(listener) => Ok(listener),
         Err(error) => Err(ServeFault::Port(Unopened::by(error.kind()))),
     }
+}
+
+// The port as a listener that waits for clients.
+fn bind<R: Net>(net: &R, address: SocketAddr) -> io::Result<TcpListener> {
+    let listener = TcpListener::from(mio::net::TcpListener::bind(net, address)?);
+    listener.set_nonblocking(false)?;
+    Ok(listener)
 }
 
 impl<R: Wait + Clock> Acceptor<R> {

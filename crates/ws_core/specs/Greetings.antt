@@ -4,7 +4,7 @@ use Rattle.std.specs.Io.KnownBytes.{Appends, Consumes}
 use Rattle.ws_core.specs.declared.answer.Answer.{Answer}
 use Rattle.ws_core.specs.declared.answer.Answer.TheVariants.{Refuse}
 use Rattle.ws_core.specs.declared.saying.Saying.{Saying}
-use Rattle.ws_core.specs.Handshakes.{IsAnswerTo, as_full, response_to}
+use Rattle.ws_core.specs.Handshakes.{IsAnswerTo, as_full, is_head, response_to}
 
 -- The stream as it was given, the origins whose pages are served, and whether the server takes no more clients.
 pub record Greeter (S : Type 0) : Type 0 where
@@ -32,7 +32,7 @@ module _ {S : Type 0} (remaining contents : S → Option (List ℕ)) where
   -- so much of the response was written
   pub record Says (g : Greeter S) (head : List ℕ) (new : S) (saying : Saying) : Type 0 where
     pub within : saying.said ≤ length saying.response.items
-    pub response : saying.response.items ≡ response_to saying.answer
+    pub response : saying.response.items ≡ response_to (is_head head) saying.answer
     pub tells : Tells g head new saying.answer (take saying.said saying.response.items)
 
   -- All that the stream gave is kept, until it has an answer; from then on only that is written.

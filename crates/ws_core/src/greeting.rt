@@ -4,11 +4,11 @@ ghost use Rattle.std.specs.Prelude.{◌≡◌, ℕ, List, IfOk, IfErr, false, ma
 ghost use Rattle.std.specs.Arc.{arc_value};
 ghost use Rattle.ws_core.specs.Greetings.{Greeter, Tells, answer_at, greeter};
 ghost use Rattle.ws_core.specs.Greeted.{Greets};
-ghost use Rattle.ws_core.specs.Handshakes.{response_to};
+ghost use Rattle.ws_core.specs.Handshakes.{is_head, response_to};
 
 use crate::answer::Answer;
 use crate::fault::LinkFault;
-use crate::handshake::hear_head;
+use crate::handshake::{hear_head, is_head};
 use crate::refusal::Refusal;
 use crate::saying::Saying;
 use crate::ws_link::WsLink;
@@ -25,7 +25,7 @@ use std::sync::Arc;
 /// `v12.stomp` if the client offers it, and none if it offers none. A browser's page, which sends its origin, is served if its
 /// origin is among the named ones, or if none is named. Any other client gets a response whose status says why not.
 ///
-/// A head may have 65,536 bytes and 124 fields, and from the 65th read on at least 128 bytes a read. Beyond that the stream is given
+/// A head may have 16,384 bytes and 124 fields, and from the 65th read on at least 128 bytes a read. Beyond that the stream is given
 /// up, so a client that never ends its head costs no more than that. How long a client takes is the caller's to limit.
 ///
 /// Contracts see the stream as it was given, the origins, and whether the server takes no more clients.
@@ -63,8 +63,9 @@ pub enum Greeted<S: Read + Write> {
     Waits(Greeting<S>),
     /// The client has its WebSocket, and the whole response that says so is written.
     Accepted(WsLink<S>),
-    /// The client gets none. The whole response that says why is written, and the stream is closed.
-    Refused(Refusal),
+    /// The client gets none. The whole response that says why is written, and what comes is to be dropped before the stream is closed
+    /// (`Farewell`).
+    Refused(Refusal, S),
     /// The handshake is given up, and the stream is closed. It is `Memory` if memory was refused, and `Gone` if the stream has ended
     /// or failed, or gave its head too slowly.
     Failed(LinkFault),
@@ -117,6 +118,11 @@ impl<S: Read + Write + Drop> Greeting<S> {
         &self.stream
     }
 
+    /// How many bytes it keeps of a head that isn't whole.
+    pub fn held(&self) -> u64 {
+        self.head.capacity() as u64
+    }
+
     // Hears the request, unless it has its answer.
     fn hear(self, alloc: Global) -> Result<Greeting<S>, Greeted<S>>
         ensures same { IfOk result (λ greeting. greeting ≡ self) }
@@ -136,7 +142,7 @@ impl<S: Read + Write + Drop> Greeting<S> {
         } = self;
         drop(saying);
         match hear_head(&mut stream, &mut head, &mut reads, origins.as_slice()) {
-            Ok(Some(answer)) => match Saying::new(alloc, at(is_full, answer)) {
+            Ok(Some(answer)) => match Saying::new(alloc, at(is_full, answer), is_head(head.as_slice())) {
                 Ok(saying) => Ok(Greeting {
                     opening,
                     stream,
@@ -213,10 +219,10 @@ fn at(is_full: bool, answer: Answer) -> Answer
 
 // What a handshake has come to if its answer is wholly written.
 fn done<S: Read + Write + Drop>(alloc: Global, stream: S, answer: Answer) -> Greeted<S>
-    ensures { (g : Greeter S) (head : List ℕ) → Tells S.remaining S.contents g head stream answer (response_to answer) → Greets S.remaining S.contents g result }
+    ensures { (g : Greeter S) (head : List ℕ) → Tells S.remaining S.contents g head stream answer (response_to (is_head head) answer) → Greets S.remaining S.contents g result }
 {
     match answer {
         Answer::Accept(..) => Greeted::Accepted(WsLink::new(alloc, stream)),
-        Answer::Refuse(refusal) => Greeted::Refused(refusal),
+        Answer::Refuse(refusal) => Greeted::Refused(refusal, stream),
     }
 }

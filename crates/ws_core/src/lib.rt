@@ -4,6 +4,7 @@
 
 mod answer;
 mod closing;
+mod farewell;
 mod fault;
 mod fields;
 mod greeting;
@@ -16,10 +17,12 @@ mod phase;
 mod refusal;
 mod saying;
 mod stream;
+mod unfed;
 mod ws_link;
 
 pub use answer::{Answer, answer_to};
 pub use closing::CloseReason;
+pub use farewell::Farewell;
 pub use fault::LinkFault;
 pub use greeting::{Greeted, Greeting};
 pub use link::{Link, Outgoing, Received};

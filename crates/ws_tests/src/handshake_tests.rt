@@ -204,7 +204,7 @@ fn bytes_read(alloc: Global, step: usize) -> Result<Option<usize>, Fail> {
 #[test]
 fn a_head_that_does_not_end_is_given_up(rt: HostRuntime) -> Result<(), Fail> {
     // The limit and one read of 4,096 bytes; 64 reads and one more.
-    for (step, most) in [(usize::MAX, 69_632), (1, 65)] {
+    for (step, most) in [(usize::MAX, 20_480), (1, 65)] {
         let Some(count) = bytes_read(rt.alloc(), step)? else {
             return Err(Fail::from("accepted"));
         };
@@ -218,7 +218,7 @@ fn outcome(greeted: Greeted<&Wire>) -> Result<Greeting<&Wire>, u8> {
     match greeted {
         Greeted::Waits(greeting) => Ok(greeting),
         Greeted::Accepted(_link) => Err(b'+'),
-        Greeted::Refused(_refusal) => Err(b'-'),
+        Greeted::Refused(_refusal, _wire) => Err(b'-'),
         Greeted::Failed(_fault) => Err(b'!'),
     }
 }
@@ -310,7 +310,7 @@ fn a_response_may_go_out_a_byte_at_a_time(rt: HostRuntime) -> Result<(), Fail> {
 fn answered_in_full(alloc: Global, request: &str) -> Result<(bool, String), Fail> {
     let wire = Wire::new(alloc, request.as_bytes(), b"", usize::MAX)?;
     let greeted = Greeting::full(alloc, &wire, two_origins(alloc)?).greet(alloc);
-    let is_full = matches!(greeted, Greeted::Refused(Refusal::Full));
+    let is_full = matches!(greeted, Greeted::Refused(Refusal::Full, _));
     drop(greeted);
     Ok((is_full, written(alloc, &wire)?))
 }
