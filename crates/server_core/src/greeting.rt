@@ -26,10 +26,13 @@ impl<'a, R: Wait + Clock + Drop> Service<'a, R> {
                     .stand(number, Standing::Greeting(greeting), has_rest);
                 self.count(number, held);
             }
-            Greeted::Accepted(link) => match self.desk.admit(self.alloc, number, link) {
-                Ok(()) => self.clients.stand(number, Standing::Seated, true),
-                Err(_) => self.leave(number),
-            },
+            Greeted::Accepted(link) => {
+                link.stream().count_frames();
+                match self.desk.admit(self.alloc, number, link) {
+                    Ok(()) => self.clients.stand(number, Standing::Seated, true),
+                    Err(_) => self.leave(number),
+                }
+            }
             Greeted::Refused(refusal, stream) => {
                 self.shared.wakeups.log().count(kind_of(refusal));
                 self.count(number, 0);

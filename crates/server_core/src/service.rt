@@ -229,7 +229,7 @@ impl<'a, R: Wait + Clock + Drop> Service<'a, R> {
         let interests = Interest::READABLE | Interest::WRITABLE;
         let token = token_of(self.number, number);
         registry.register(&mut stream, token, interests)?;
-        let stream = ReadBudget::new(stream);
+        let stream = ReadBudget::new(self.alloc, stream);
         let origins = self.shared.origins.clone()?;
         let greeting = if is_full {
             Greeting::full(self.alloc, stream, origins)
