@@ -13,6 +13,7 @@ use std::alloc::{AllocError, Global};
 use std::net::TcpStream;
 use std::sync::atomic::{AtomicU64, Ordering};
 use std::sync::{Arc, Wait};
+use ws_core::Vacancy;
 
 /// How many sockets wait at most to be looked at by one desk's worker.
 const ARRIVALS: usize = 512;
@@ -21,7 +22,7 @@ const ARRIVALS: usize = 512;
 #[derive(Drop)]
 pub(crate) struct Arrival {
     pub(crate) socket: TcpStream,
-    pub(crate) is_full: bool,
+    pub(crate) vacancy: Vacancy,
 }
 
 /// What others know of a worker's desk.

@@ -222,7 +222,7 @@ impl<'a, R: Wait + Clock + Drop> Service<'a, R> {
             drop(arrival);
             return Err(io::Error::from(io::ErrorKind::OutOfMemory));
         };
-        let Arrival { socket, is_full } = arrival;
+        let Arrival { socket, vacancy } = arrival;
         socket.set_nodelay(true)?;
         socket.set_nonblocking(true)?;
         let mut stream = TcpStream::from_std(socket);
@@ -231,11 +231,7 @@ impl<'a, R: Wait + Clock + Drop> Service<'a, R> {
         registry.register(&mut stream, token, interests)?;
         let stream = ReadBudget::new(self.alloc, stream);
         let origins = self.shared.origins.clone()?;
-        let greeting = if is_full {
-            Greeting::full(self.alloc, stream, origins)
-        } else {
-            Greeting::new(self.alloc, stream, origins)
-        };
+        let greeting = Greeting::begin(self.alloc, stream, origins, vacancy);
         self.clients.admit(greeting, self.now)?;
         Ok(())
     }

@@ -4,7 +4,7 @@ use Rattle.std.specs.Io.KnownBytes.{Appends, Consumes}
 use Rattle.std.proofs.lemmas.List.{append-nil, take_all}
 use Rattle.ws_core.specs.declared.answer.Answer.{Answer}
 use Rattle.ws_core.specs.declared.saying.Saying.{Saying}
-use Rattle.ws_core.specs.Greetings.{Greeter, IsUnderWay, Says, Tells, answer_at}
+use Rattle.ws_core.specs.Greetings.{Greeter, IsUnderWay, Says, Tells, answer_at, shuts_out}
 use Rattle.ws_core.specs.Handshakes.{IsAnswerTo, ReadsOn, WritesOn, is_head, response_to}
 
 appends_nothing : (held : Option (List ℕ)) → Appends held held []
@@ -20,7 +20,7 @@ module _ {S : Type 0} (remaining contents : S → Option (List ℕ)) where
   -- the head is whole, and its answer begins
   pub begins : (g : Greeter S) (head more : List ℕ) (stream now : S) (was : Option Saying) (saying : Saying) (named : List (List ℕ)) (heard : Option Answer) (given : Answer)
       → IsUnderWay remaining contents g head stream was → is_some was ≡ false → ReadsOn (remaining stream) (remaining now) head more
-      → IfSome heard (IsAnswerTo named more) → heard ≡ Some given → named ≡ g.origins → saying.answer ≡ answer_at g.is_full given → saying.said ≡ 0
+      → IfSome heard (IsAnswerTo named more) → heard ≡ Some given → named ≡ g.origins → saying.answer ≡ answer_at (shuts_out g.vacancy more) given → saying.said ≡ 0
       → saying.response.items ≡ response_to (is_head more) saying.answer → Says remaining contents g more now saying
   begins g head more stream now was saying named heard given under none reads answered one origins is said response =
       record {

@@ -11,6 +11,7 @@ use crate::fault::LinkFault;
 use crate::handshake::{hear_head, is_head};
 use crate::refusal::Refusal;
 use crate::saying::Saying;
+use crate::vacancy::Vacancy;
 use crate::ws_link::WsLink;
 use std::alloc::Global;
 use std::io::{Read, Write};
@@ -28,14 +29,14 @@ use std::sync::Arc;
 /// A head may have 16,384 bytes and 124 fields, and from the 65th read on at least 128 bytes a read. Beyond that the stream is given
 /// up, so a client that never ends its head costs no more than that. How long a client takes is the caller's to limit.
 ///
-/// Contracts see the stream as it was given, the origins, and whether the server takes no more clients.
+/// Contracts see the stream as it was given, the origins, and whom the server has a place for.
 #[derive(Drop)]
 pub struct Greeting<S: Read + Write> {
     // The stream as it was given.
     opening: Snapshot<S>,
     stream: S,
     origins: Arc<Vec<Vec<u8>>>,
-    is_full: bool,
+    vacancy: Vacancy,
     // What was read, and by how many reads.
     head: Vec<u8>,
     reads: usize,
@@ -50,10 +51,10 @@ impl<S: Read + Write> Model for Greeting<S> {
 
     ghost Value = { Greeter S };
 
-    ghost view = { λ a. greeter a.opening.value (map (λ origin. origin.items) (arc_value a.origins).items) a.is_full };
+    ghost view = { λ a. greeter a.opening.value (map (λ origin. origin.items) (arc_value a.origins).items) a.vacancy };
 
     ghost invariant = { λ a. IsUnderWay S.remaining S.contents
-        (greeter a.opening.value (map (λ origin. origin.items) (arc_value a.origins).items) a.is_full) a.head.items a.stream a.saying };
+        (greeter a.opening.value (map (λ origin. origin.items) (arc_value a.origins).items) a.vacancy) a.head.items a.stream a.saying };
 }
 
 /// What a handshake has come to.
@@ -75,27 +76,26 @@ impl<S: Read + Write + Drop> Greeting<S> {
     /// The handshake with a client to which that stream leads, of which nothing was read. Only pages of these origins are served; if
     /// none is named, all pages are. No memory is taken.
     pub fn new(alloc: Global, stream: S, origins: Arc<Vec<Vec<u8>>>) -> Greeting<S>
-        ensures { result ≡ greeter stream (map (λ origin. origin.items) (arc_value origins).items) false }
+        ensures { result ≡ greeter stream (map (λ origin. origin.items) (arc_value origins).items) Vacancy.Any }
     {
-        Greeting::begin(alloc, stream, origins, false)
+        Greeting::begin(alloc, stream, origins, Vacancy::Any)
     }
 
-    /// The same of a server that takes no more clients: one that would get a WebSocket is answered `Refusal::Full`.
-    pub fn full(alloc: Global, stream: S, origins: Arc<Vec<Vec<u8>>>) -> Greeting<S>
-        ensures { result ≡ greeter stream (map (λ origin. origin.items) (arc_value origins).items) true }
-    {
-        Greeting::begin(alloc, stream, origins, true)
-    }
-
-    fn begin(alloc: Global, stream: S, origins: Arc<Vec<Vec<u8>>>, is_full: bool) -> Greeting<S>
-        ensures { result ≡ greeter stream (map (λ origin. origin.items) (arc_value origins).items) is_full }
+    /// The same of a server that has a place for those alone. Any other that would get a WebSocket is answered `Refusal::Full`.
+    pub fn begin(
+        alloc: Global,
+        stream: S,
+        origins: Arc<Vec<Vec<u8>>>,
+        vacancy: Vacancy,
+    ) -> Greeting<S>
+        ensures { result ≡ greeter stream (map (λ origin. origin.items) (arc_value origins).items) vacancy }
     {
         let opening = Snapshot::of(&stream);
         Greeting {
             opening,
             stream,
             origins,
-            is_full,
+            vacancy,
             head: Vec::new(alloc),
             reads: 0,
             saying: None,
@@ -135,19 +135,23 @@ impl<S: Read + Write + Drop> Greeting<S> {
             opening,
             mut stream,
             origins,
-            is_full,
+            vacancy,
             mut head,
             mut reads,
             saying,
         } = self;
         drop(saying);
         match hear_head(&mut stream, &mut head, &mut reads, origins.as_slice()) {
-            Ok(Some(answer)) => match Saying::new(alloc, at(is_full, answer), is_head(head.as_slice())) {
+            Ok(Some(answer)) => match Saying::new(
+                alloc,
+                at(vacancy.shuts_out(head.as_slice()), answer),
+                is_head(head.as_slice()),
+            ) {
                 Ok(saying) => Ok(Greeting {
                     opening,
                     stream,
                     origins,
-                    is_full,
+                    vacancy,
                     head,
                     reads,
                     saying: Some(saying),
@@ -158,7 +162,7 @@ impl<S: Read + Write + Drop> Greeting<S> {
                 opening,
                 stream,
                 origins,
-                is_full,
+                vacancy,
                 head,
                 reads,
                 saying: None,
@@ -175,7 +179,7 @@ impl<S: Read + Write + Drop> Greeting<S> {
             opening,
             mut stream,
             origins,
-            is_full,
+            vacancy,
             head,
             reads,
             saying,
@@ -185,7 +189,7 @@ impl<S: Read + Write + Drop> Greeting<S> {
                 opening,
                 stream,
                 origins,
-                is_full,
+                vacancy,
                 head,
                 reads,
                 saying: None,
@@ -197,7 +201,7 @@ impl<S: Read + Write + Drop> Greeting<S> {
                 opening,
                 stream,
                 origins,
-                is_full,
+                vacancy,
                 head,
                 reads,
                 saying: Some(saying),
@@ -207,12 +211,12 @@ impl<S: Read + Write + Drop> Greeting<S> {
     }
 }
 
-// The answer, unless the server takes no more clients.
-fn at(is_full: bool, answer: Answer) -> Answer
-    ensures { result ≡ answer_at is_full answer }
+// The answer, unless the client finds no place.
+fn at(is_shut_out: bool, answer: Answer) -> Answer
+    ensures { result ≡ answer_at is_shut_out answer }
 {
     match answer {
-        Answer::Accept(..) if is_full => Answer::Refuse(Refusal::Full),
+        Answer::Accept(..) if is_shut_out => Answer::Refuse(Refusal::Full),
         answer => answer,
     }
 }

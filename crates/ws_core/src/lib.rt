@@ -18,6 +18,7 @@ mod refusal;
 mod saying;
 mod stream;
 mod unfed;
+mod vacancy;
 mod ws_link;
 
 pub use answer::{Answer, answer_to};
@@ -30,4 +31,5 @@ pub use mem_link::MemLink;
 pub use phase::Phase;
 pub use refusal::Refusal;
 pub use stream::Ending;
+pub use vacancy::Vacancy;
 pub use ws_link::WsLink;
