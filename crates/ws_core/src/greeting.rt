@@ -142,22 +142,21 @@ impl<S: Read + Write + Drop> Greeting<S> {
         } = self;
         drop(saying);
         match hear_head(&mut stream, &mut head, &mut reads, origins.as_slice()) {
-            Ok(Some(answer)) => match Saying::new(
-                alloc,
-                at(vacancy.shuts_out(head.as_slice()), answer),
-                is_head(head.as_slice()),
-            ) {
-                Ok(saying) => Ok(Greeting {
-                    opening,
-                    stream,
-                    origins,
-                    vacancy,
-                    head,
-                    reads,
-                    saying: Some(saying),
-                }),
-                Err(fault) => Err(Greeted::Failed(fault)),
-            },
+            Ok(Some(answer)) => {
+                let answer = at(vacancy.shuts_out(head.as_slice()), answer);
+                match Saying::new(alloc, answer, is_head(head.as_slice())) {
+                    Ok(saying) => Ok(Greeting {
+                        opening,
+                        stream,
+                        origins,
+                        vacancy,
+                        head,
+                        reads,
+                        saying: Some(saying),
+                    }),
+                    Err(fault) => Err(Greeted::Failed(fault)),
+                }
+            }
             Ok(None) => Err(Greeted::Waits(Greeting {
                 opening,
                 stream,

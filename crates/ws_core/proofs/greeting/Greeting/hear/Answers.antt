@@ -13,4 +13,4 @@ invariant_of-result g c =
     begins g.S.Read.remaining g.S.Write.contents _ c.self.inside.head.items head c.self.inside.stream c.hear_head.new.stream c.self.inside.saying c.in-Ok.saying
     (map (λ origin. origin.items) c.as_slice.result.now) c.in-Ok-Some.field-0 c.in-Ok-Some.answer
     c.self.invariant (sym c.is_some.ensures ∙ c.if-is_some.false) c.in-Ok-Some.ensures.reads c.in-Ok-Some.ensures.answered c.in-Ok-Some.field-0-is (search rules)
-    (said.0 ∙ (c.at.ensures ∙ ap (λ shut. answer_at shut c.in-Ok-Some.answer) shut)) said.1 (c.in-Ok.ensures.response ∙ (ap (λ is. response_to is c.at.result) asked ∙ ap (response_to (is_head head)) (sym said.0)))
+    (said.0 ∙ (c.at-answer.ensures ∙ ap (λ shut. answer_at shut c.in-Ok-Some.answer) shut)) said.1 (c.in-Ok.ensures.response ∙ (ap (λ is. response_to is c.at-answer.result) asked ∙ ap (response_to (is_head head)) (sym said.0)))
