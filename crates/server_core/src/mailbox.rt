@@ -16,6 +16,7 @@ use std::net::TcpStream;
 use std::sync::atomic::{AtomicU64, Ordering};
 use std::sync::{Arc, Wait};
 use work_share::Pace;
+use ws_core::Vacancy;
 
 /// How many sockets wait at most to be looked at by one desk's worker.
 const ARRIVALS: usize = 512;
@@ -24,7 +25,7 @@ const ARRIVALS: usize = 512;
 #[derive(Drop)]
 pub(crate) struct Arrival {
     pub(crate) socket: TcpStream,
-    pub(crate) is_full: bool,
+    pub(crate) vacancy: Vacancy,
 }
 
 /// What others know of a worker's desk.
