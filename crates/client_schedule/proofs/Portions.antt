@@ -1,5 +1,5 @@
 -- What a portion leaves to be given.
-use Rattle.std.proofs.Common.{◌≡◌, ◌∙◌, ◌≤◌, ◌<◌, ◌++◌, ℕ, List, [], Option, Some, None, ap, arith, drop, length, refl, subst, sym, take}
+use Rattle.std.proofs.Common.{◌≡◌, ◌∙◌, ◌≤◌, ◌<◌, ◌++◌, ℕ, List, [], Option, Some, None, ap, arith, drop, length, refl, subst, suc, sym, take, zero}
 use Rattle.std.proofs.lemmas.List.{append_assoc, length-take-le, take-append-drop, take-append-le}
 use Rattle.std.specs.Io.KnownBytes.{Consumes, IsAtEnd, Keeps, prepend_known}
 
@@ -32,16 +32,29 @@ at_end : (new : Option (List ℕ)) → IsAtEnd new → IsAtEnd (prepend_known []
 at_end None end = tt
 at_end (Some ys) end = end
 
-pub reads : (old new : Option (List ℕ)) (buf spare : List ℕ) (n count : ℕ) → n ≤ length buf → Consumes old new (take n buf) × (n ≡ 0 → 0 < length buf → IsAtEnd new)
+none_of : (n count : ℕ) → (0 < n → 0 < count) → count ≡ 0 → n ≡ 0
+none_of zero count some none = refl
+none_of (suc n) count some none = absurd (omega (arith, some (omega arith), none))
+
+from_none : (old new : Option (List ℕ)) (buf spare : List ℕ) (n count : ℕ) → n ≤ length buf → Consumes old new (take n buf) × (n ≡ 0 → 0 < length buf → IsAtEnd new)
     → count ≤ length (take n buf) → (0 < length (take n buf) → 0 < count) → spare ≡ drop count (take n buf)
     → Consumes (prepend_known [] old) (prepend_known spare new) (take count buf) × (count ≡ 0 → 0 < length buf → IsAtEnd (prepend_known spare new))
-reads old new buf spare n count within read front some is =
+from_none old new buf spare n count within read most some is =
     let size : length (take n buf) ≡ n = length-take-le n buf within in
-    (subst (λ it. Consumes (prepend_known [] old) (prepend_known it new) (take count buf)) (sym is) (given old new buf n count read.0 front),
+    (subst (λ it. Consumes (prepend_known [] old) (prepend_known it new) (take count buf)) (sym is) (given old new buf n count read.0 most),
     λ none there.
-    let nothing : n ≡ 0 = omega (arith, size, some, none) in
-    let empty : spare ≡ [] = is ∙ ap (λ it. drop count (take it buf)) nothing ∙ ap (λ it. drop it (take 0 buf)) none in
+    let nothing : n ≡ 0 = none_of n count (subst (λ m. 0 < m → 0 < count) size some) none in
+    let empty : spare ≡ [] = is ∙ (ap (λ it. drop count (take it buf)) nothing ∙ ap (λ it. drop it (take 0 buf)) none) in
     subst (λ it. IsAtEnd (prepend_known it new)) (sym empty) (at_end new (read.1 nothing there)))
+
+pub reads : (old new now : Option (List ℕ)) (before spare buf : List ℕ) (n count : ℕ) → before ≡ [] → now ≡ new → n ≤ length buf
+    → Consumes old new (take n buf) × (n ≡ 0 → 0 < length buf → IsAtEnd new)
+    → count ≤ length (take n buf) → (0 < length (take n buf) → 0 < count) → spare ≡ drop count (take n buf)
+    → Consumes (prepend_known before old) (prepend_known spare now) (take count buf) × (count ≡ 0 → 0 < length buf → IsAtEnd (prepend_known spare now))
+reads old new now before spare buf n count none same within read most some is =
+    subst (λ it. Consumes (prepend_known it old) (prepend_known spare now) (take count buf) × (count ≡ 0 → 0 < length buf → IsAtEnd (prepend_known spare now))) (sym none)
+    (subst (λ it. Consumes (prepend_known [] old) (prepend_known spare it) (take count buf) × (count ≡ 0 → 0 < length buf → IsAtEnd (prepend_known spare it))) (sym same)
+    (from_none old new buf spare n count within read most some is))
 
 -- what was kept is given in part
 kept : (left : Option (List ℕ)) (old given : List ℕ) (count : ℕ) → given ≡ take count old → Consumes (prepend_known old left) (prepend_known (drop count old) left) given
@@ -49,8 +62,9 @@ kept None old given count is = tt
 kept (Some xs) old given count is =
     ap (λ it. it ++ xs) (sym (take-append-drop count old)) ∙ (append_assoc (take count old) (drop count old) xs ∙ ap (λ it. it ++ (drop count old ++ xs)) (sym is))
 
-pub gives : (left : Option (List ℕ)) (buf old new : List ℕ) (count : ℕ) → take count buf ≡ take count old → new ≡ drop count old → (0 < length buf → 0 < count)
-    → Consumes (prepend_known old left) (prepend_known new left) (take count buf) × (count ≡ 0 → 0 < length buf → IsAtEnd (prepend_known new left))
-gives left buf old new count same is some =
-    (subst (λ it. Consumes (prepend_known old left) (prepend_known it left) (take count buf)) (sym is) (kept left old (take count buf) count same),
+pub gives : (left now : Option (List ℕ)) (buf old new : List ℕ) (count : ℕ) → now ≡ left → take count buf ≡ take count old → new ≡ drop count old → (0 < length buf → 0 < count)
+    → Consumes (prepend_known old left) (prepend_known new now) (take count buf) × (count ≡ 0 → 0 < length buf → IsAtEnd (prepend_known new now))
+gives left now buf old new count unread same is some =
+    (subst (λ it. Consumes (prepend_known old left) (prepend_known new it) (take count buf)) (sym unread)
+    (subst (λ it. Consumes (prepend_known old left) (prepend_known it left) (take count buf)) (sym is) (kept left old (take count buf) count same)),
     λ none there. absurd (omega (arith, some there, none)))

@@ -23,12 +23,19 @@ module _ {S : Type 0} where
     pub rest : new.flow.has_rest ≡ has_rest
     pub spare : new.spare ≡ old.spare
 
+  -- no more changed than what is kept, and how far it has come in a frame
+  pub record IsSame (old new : ReadBudget S) : Type 0 where
+    pub socket : new.socket ≡ old.socket
+    pub left : new.left ≡ old.left
+    pub flow : new.flow ≡ old.flow
+    pub supply : new.supply ≡ old.supply
+
   -- Of these bytes, so many are given: some, unless there are none. The others are kept.
   pub record IsPortion (bytes : List ℕ) (old new : ReadBudget S) (count : ℕ) : Type 0 where
     pub within : count ≤ length bytes
     pub some : 0 < length bytes → 0 < count
     pub spare : new.spare.items ≡ drop count bytes
-    pub same : new ≡ record old { place = new.place; spare = new.spare }
+    pub same : IsSame old new
 
   -- The socket was asked for so many bytes, and came to that.
   pub record Asks (asked : ℕ) (old new : ReadBudget S) (result : Result ℕ Error) : Type 0 where

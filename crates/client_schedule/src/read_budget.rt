@@ -178,9 +178,9 @@ impl<S: Read> ReadBudget<S> {
 }
 
 impl<S> ReadBudget<S> {
-    ghost use Rattle.std.specs.Prelude.{◌≢◌, ◌<◌, drop, take};
+    ghost use Rattle.std.specs.Prelude.{◌≢◌, ◌<◌, OnOk, drop, take};
     ghost use Rattle.client_schedule.specs.Frames.{ended, passed};
-    ghost use Rattle.client_schedule.specs.ReadBudget.{IsPortion};
+    ghost use Rattle.client_schedule.specs.ReadBudget.{IsPortion, IsSame};
 
     // How many of the bytes that were read are given; the others are kept. If memory is refused for these, all are given.
     fn portion(&mut self, is_framed: bool, bytes: &[u8]) -> usize
@@ -202,41 +202,76 @@ impl<S> ReadBudget<S> {
         ensures portion { IfOk result (IsPortion bytes.now self.old self.new) }
         ensures place { IfOk result (λ count. self.new.place ≡ passed self.old.place (take count bytes.now)) }
         ensures most { IfOk result (λ count. ended self.old.place (take count bytes.now) ≤ FRAMES) }
-        ensures err { OnErr result (self.new ≡ record self.old { place = self.new.place }) }
+        ensures err { OnErr result ((self.new.spare.items ≡ []) × IsSame self.old self.new) }
     {
-        let count = front_of(&mut self.place, FRAMES, bytes);
-        if count < bytes.len() {
-            match bytes[count..].to_vec(self.alloc) {
-                Ok(spare) => drop(mem::replace(&mut self.spare, spare)),
-                Err(refused) => {
-                    let _ = front_of(&mut self.place, u32::MAX, &bytes[count..]);
-                    return Err(refused);
-                }
+        let mut place = self.place;
+        let count = front_of(&mut place, FRAMES, bytes);
+        let rest = &bytes[count..];
+        match self.set_aside(rest) {
+            Ok(()) => {
+                self.place = place;
+                Ok(count)
+            }
+            Err(refused) => {
+                let _ = front_of(&mut place, u32::MAX, rest);
+                self.place = place;
+                Err(refused)
             }
         }
-        Ok(count)
+    }
+
+    // Keeps these bytes.
+    fn set_aside(&mut self, bytes: &[u8]) -> Result<(), AllocError>
+        requires { self.old.spare.items ≡ [] }
+        ensures ok { OnOk result (self.new.spare.items ≡ bytes.now) }
+        ensures err { OnErr result (self.new.spare.items ≡ []) }
+        ensures same { IsSame self.old self.new }
+    {
+        if bytes.is_empty() {
+            return Ok(());
+        }
+        let spare = bytes.to_vec(self.alloc)?;
+        drop(mem::replace(&mut self.spare, spare));
+        Ok(())
     }
 
     // Gives a portion of what was read before.
     fn give(&mut self, buf: &mut [u8]) -> usize
         requires spare { self.old.spare.items ≢ [] }
         requires left { self.old.left ≢ 0 }
-        ensures within { (result ≤ length buf.new) × (result ≤ length self.old.spare.items) }
-        ensures some { 0 < length buf.new → 0 < result }
+        ensures within { (result ≤ length buf.new) × (0 < length buf.new → 0 < result) }
         ensures given { take result buf.new ≡ take result self.old.spare.items }
         ensures spare { self.new.spare.items ≡ drop result self.old.spare.items }
         ensures most { ended self.old.place (take result self.old.spare.items) ≤ FRAMES }
-        ensures same { self.new ≡ record self.old { left = self.old.left - 1; place = self.new.place; spare = self.new.spare } }
+        ensures left { self.new.left + 1 ≡ self.old.left }
+        ensures same { (self.new.socket ≡ self.old.socket) × (self.new.flow ≡ self.old.flow) × (self.new.supply ≡ self.old.supply) }
     {
+        let spare = mem::replace(&mut self.spare, Vec::new(self.alloc));
+        let there = spare.len().min(buf.len());
+        let mut place = self.place;
+        let count = front_of(&mut place, FRAMES, &spare[..there]);
+        buf[..count].copy_from_slice(&spare[..count]);
+        self.place = place;
         self.left -= 1;
-        let there = self.spare.len().min(buf.len());
-        let count = front_of(&mut self.place, FRAMES, &self.spare[..there]);
-        buf[..count].copy_from_slice(&self.spare[..count]);
-        self.spare.drain(..count);
-        if self.spare.is_empty() {
-            drop(mem::replace(&mut self.spare, Vec::new(self.alloc)));
-        }
+        self.keep_on(spare, count);
         count
+    }
+
+    // Keeps the bytes behind so many.
+    fn keep_on(&mut self, spare: Vec<u8>, count: usize)
+        requires within { count ≤ length spare.items }
+        requires none { self.old.spare.items ≡ [] }
+        ensures spare { self.new.spare.items ≡ drop count spare.items }
+        ensures same { IsSame self.old self.new }
+        ensures place { self.new.place ≡ self.old.place }
+    {
+        let mut spare = spare;
+        if count == spare.len() {
+            drop(spare);
+            return;
+        }
+        spare.drain(..count);
+        drop(mem::replace(&mut self.spare, spare));
     }
 }
 
@@ -253,7 +288,8 @@ impl<S: Read> Read for ReadBudget<S> {
     {
         let told = self.told.get();
         self.told.set(Told::Nothing);
-        self.read_told(told, self.is_framed.get(), buf)
+        let is_framed = self.is_framed.get();
+        self.read_told(told, is_framed, buf)
     }
 }
 
