@@ -40,12 +40,13 @@ from_none : (old new : Option (List ℕ)) (buf spare : List ℕ) (n count : ℕ)
     → count ≤ length (take n buf) → (0 < length (take n buf) → 0 < count) → spare ≡ drop count (take n buf)
     → Consumes (prepend_known [] old) (prepend_known spare new) (take count buf) × (count ≡ 0 → 0 < length buf → IsAtEnd (prepend_known spare new))
 from_none old new buf spare n count within read most some is =
-    let size : length (take n buf) ≡ n = length-take-le n buf within in
-    (subst (λ it. Consumes (prepend_known [] old) (prepend_known it new) (take count buf)) (sym is) (given old new buf n count read.0 most),
-    λ none there.
-    let nothing : n ≡ 0 = none_of n count (subst (λ m. 0 < m → 0 < count) size some) none in
-    let empty : spare ≡ [] = is ∙ (ap (λ it. drop count (take it buf)) nothing ∙ ap (λ it. drop it (take 0 buf)) none) in
-    subst (λ it. IsAtEnd (prepend_known it new)) (sym empty) (at_end new (read.1 nothing there)))
+    let size : length (take n buf) ≡ n = length-take-le n buf within in (
+      subst (λ it. Consumes (prepend_known [] old) (prepend_known it new) (take count buf)) (sym is) (given old new buf n count read.0 most),
+      λ none there.
+          let nothing : n ≡ 0 = none_of n count (subst (λ m. 0 < m → 0 < count) size some) none in
+          let empty : spare ≡ [] = is ∙ (ap (λ it. drop count (take it buf)) nothing ∙ ap (λ it. drop it (take 0 buf)) none) in
+          subst (λ it. IsAtEnd (prepend_known it new)) (sym empty) (at_end new (read.1 nothing there)),
+    )
 
 pub reads : (old new now : Option (List ℕ)) (before spare buf : List ℕ) (n count : ℕ) → before ≡ [] → now ≡ new → n ≤ length buf
     → Consumes old new (take n buf) × (n ≡ 0 → 0 < length buf → IsAtEnd new)
@@ -64,7 +65,8 @@ kept (Some xs) old given count is =
 
 pub gives : (left now : Option (List ℕ)) (buf old new : List ℕ) (count : ℕ) → now ≡ left → take count buf ≡ take count old → new ≡ drop count old → (0 < length buf → 0 < count)
     → Consumes (prepend_known old left) (prepend_known new now) (take count buf) × (count ≡ 0 → 0 < length buf → IsAtEnd (prepend_known new now))
-gives left now buf old new count unread same is some =
-    (subst (λ it. Consumes (prepend_known old left) (prepend_known new it) (take count buf)) (sym unread)
-    (subst (λ it. Consumes (prepend_known old left) (prepend_known it left) (take count buf)) (sym is) (kept left old (take count buf) count same)),
-    λ none there. absurd (omega (arith, some there, none)))
+gives left now buf old new count unread same is some = (
+  subst (λ it. Consumes (prepend_known old left) (prepend_known new it) (take count buf)) (sym unread)
+      (subst (λ it. Consumes (prepend_known old left) (prepend_known it left) (take count buf)) (sym is) (kept left old (take count buf) count same)),
+  λ none there. absurd (omega (arith, some there, none)),
+)

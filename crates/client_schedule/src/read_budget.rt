@@ -10,10 +10,9 @@ use crate::supply::{Supply, Told, is_dry, supply_behind, supply_with};
 use mio::net::TcpStream;
 use std::alloc::{AllocError, Global};
 use std::cell::Cell;
-use std::io;
 use std::io::{ErrorKind, Read, Write};
-use std::mem;
 use std::net::Shutdown;
+use std::{io, mem};
 use ws_core::Ending;
 
 /// How many reads that gave bytes make a portion. A link reads 4,096 bytes at a time. The other clients of the worker wait for as long as

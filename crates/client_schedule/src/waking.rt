@@ -98,10 +98,7 @@ impl Clients {
             drop(farewell);
             return;
         };
-        drop(mem::replace(
-            &mut client.standing,
-            Standing::Refused(farewell),
-        ));
+        drop(mem::replace(&mut client.standing, Standing::Refused(farewell)));
         client.deadlines.parting(now);
         self.timers.set(number, now);
         self.lines.go_on(number);

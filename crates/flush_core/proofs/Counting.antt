@@ -2,7 +2,6 @@
 use Rattle.std.proofs.Common.{◌≡◌, ◌<◌, ◌≤◌, ◌+◌, ◌*◌, ◌-◌, ◌++◌, ℕ, List, [], ◌∷◌, length, length-append, sum_by, take, get_or, max, min, refl, sym, ◌∙◌, ap, subst, arith}
 use Rattle.std.proofs.lemmas.List.{append_assoc, take_more}
 use Rattle.std.proofs.lemmas.List.Sums.{sum_by-append}
-
 use Rattle.command_core.specs.Entries.{EntryValue}
 use Rattle.command_core.specs.Commands.{CommandValue}
 use Rattle.command_core.specs.Outs.{OutValue}

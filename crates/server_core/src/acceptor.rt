@@ -8,11 +8,10 @@ use crate::log_thread::LogThread;
 use crate::mailbox::{Arrival, Mailbox};
 use claim_core::SEATS;
 use event_log::{Kind, ServeFault, Unopened};
-use std::io;
 use std::net::{Ipv4Addr, Net, SocketAddr, SocketAddrV4, TcpListener, TcpStream};
 use std::sync::{Arc, Wait};
-use std::thread;
 use std::time::{Clock, Duration};
+use std::{io, thread};
 use ws_core::Vacancy;
 
 /// For how many milliseconds nobody is accepted after accepting a client has failed.

@@ -56,7 +56,8 @@ impl<'a, R: Wait + Clock + Drop> Service<'a, R> {
                 return;
             }
         };
-        self.clients.stand(number, Standing::Refused(farewell), more);
+        self.clients
+            .stand(number, Standing::Refused(farewell), more);
     }
 
     /// Whether a client's handshake is under way.

@@ -189,7 +189,12 @@ fn a_message_is_given_in_pieces_of_4096_bytes(rt: HostRuntime) -> Result<(), Fai
         }
         expected.extend_from_slice(b"<->")?;
         let acts = [Do::Hear; 4];
-        let seen = shown(rt.alloc(), input.as_slice(), usize::MAX, &acts[..pieces + 1])?;
+        let seen = shown(
+            rt.alloc(),
+            input.as_slice(),
+            usize::MAX,
+            &acts[..pieces + 1],
+        )?;
         assert_eq!(rt; seen.as_slice(), expected.as_slice());
     }
     Ok(())
