@@ -1,6 +1,6 @@
 //! Making the file of a journal.
 
-ghost use Rattle.std.specs.Prelude.{◌+◌, ◌*◌, ◌<◌, ◌≤◌, IfOk, OnOk};
+ghost use Rattle.std.specs.Prelude.{◌≡◌, ◌+◌, ◌*◌, ◌<◌, ◌≤◌, IfOk, OnOk};
 ghost use Rattle.disk_core.specs.File.{file_size};
 ghost use Rattle.command_line.specs.Failures.{IsTooShort};
 
@@ -136,12 +136,11 @@ fn fill<R: Clock, P: Write>(
 
 // Writes the next zeros, and says how many are still left.
 fn fill_piece(disk: &mut FileDisk, bytes: u64, left: u64) -> io::Result<u64>
-    requires { left ≤ bytes }
     ensures rest { IfOk result (λ rest. rest ≤ left) }
     ensures size { file_size disk.new ≡ file_size disk.old }
 {
     let count = left.min(PIECE as u64) as usize;
-    disk.fill_at(bytes - left, &ZEROS[..count])?;
+    disk.fill_at(bytes.saturating_sub(left), &ZEROS[..count])?;
     Ok(left - count as u64)
 }
 
