@@ -64,6 +64,7 @@ SCRIPTS = [
     Script("tests/program/refusals.py", light=""),
     Script("tests/program/no_memory.py"),
     Script("tests/attack/under_attack.py"),
+    Script("tests/attack/dear_frames.py"),
     Script("tests/program/memory_budget.py"),
     Script("tests/attack/soak.py", "--minutes 1"),
     Script("tests/program/waits.py", "--minutes 10", light="--minutes 1"),

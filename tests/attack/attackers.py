@@ -71,6 +71,12 @@ class Kind:
     from_last: bool = False
 
 
+def whole_of(data):
+    """A message of these bytes."""
+    assert len(data) <= 131_072, len(data)
+    return message_bytes(TEXT, data)
+
+
 REQUEST = handshake(0)
 CONNECT = stomp_message("CONNECT", [("accept-version", "1.2")])
 NOWHERE, UNREAD_TOPIC = ("destination", "/topic/none"), ("destination", "/topic/unread")
@@ -80,6 +86,10 @@ PAIR = stomp_message("SUBSCRIBE", [("id", "a"), ("destination", "/topic/pairs")]
 RECEIPTED = stomp_message("SEND", [NOWHERE, ("receipt", "r" * 2_000)], "x")
 FRAGMENTS = 500 * message_bytes(CONTINUATION, b"", is_last=False)
 FIRST_FRAGMENT = message_bytes(TEXT, b"", is_last=False)
+# Each fills a message, which has 131,072 bytes at most.
+NAMED_TRANSACTIONS = 2_978 * b"BEGIN\ntransaction:a\n\n\0ABORT\ntransaction:a\n\n\0"
+SHORTEST_SENDS = 4_681 * b"SEND\ndestination:/topic/a\n\n\0"
+LINE_ENDS = 131_072 * b"\n"
 
 STALLED = [
     Kind("connect and say no byte", connected, 20),
@@ -90,12 +100,16 @@ STALLED = [
     Kind("send half the payload of a message", after(in_session, SEND[: len(SEND) // 2]), 80),
     Kind("send half a frame of STOMP", after(in_session, message_bytes(TEXT, b"SEND\ndestination:/topic/none\n\nha")), 80),
     Kind("answer no close", parted, 10),
+    Kind("were refused, and stay", after(connected, b"POST / HTTP/1.1\r\nHost: a\r\n\r\n"), 10),
 ]
 FLOODS = [
     Kind("send pings, and read the pongs", in_session, None, 500 * message_bytes(PING, b"x" * 125), reads=True),
     Kind("send pings, and read nothing", in_session, 60, 500 * message_bytes(PING, b"x" * 125), from_last=True),
     Kind("send empty fragments", after(in_session, FIRST_FRAGMENT), None, FRAGMENTS),
     Kind("send pairs of SUBSCRIBE and UNSUBSCRIBE", in_session, None, 100 * PAIR),
+    Kind("send messages of 5,956 BEGINs and ABORTs", in_session, None, whole_of(NAMED_TRANSACTIONS)),
+    Kind("send messages of 4,681 SENDs", in_session, None, whole_of(SHORTEST_SENDS)),
+    Kind("send messages of 131,072 line ends", in_session, None, whole_of(LINE_ENDS)),
     Kind("send SENDs, and read no receipt", in_session, 60, 30 * RECEIPTED, from_last=True),
     Kind("answer a close with fragments", after(parted, FIRST_FRAGMENT), 10, FRAGMENTS),
 ]

@@ -2,9 +2,9 @@
 """A server under attack: while 64 clients at a time stall, flood it or are half open, each kind in its way, others have their receipts, the broker's
 memory stays within what docs/RUNNING.md says, and the place of each attacker is free again when docs/PROTOCOL.md says so.
 
-    python3 tests/attack/under_attack.py [PROGRAM]
+    python3 tests/attack/under_attack.py [PROGRAM] [--neighbours]
 
-PROGRAM is the built program; without it, bin/stompd. It takes some four minutes, and needs Python 3 alone; half-open clients need `ip`
+PROGRAM is the built program; without it, bin/stompd. With --neighbours only those that share a desk are tried. It takes some five minutes, and needs Python 3 alone; half-open clients need `ip`
 and root, since they take a network of the script's own, and are left out if these are missing, which is said.
 
 - 64 attackers of a kind come after 8 clients that behave. There are 64 desks, so each desk has an attacker then, and each of the 8 has one
@@ -281,14 +281,19 @@ def attack_all(program, checks, has_network):
 
 
 def main():
-    program = scenario.words_of(__doc__).parse_args().program
+    parser = scenario.words_of(__doc__)
+    parser.add_argument("--neighbours", action="store_true", help="try only those that share a desk")
+    words = parser.parse_args()
     scenario.take_descriptors()
     checks, began = scenario.Checks(), time.monotonic()
-    has_network = own_network()
-    if not has_network:
+    has_network = not words.neighbours and own_network()
+    if not has_network and not words.neighbours:
         checks.tell("half-open clients are left out: no network of its own was to be had, which takes `ip` and root")
     try:
-        attack_all(program, checks, has_network)
+        if words.neighbours:
+            over_another(words.program, checks, lambda broker: have_a_neighbour(broker, checks))
+        else:
+            attack_all(words.program, checks, has_network)
     except Exception as error:
         traceback.print_exc()
         checks.check("it runs to its end", False, error)

@@ -12,7 +12,9 @@ topic once, in order and within a second, and the broker goes on.
 
 import collections
 import multiprocessing
+import pathlib
 import select
+import socket
 import sys
 import time
 
@@ -25,6 +27,9 @@ CROWD = 200
 # For how many seconds nothing happens, and how much processor time the broker may take meanwhile.
 IDLE = 3
 IDLE_WORK = 0.3
+
+# How many come at once, and how soon they are connected.
+RUSH, RUSH_WAIT = 700, 0.5
 
 # How often somebody comes and leaves.
 COMINGS = 1_000
@@ -64,6 +69,23 @@ def nothing_to_do(broker, checks):
     checks.check(f"it takes less than {IDLE_WORK} s of processor time in {IDLE} s", taken < IDLE_WORK, taken)
     for client in crowd:
         client.disconnect()
+
+
+def standing_still(broker, checks):
+    """clients that come while the broker stands still wait for it, each with its connection"""
+    count = min(RUSH, int(pathlib.Path("/proc/sys/net/core/somaxconn").read_text(encoding="ascii")))
+    with broker.standing_still():
+        rush = [socket.socket() for _ in range(count)]
+        for one in rush:
+            one.setblocking(False)
+            one.connect_ex(("127.0.0.1", broker.port))
+        # One that finds no room asks again after a second.
+        time.sleep(RUSH_WAIT)
+        connected = sum(bool(select.select([], [one], [], 0)[1]) for one in rush)
+    checks.same(f"all {count} are connected within {RUSH_WAIT} s", connected, count)
+    for one in rush:
+        one.close()
+    Client(broker.port).connect().publish("/topic/none", "x")
 
 
 def comings_and_goings(broker, checks):
@@ -263,7 +285,7 @@ def main():
         """so many connections, each on a topic with others"""
         many(broker, checks, words)
 
-    few = [a_full_house, nothing_to_do, comings_and_goings, one_gone_without_a_word]
+    few = [a_full_house, nothing_to_do, standing_still, comings_and_goings, one_gone_without_a_word]
     return scenario.run_over(words.program, [many_at_once] if words.many else few)
 
 

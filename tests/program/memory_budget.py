@@ -1,7 +1,7 @@
 #!/usr/bin/env python3
 """A server whose clients may hold 256 MiB together: 2,000 subscribe to a topic and read nothing, while somebody sends to it. Those who hold most are
 given up, before they would be for taking nothing; one that reads everything and one that sends hear what is theirs at once; and the server lives under
-a limit of memory that it would pass if all of them held what waits for them.
+a limit of memory that it would pass if all of them held what waits for them. Then 4,000 send most of a head, to a server whose clients may hold 16 MiB.
 
     python3 tests/program/memory_budget.py [PROGRAM]
 
@@ -15,7 +15,9 @@ PROGRAM is the built program; without it, bin/stompd. It takes a minute or less,
 - The sender has 8 SENDs under way, each with a receipt. The reader has each message, in order. Each receipt, and each message, comes within a second.
 """
 
+import contextlib
 import resource
+import socket
 import subprocess
 import sys
 import threading
@@ -23,6 +25,7 @@ import time
 
 from lib import scenario
 from lib.stomp_client import Client
+from lib.wire import handshake
 
 TOPIC = "/topic/unread"
 BUDGET = 268_435_456
@@ -31,6 +34,8 @@ BODY, MESSAGES, WINDOW = 100, 2_000, 8
 # What the system lets the server have beside the budget: so much for each client, and so much for the rest.
 EACH, REST = 262_144, 134_217_728
 LIMIT = BUDGET + STALLED * EACH + REST
+# Of heads that don't end: how many, of how many bytes, the least budget that a server takes, and what else they may take.
+HEADS, HEAD_BYTES, LEAST_BUDGET, HEADS_REST = 4_000, 16_000, 16_777_216, 67_108_864
 # A wait of an honest client, and after how many seconds a client is given up that takes nothing.
 LONGEST_WAIT, TAKES_NOTHING = 1.0, 10
 
@@ -148,6 +153,31 @@ def reads_nothing(broker, checks):
         one.close()
 
 
+def unfinished_heads(broker, checks):
+    """4,000 heads that don't end count: those who hold most are given up"""
+    told, before = Listener(broker), broker.memory("VmRSS")
+    broker.forget_peak()
+    front = handshake(0)[:-2] + b"X-Long: "
+    some = [socket.create_connection(("127.0.0.1", broker.port)) for _ in range(HEADS)]
+    for one in some:
+        # Whoever was given up meanwhile is sent nothing.
+        with contextlib.suppress(OSError):
+            one.sendall(front + bytes(HEAD_BYTES - len(front)).replace(b"\0", b"x"))
+    time.sleep(2)
+    peak, (most, _) = broker.memory("VmHWM") - before, told.given_up("clients that took the most memory")
+    left = HEADS - most
+    checks.check("those who are left keep to the budget", left * HEAD_BYTES <= LEAST_BUDGET, f"{left} of {HEADS} are left")
+    checks.check("and are no fewer than fit", left * HEAD_BYTES > LEAST_BUDGET / 2, f"{left} of {HEADS} are left")
+    checks.check(f"all took at most the budget and {HEADS_REST >> 20} MiB", peak * 1024 <= LEAST_BUDGET + HEADS_REST, f"{peak >> 10} MiB")
+    checks.tell(f"{most} were given up; the peak was {peak >> 10} MiB more than before them")
+    for one in some:
+        one.close()
+
+
+def with_least_budget(program, journal):
+    return scenario.Broker(program, journal, more=["--memory", str(LEAST_BUDGET)])
+
+
 def main():
     program = scenario.words_of(__doc__).parse_args().program
     scenario.take_descriptors()
@@ -156,6 +186,8 @@ def main():
     with scenario.serving(program, kind=Limited) as broker:
         checks.check("it takes a budget", broker.budget, "served without")
         scenario.try_one(reads_nothing, broker, checks)
+    with scenario.serving(program, kind=with_least_budget) as broker:
+        scenario.try_one(unfinished_heads, broker, checks)
     checks.tell(f"{time.monotonic() - start:.1f} s")
     return 1 if checks.failed else 0
 

@@ -29,6 +29,8 @@ from lib.wire import BINARY, CLOSE, PING, PONG, TEXT, message_bytes, take_frame
 
 # A step may take five seconds. What a busy machine may add to that.
 STEP, BUSY = 5, 4
+# How many places a full server keeps for pings.
+KEPT = 8
 ANSWERED = re.compile(r"receipt after \d+\.\d{3} ms\n")
 NUMBERS = "stompd: BYTES is a decimal number under 2^64, and PORT one from 1 to 65535\n"
 
@@ -307,7 +309,7 @@ def what_is_said(program, checks):
     checks.check("it tells how long the receipt of the SEND took", 400 <= took < 2_000, seen)
     fields = {name.lower(): value.strip() for name, _, value in (line.partition(":") for line in head[1:])}
     checks.check("it is answered", is_answered(seen), seen)
-    checks.same("it offers the subprotocol", (head[0], fields["sec-websocket-protocol"]), ("GET / HTTP/1.1", "v12.stomp"))
+    checks.same("it offers the subprotocol", (head[0], fields["sec-websocket-protocol"]), ("GET /stompd-ping HTTP/1.1", "v12.stomp"))
     checks.same("and names the host, and no origin", (fields["host"], fields.get("origin")), (f"127.0.0.1:{peer.port}", None))
     frames = [(kind, payload) for kind, payload in peer.heard]
     commands = [payload.split(b"\n", 1)[0] for _, payload in frames[:3]]
@@ -355,7 +357,7 @@ def running(program, checks):
 
 
 def full(program, checks):
-    """A server that has no descriptor left answers 503, and one whose journal is full has ended."""
+    """A server that takes no more clients answers 503 to all but eight pings, and one whose journal is full has ended."""
 
     def few():
         resource.setrlimit(resource.RLIMIT_NOFILE, (300, 300))
@@ -377,7 +379,12 @@ def full(program, checks):
             while len(clients) < 300:
                 clients.append(Client(broker.port))
         checks.check("a server may be full", 0 < len(clients) < 300, len(clients))
-        checks.same("a server that is full is alive", ping(program, broker.port)[0], untold(NO_HANDSHAKE + "HTTP status 503", 3))
+        checks.check("a server that is full has a place for a ping", is_answered(ping(program, broker.port)[0]))
+        with contextlib.suppress(Refused, Closed):
+            while len(clients) < 300:
+                clients.append(Client(broker.port))
+        clients += [Client(broker.port, path="/stompd-ping") for _ in range(KEPT)]
+        checks.same("a server whose places for pings are taken is alive", ping(program, broker.port)[0], untold(NO_HANDSHAKE + "HTTP status 503", 3))
         for client in clients:
             client.close()
     with serving(program, journal_bytes=8_224) as broker:

@@ -1,7 +1,7 @@
 #!/usr/bin/env python3
 """Asks a running server for what is no WebSocket, or none that it gives, and reads the answers to their end: the status, the
 fields that belong to it, and a text of the length that is named. What is expected stands in RFC 6455 (sections 4.2 and 4.4), RFC 9110
-(sections 15.5.6 and 15.5.22) and RFC 9112 (section 3.2). Needs Python 3 alone; the gate does not run it.
+(sections 9.3.2, 15.5.6 and 15.5.22) and RFC 9112 (section 3.2). No answer is lost in a reset, however much of a request is unread. Needs Python 3 alone; the gate does not run it.
 
     python3 tests/program/refusals.py [PROGRAM]
 
@@ -20,7 +20,9 @@ from lib.scenario import BUILT, built_program, free_port, words_of
 KEY = "Sec-WebSocket-Key: dGhlIHNhbXBsZSBub25jZQ=="
 HOST, UPGRADE, CONNECTION, VERSION = "Host: localhost", "Upgrade: websocket", "Connection: Upgrade", "Sec-WebSocket-Version: 13"
 WHOLE = (HOST, UPGRADE, CONNECTION, KEY, VERSION)
-GET = "GET / HTTP/1.1"
+GET, HEAD = "GET / HTTP/1.1", "HEAD / HTTP/1.1"
+# How often each is asked for: a reset takes an answer only if it comes in time.
+TRIES = 5
 
 
 def request(line, *fields):
@@ -39,7 +41,10 @@ ASKED = (
     ("a POST", request("POST / HTTP/1.1", HOST, "Content-Length: 2") + b"hi", 405),
     ("a POST whose body is still to come", request("POST / HTTP/1.1", HOST, "Content-Length: 2"), 405),
     ("a POST that asks for a WebSocket", request("POST / HTTP/1.1", *WHOLE), 405),
-    ("a HEAD", request("HEAD / HTTP/1.1", HOST), 405),
+    ("a POST with a body of a megabyte", request("POST / HTTP/1.1", HOST, "Content-Length: 1048576") + bytes(1_048_576), 405),
+    ("a HEAD", request(HEAD, HOST), 405),
+    ("a HEAD of no Host", request(HEAD), 400),
+    ("a HEAD with a field of 70,000 bytes", request(HEAD, HOST, "X-Long: " + 70_000 * "x"), 431),
     ("version 8", request(GET, HOST, UPGRADE, CONNECTION, KEY, "Sec-WebSocket-Version: 8"), 426),
     ("no version", request(GET, HOST, UPGRADE, CONNECTION, KEY), 426),
     ("no key", request(GET, HOST, UPGRADE, CONNECTION, VERSION), 400),
@@ -53,7 +58,10 @@ ASKED = (
     ("no request", b"\x16\x03\x01\x02\x00\x01\x00\x01\xfc\x03\x03" + bytes(40), 400),
     ("a space before a colon", request(GET, *WHOLE, "X-Odd : 1"), 400),
     ("125 fields", request(GET, *WHOLE, *(f"X-{number}: 1" for number in range(120))), 431),
+    ("a field of 17,000 bytes", request(GET, *WHOLE, "X-Long: " + 17_000 * "x"), 431),
     ("a field of 70,000 bytes", request(GET, *WHOLE, "X-Long: " + 70_000 * "x"), 431),
+    ("a field of a megabyte", request(GET, *WHOLE, "X-Long: " + 1_048_576 * "x"), 431),
+    ("a field of 16,000 bytes", request(GET, *WHOLE, "X-Long: " + 16_000 * "x"), 101),
 )
 
 # An Origin, and the statuses if all are served, and if these are alone.
@@ -89,21 +97,20 @@ def serving(program, *options):
 def answer(port, asked):
     """The head of the answer, and what follows it up to the end; of a WebSocket the head alone."""
     with socket.create_connection(("127.0.0.1", port), timeout=5) as one:
-        one.sendall(asked)
         data = b""
         try:
+            one.sendall(asked)
             while more := one.recv(4_096):
                 data += more
                 if data.startswith(b"HTTP/1.1 101") and data.endswith(b"\r\n\r\n"):
                     break
-        except ConnectionResetError:
-            # What was sent and not read when the server closed the stream resets it, after the answer.
-            pass
+        except ConnectionError as error:
+            return f"{error} after {len(data)} bytes", b""
         head, _, body = data.partition(b"\r\n\r\n")
         return head.decode(errors="replace"), body
 
 
-def faults(head, body, status):
+def faults(head, body, status, has_content):
     """What is wrong with an answer that should have that status."""
     line, *fields = head.split("\r\n")
     if not line.startswith(f"HTTP/1.1 {status} "):
@@ -119,7 +126,7 @@ def faults(head, body, status):
         return wrong
     if "close" not in tokens:
         wrong.append("no Connection: close")
-    if not body or named.get("content-length") != str(len(body)):
+    if bool(body) != has_content or (body and named.get("content-length") != str(len(body))):
         wrong.append(f"a text of {len(body)} bytes, and Content-Length: {named.get('content-length')}")
     if status == 405 and named.get("allow") != "GET":
         wrong.append("no Allow: GET")
@@ -135,12 +142,12 @@ def main():
     def check(port, what, asked, status):
         nonlocal count, failed
         count += 1
-        for wrong in faults(*answer(port, asked), status):
+        for wrong in faults(*answer(port, asked), status, not asked.startswith(b"HEAD ")):
             failed += 1
             print(f"refusals: one that asks for {what}: {wrong}", file=sys.stderr)
 
     with serving(program) as port:
-        for what, asked, status in ASKED:
+        for what, asked, status in TRIES * ASKED:
             check(port, what, asked, status)
         for fields, status, _ in ORIGINS:
             check(port, f"a WebSocket with {fields}, where all are served", request(GET, *WHOLE, *fields), status)

@@ -57,6 +57,21 @@ impl<B, const SEATS: usize, const WINDOW: usize, const PLACES: usize> Ring<
         ensures ok { IfOk result (λ ticket. Appends WINDOW seat.old seat.new ticket entry.command) }
         ensures refused { IfErr result (λ back. (back.0 ≡ entry) × Refuses WINDOW seat.old seat.new back.1) }
     {
+        self.append_within(seat, entry, WINDOW)
+    }
+
+    /// The same with a smaller window, for a seat that may have fewer commands under way just now.
+    pub fn append_within(
+        &self,
+        seat: &mut SessionSeat<B, WINDOW>,
+        entry: Entry<B>,
+        window: usize,
+    ) -> Result<u64, (Entry<B>, Refused)>
+        requires ring { seat.old.ring ≡ self.now }
+        requires window { window ≤ WINDOW }
+        ensures ok { IfOk result (λ ticket. Appends window seat.old seat.new ticket entry.command) }
+        ensures refused { IfErr result (λ back. (back.0 ≡ entry) × Refuses window seat.old seat.new back.1) }
+    {
         let board = &self.table.shared;
         if seat.finds_stop(board) {
             return Err((entry, Refused::Stopped));
@@ -65,7 +80,7 @@ impl<B, const SEATS: usize, const WINDOW: usize, const PLACES: usize> Ring<
         if mark >= FAR {
             return Err((entry, Refused::Exhausted));
         }
-        if !seat.has_room() {
+        if !seat.has_room(window) {
             return Err((entry, Refused::Busy(mark)));
         }
         Ok(seat.put(board, PLACES as u64, entry))

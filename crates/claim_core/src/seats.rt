@@ -76,11 +76,11 @@ impl<B, const WINDOW: usize> SessionSeat<B, WINDOW> {
         mark
     }
 
-    // Whether fewer of its own commands than the window wait for the mark.
-    pub(crate) fn has_room(&self) -> bool
-        ensures { result ≡ nat_lt (waiting self.now) WINDOW }
+    // Whether fewer of its own commands than so many wait for the mark.
+    pub(crate) fn has_room(&self, window: usize) -> bool
+        ensures { result ≡ nat_lt (waiting self.now) window }
     {
-        self.waits.len() < WINDOW
+        self.waits.len() < window
     }
 
     // Claims the next ticket for the entry, and makes it ready.

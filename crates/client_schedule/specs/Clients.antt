@@ -13,13 +13,16 @@ use Rattle.client_schedule.specs.declared.deadlines.Phase.TheVariants.{Open}
 use Rattle.client_schedule.specs.declared.supply.Told.{Told}
 use Rattle.client_schedule.specs.declared.supply.Told.TheVariants.{Bytes, End}
 use Rattle.client_schedule.specs.declared.clients.Standing.{Standing}
-use Rattle.client_schedule.specs.declared.clients.Standing.TheVariants.{Greeting, Seated, Away}
+use Rattle.client_schedule.specs.declared.clients.Standing.TheVariants.{Greeting, Refused, Seated, Away}
 use Rattle.client_schedule.specs.declared.lines.Lines.{Lines}
 use Rattle.slab.specs.Slab.{get, Updates}
 use Rattle.client_schedule.specs.Timers.{with_earlier, with_moment}
-use Rattle.client_schedule.specs.Turns.{IsNobody, woken}
+use Rattle.client_schedule.specs.Turns.{IsNobody, going_on, woken}
 use Rattle.client_schedule.specs.declared.clients.Client.{Client}
 use Rattle.client_schedule.specs.declared.clients.Clients.{Clients}
+use Rattle.client_schedule.specs.declared.read_budget.ReadBudget.{ReadBudget}
+use Rattle.mio.specs.declared.net.stream.TcpStream.{TcpStream}
+use Rattle.ws_core.specs.declared.farewell.Farewell.{Farewell}
 use Rattle.client_schedule.specs.declared.limits.TheConstants.{CLIENTS, SHORTAGE}
 use Rattle.client_schedule.specs.declared.timers.TheConstants.{NEVER}
 
@@ -52,7 +55,15 @@ pub record Removes (old new : Clients) (n : ℕ) : Type 0 where
 abbrev pub is_seated : Standing → Bool
 is_seated Seated = true
 is_seated (Greeting greeting) = false
+is_seated (Refused farewell) = false
 is_seated Away = false
+
+-- its handshake is under way
+abbrev pub is_greeted : Standing → Bool
+is_greeted (Greeting greeting) = true
+is_greeted (Refused farewell) = false
+is_greeted Seated = false
+is_greeted Away = false
 
 -- where the client is that has a number
 abbrev pub standing_of : Option Client → Standing
@@ -62,10 +73,11 @@ standing_of (Some client) = client.standing
 abbrev pub standing_at : ℕ → Clients → Standing
 standing_at n c = standing_of (client_at n c)
 
--- one at the desk stays there while its turn lasts, and a handshake is taken out
+-- one at the desk stays there while its turn lasts, and a handshake or an end is taken out
 abbrev pub in_turn : Standing → Standing
 in_turn Seated = Seated
 in_turn (Greeting greeting) = Away
+in_turn (Refused farewell) = Away
 in_turn Away = Away
 
 -- a client whose turn begins
@@ -168,6 +180,12 @@ heard_greeting told now client = record client { deadlines = heard_in told clien
 abbrev pub is_short : Option Client → Bool
 is_short None = false
 is_short (Some client) = client.is_short
+
+-- A client was refused: it goes on by itself, it is waited for as one whose close is, and it is looked at now.
+pub record Parts (n : ℕ) (farewell : Farewell (ReadBudget TcpStream)) (now : ℕ) (old new : Clients) (client : Client) : Type 0 where
+  pub all : client_at n new ≡ Some (record client { standing = Refused farewell; deadlines = parting_by now client.deadlines })
+  pub timers : new.timers ≡ with_moment n now old.timers
+  pub same : new ≡ record old { all = new.all; timers = new.timers; lines = going_on n old.lines }
 
 -- clients of so many numbers to which memory was refused stand in line for a turn, the lowest first
 unfoldable pub woken_short : ℕ → Clients → Lines → Lines

@@ -2,6 +2,7 @@ pub mod Clients
 pub mod Kept
 pub mod Lines
 pub mod Deadlines
+pub mod Frames
 pub mod ReadBudget
 pub mod Supplies
 pub mod Timers

@@ -1,14 +1,18 @@
 -- Which client has a turn, and what comes of one.
 use Rattle.std.specs.Prelude.{◌≡◌, ℕ, ◌&&◌, Bool, false, [], Option, Some, None, cond, eqb, not, slice_get}
-use Rattle.client_schedule.specs.Lines.{WaitingValue, is_over, joined, waiting, waiting_first, without_first}
+use Rattle.client_schedule.specs.Lines.{WaitingValue, is_over, joined, may_join, waiting, waiting_first, without_first}
 use Rattle.client_schedule.specs.declared.lines.Lines.{Lines}
 use Rattle.desk_core.specs.declared.turned.Turned.{Turned}
 use Rattle.desk_core.specs.declared.turned.Next.{Next}
 use Rattle.desk_core.specs.declared.turned.Next.TheVariants.{Go, Room, Output, Close}
 
--- that client stands in line for a turn
+-- that client stands in line for a turn, unless it goes on by itself: then it keeps its place there
 abbrev pub woken : ℕ → Lines → Lines
-woken n l = record l { ready = joined n l.ready }
+woken n l = cond (may_join n l.again) (record l { ready = joined n l.ready }) l
+
+-- that client goes on by itself, behind all that do, unless it stands in line for a turn: then it keeps its place there
+abbrev pub going_on : ℕ → Lines → Lines
+going_on n l = cond (may_join n l.ready) (record l { again = joined n l.again }) l
 
 -- the client that a mark lets in: the first of those that wait for room, or else of those whose next output waits for
 -- the mark
@@ -38,8 +42,8 @@ refused in_front n mark w = cond in_front (waiting_first n mark w) (waiting n ma
 
 -- the lines after a turn of that client which came to this, if it keeps its place in front or does not
 abbrev pub settled_by : Next → Bool → Bool → ℕ → Lines → Lines
-settled_by Go heard in_front n l = woken n l
-settled_by Close heard in_front n l = cond heard (woken n l) l
+settled_by Go heard in_front n l = going_on n l
+settled_by Close heard in_front n l = cond heard (going_on n l) l
 settled_by (Room mark) heard in_front n l = record l { room = refused in_front n mark l.room }
 settled_by (Output mark) heard in_front n l = record l { outputs = waiting n mark l.outputs }
 settled_by _ heard in_front n l = l
@@ -48,13 +52,14 @@ settled_by _ heard in_front n l = l
 abbrev pub settled : ℕ → Turned → Lines → Lines
 settled n turned l = settled_by turned.next turned.heard (keeps_place n turned l) n (record l { let_in = None })
 
--- that client stands in line for a turn if more of its bytes may be there
+-- that client goes on by itself if more of its bytes may be there
 abbrev pub gone_on : Bool → ℕ → Lines → Lines
-gone_on has_rest n l = cond has_rest (woken n l) l
+gone_on has_rest n l = cond has_rest (going_on n l) l
 
 -- nobody stands in any line
 pub record IsNobody (l : Lines) : Type 0 where
   pub ready : l.ready ≡ []
+  pub again : l.again ≡ []
   pub room : l.room.line ≡ []
   pub outputs : l.outputs.line ≡ []
   pub let_in : l.let_in ≡ None

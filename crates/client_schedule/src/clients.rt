@@ -5,7 +5,7 @@ ghost use Rattle.std.specs.Option.{option_copied};
 ghost use Rattle.client_schedule.specs.declared.limits.TheConstants.{CLIENTS};
 ghost use Rattle.client_schedule.specs.declared.timers.TheConstants.{NEVER};
 ghost use Rattle.client_schedule.specs.Lines.{is_over};
-ghost use Rattle.client_schedule.specs.Clients.{begun, is_seated};
+ghost use Rattle.client_schedule.specs.Clients.{begun, is_greeted, is_seated};
 ghost use Rattle.client_schedule.specs.Deadlines.{fresh};
 ghost use Rattle.client_schedule.specs.Timers.{IsDue, IsNotDue, looked_through};
 
@@ -18,16 +18,18 @@ use mio::net::TcpStream;
 use slab::Slab;
 use std::alloc::{AllocError, Global};
 use std::mem;
-use ws_core::Greeting;
+use ws_core::{Farewell, Greeting};
 
 /// Where a client is.
 #[derive(Drop)]
 pub enum Standing {
     /// Its handshake is under way.
     Greeting(Greeting<ReadBudget<TcpStream>>),
+    /// It was refused, and what comes of it is dropped.
+    Refused(Farewell<ReadBudget<TcpStream>>),
     /// It sits at its desk, at the place that its number names.
     Seated,
-    /// Its handshake is going on just now, or it is gone.
+    /// Its handshake or its end is going on just now, or it is gone.
     Away,
 }
 
@@ -47,11 +49,21 @@ impl Client {
     {
         match self.standing {
             Standing::Seated => true,
-            Standing::Greeting(_) | Standing::Away => false,
+            Standing::Greeting(_) | Standing::Refused(_) | Standing::Away => false,
         }
     }
 
-    // Where the client is whose turn begins. Its handshake is taken out, to go on.
+    /// Whether its handshake is under way.
+    pub fn is_greeted(&self) -> bool
+        ensures { result ≡ is_greeted self.now.standing }
+    {
+        match self.standing {
+            Standing::Greeting(_) => true,
+            Standing::Refused(_) | Standing::Seated | Standing::Away => false,
+        }
+    }
+
+    // Where the client is whose turn begins. Its handshake, or its end, is taken out, to go on.
     fn begin_turn(&mut self) -> Standing
         ensures whose { result ≡ self.old.standing }
         ensures begins { self.new ≡ begun self.old }
@@ -156,7 +168,7 @@ impl Clients {
         self.timers.take_due(now)
     }
 
-    /// Has a client stand in line for a turn, behind all others. A client that stands there keeps its place.
+    /// Has a client stand in line for a turn, behind all others. A client that stands there, or that goes on by itself, keeps its place.
     pub fn wake(&mut self, number: usize)
         ensures { self.new ≡ record self.old { lines = woken number self.old.lines } }
     {
@@ -168,6 +180,13 @@ impl Clients {
         ensures { result ≡ length self.now.lines.ready }
     {
         self.lines.count_ready()
+    }
+
+    /// How many go on by themselves.
+    pub fn count_again(&self) -> usize
+        ensures { result ≡ length self.now.lines.again }
+    {
+        self.lines.count_again()
     }
 
     /// How many wait for the mark: for room, or for their next output to come under it.
@@ -196,6 +215,18 @@ impl Clients {
         Some((number, self.begin_turn(number)))
     }
 
+    /// The next client that goes on by itself, and where it is. It stands in line no more.
+    pub fn next_again(&mut self) -> Option<(usize, Standing)>
+        ensures none { IsNone result → self.old.lines.again ≡ [] }
+        ensures first { IfSome result (λ turn. self.old.lines.again ≡ turn.0 ∷ self.new.lines.again) }
+        ensures rest { self.new.lines ≡ record self.old.lines { again = self.new.lines.again; let_in = None } }
+        ensures whose { IfSome result (λ turn. turn.1 ≡ standing_at turn.0 self.old) }
+        ensures begins { IfSome result (λ turn. Begins turn.0 self.old self.new) }
+    {
+        let number = self.lines.next_again()?;
+        Some((number, self.begin_turn(number)))
+    }
+
     /// The client that is let in at this mark, and where it is: the first that waits for room, or else the first whose output waits. It has
     /// a turn before all that stand in line for one, and waits no more.
     pub fn let_in(&mut self, mark: u64) -> Option<(usize, Standing)>
@@ -220,7 +251,7 @@ impl Clients {
         }
     }
 
-    /// A client is now where it is said to be. It stands in line again if more of its bytes may be there.
+    /// A client is now where it is said to be. It goes on by itself if more of its bytes may be there.
     pub fn stand(&mut self, number: usize, standing: Standing, has_rest: bool)
         ensures there { MatchOption (client_at number self.old) (self.new.all ≡ self.old.all) (λ _. option_map (λ client. client.standing) (client_at number self.new) ≡ Some standing) }
         ensures rest { self.new ≡ record self.old { all = self.new.all; lines = gone_on has_rest number self.old.lines } }
@@ -231,12 +262,12 @@ impl Clients {
         self.go_on(number, has_rest);
     }
 
-    // Has a client stand in line if its last turn left bytes that may be there.
+    // Has a client go on by itself if its last turn left bytes that may be there.
     pub(crate) fn go_on(&mut self, number: usize, has_rest: bool)
         ensures { self.new ≡ record self.old { lines = gone_on has_rest number self.old.lines } }
     {
         if has_rest {
-            self.wake(number);
+            self.lines.go_on(number);
         }
     }
 }

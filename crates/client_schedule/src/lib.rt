@@ -4,6 +4,7 @@
 
 mod clients;
 mod deadlines;
+mod frames;
 mod limits;
 mod line;
 mod lines;

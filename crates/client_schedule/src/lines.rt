@@ -2,7 +2,7 @@
 
 ghost use Rattle.std.specs.Prelude.{◌≡◌, ◌+◌, [], ◌∷◌, None, IfOk, MatchOption, length};
 ghost use Rattle.client_schedule.specs.Lines.{is_over};
-ghost use Rattle.client_schedule.specs.Turns.{woken, let_in, after_let_in, settled};
+ghost use Rattle.client_schedule.specs.Turns.{woken, going_on, let_in, after_let_in, settled};
 
 use crate::line::Line;
 use crate::waiting::Waiting;
@@ -14,6 +14,8 @@ use std::alloc::{AllocError, Global};
 pub struct Lines {
     // Clients that have a turn next.
     pub(crate) ready: Line,
+    // Clients that go on by themselves: they have one after those that something has woken.
+    pub(crate) again: Line,
     // Clients that found the window full, in the order in which they were refused.
     pub(crate) room: Waiting,
     // Clients whose next output waits for the mark.
@@ -32,6 +34,7 @@ impl Lines {
     {
         Ok(Lines {
             ready: Line::new(alloc)?,
+            again: Line::new(alloc)?,
             room: Waiting::new(alloc)?,
             outputs: Waiting::new(alloc)?,
             let_in: None,
@@ -43,6 +46,13 @@ impl Lines {
         ensures { result ≡ length self.now.ready }
     {
         self.ready.len()
+    }
+
+    /// How many go on by themselves.
+    pub(crate) fn count_again(&self) -> usize
+        ensures { result ≡ length self.now.again }
+    {
+        self.again.len()
     }
 
     /// How many wait for the mark.
@@ -59,11 +69,22 @@ impl Lines {
         self.room.is_over(mark) || self.outputs.is_over(mark)
     }
 
-    /// That client stands in line for a turn.
+    /// That client stands in line for a turn. One that goes on by itself keeps its place.
     pub(crate) fn wake(&mut self, client: usize)
         ensures { self.new ≡ woken client self.old }
     {
-        self.ready.join(client);
+        if self.again.takes(client) {
+            self.ready.join(client);
+        }
+    }
+
+    /// That client goes on by itself, unless it stands in line for a turn.
+    pub(crate) fn go_on(&mut self, client: usize)
+        ensures { self.new ≡ going_on client self.old }
+    {
+        if self.ready.takes(client) {
+            self.again.join(client);
+        }
     }
 
     /// The first that stands in line for a turn. It stands there no more.
@@ -73,6 +94,15 @@ impl Lines {
     {
         self.let_in = None;
         self.ready.next()
+    }
+
+    /// The first that goes on by itself. It stands there no more.
+    pub(crate) fn next_again(&mut self) -> Option<usize>
+        ensures first { MatchOption result ((self.old.again ≡ []) × (self.new.again ≡ [])) (λ client. self.old.again ≡ client ∷ self.new.again) }
+        ensures rest { self.new ≡ record self.old { again = self.new.again; let_in = None } }
+    {
+        self.let_in = None;
+        self.again.next()
     }
 
     /// The client that is let in at this mark: the first that waits for room, or else the first whose output waits. It waits no
@@ -95,8 +125,8 @@ impl Lines {
     {
         let was_let_in = self.let_in.take() == Some(client);
         match turned.next {
-            Next::Go => self.ready.join(client),
-            Next::Close if turned.heard => self.ready.join(client),
+            Next::Go => self.go_on(client),
+            Next::Close if turned.heard => self.go_on(client),
             Next::Room(mark) if was_let_in && !turned.appended => {
                 self.room.join_first(client, mark);
             }

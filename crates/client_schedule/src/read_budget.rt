@@ -1,21 +1,26 @@
 //! The socket of a client, which is read in portions, and never in vain.
 
-ghost use Rattle.std.specs.Prelude.{◌≡◌, ◌≤◌, ◌+◌, ◌-◌, ◌^◌, false, IfOk, OnErr, length, min};
+ghost use Rattle.std.specs.Prelude.{◌≡◌, ◌≤◌, ◌+◌, ◌-◌, ◌^◌, [], false, IfOk, OnErr, length, min};
 ghost use Rattle.std.specs.Io.{ReadsAtMost, WritesAtMost};
 ghost use Rattle.std.specs.Io.KnownBytes.{Keeps, ReadConsumes, WriteAppends};
-ghost use Rattle.client_schedule.specs.declared.read_budget.TheConstants.{READS};
+ghost use Rattle.client_schedule.specs.declared.read_budget.TheConstants.{FRAMES, READS};
 
+use crate::frames::{Place, front_of};
 use crate::supply::{Supply, Told, is_dry, supply_behind, supply_with};
 use mio::net::TcpStream;
+use std::alloc::{AllocError, Global};
 use std::cell::Cell;
-use std::io;
 use std::io::{ErrorKind, Read, Write};
 use std::net::Shutdown;
+use std::{io, mem};
 use ws_core::Ending;
 
 /// How many reads that gave bytes make a portion. A link reads 4,096 bytes at a time. The other clients of the worker wait for as long as
 /// it takes to hear so many of the smallest fragments.
 const READS: u32 = 1;
+
+/// How many frames of its WebSocket end in a portion at most. One has six bytes at least, so a read may bring 682.
+const FRAMES: u32 = 64;
 
 /// How many bytes are dropped at a time that come after a close.
 const DROPPED: usize = 16_384;
@@ -34,6 +39,9 @@ pub struct Flow {
 /// (RFC 6455, section 5.4). `flow` tells that there may be more, since the poll does not tell it again. It also tells how many bytes the
 /// socket took, from which a worker knows whether its client takes anything.
 ///
+/// Once frames are counted, the 64th ends a portion too. What was read behind it is kept for the next one; if memory is refused for that, it
+/// is given.
+///
 /// Nor is a socket asked in vain. A read that gave fewer bytes than it asked for has left a stream empty, and so has one that gave none for
 /// now (epoll(7), on edge-triggered polls). From then on reads say `WouldBlock` without asking the socket, until `tell` says that the poll
 /// has told of it. Once its end or a failure was told, it is asked each time, since the poll doesn't tell of that again. For a read that
@@ -45,14 +53,19 @@ pub struct Flow {
 /// told since the last read.
 #[derive(Drop)]
 pub struct ReadBudget<S> {
+    alloc: Global,
     socket: S,
     left: u32,
     flow: Flow,
     supply: Supply,
     // What the poll has told since the last read.
     told: Cell<Told>,
-    // How many bytes its reads gave in all.
+    // How many bytes its socket gave in all.
     given: u64,
+    // Whether what comes is frames, how far it has come in one, and what was read and not given.
+    is_framed: Cell<bool>,
+    place: Place,
+    spare: Vec<u8>,
     ghost most: { left ≤ READS },
 }
 
@@ -60,10 +73,12 @@ impl<S: Drop> ReadBudget<S> {
     ghost use Rattle.client_schedule.specs.declared.supply.Supply.{Supply};
 
     /// A budget over that socket, of which nothing is known yet.
-    pub fn new(socket: S) -> ReadBudget<S>
-        ensures { (result.socket ≡ socket) × (result.left ≡ READS) × (result.supply ≡ Supply.Unknown) × (result.flow ≡ record { taken = 0; has_rest = false }) }
+    pub fn new(alloc: Global, socket: S) -> ReadBudget<S>
+        ensures begins { (result.socket ≡ socket) × (result.left ≡ READS) × (result.supply ≡ Supply.Unknown) × (result.flow ≡ record { taken = 0; has_rest = false }) }
+        ensures spare { result.spare.items ≡ [] }
     {
         ReadBudget {
+            alloc,
             socket,
             left: READS,
             flow: Flow {
@@ -73,6 +88,9 @@ impl<S: Drop> ReadBudget<S> {
             supply: Supply::Unknown,
             told: Cell::new(Told::Nothing),
             given: 0,
+            is_framed: Cell::new(false),
+            place: Place::Front,
+            spare: Vec::new(alloc),
         }
     }
 
@@ -81,6 +99,11 @@ impl<S: Drop> ReadBudget<S> {
         ensures { result ≡ self.now.flow }
     {
         self.flow
+    }
+
+    /// From now on what comes is frames, and the first of them is still to begin.
+    pub fn count_frames(&self) {
+        self.is_framed.set(true);
     }
 
     /// The poll has told this of the socket. The next read knows it. An end that was told stays.
@@ -93,22 +116,38 @@ impl<S: Drop> ReadBudget<S> {
 }
 
 impl<S: Read> ReadBudget<S> {
-    ghost use Rattle.client_schedule.specs.ReadBudget.{Declines, Reads};
+    ghost use Rattle.std.specs.Prelude.{◌≢◌};
+    ghost use Rattle.client_schedule.specs.ReadBudget.{Asks, Declines, Reads, left_in};
 
     // Reads, if the poll has told this since the last read.
-    fn read_told(&mut self, told: Told, buf: &mut [u8]) -> io::Result<usize>
+    fn read_told(&mut self, told: Told, is_framed: bool, buf: &mut [u8]) -> io::Result<usize>
         ensures bound { ReadsAtMost result buf.new }
-        ensures bytes { ReadConsumes (S.remaining self.old.socket) (S.remaining self.new.socket) result buf.new }
+        ensures bytes { ReadConsumes (left_in S.remaining self.old) (left_in S.remaining self.new) result buf.new }
         ensures reads { Reads told (length buf.old) self.old self.new result }
     {
         self.supply = supply_with(self.supply, told);
-        if is_dry(self.supply) {
+        if self.spare.is_empty() && is_dry(self.supply) {
             return self.decline(false);
         }
         if self.left == 0 {
             return self.decline(true);
         }
         self.flow.has_rest = false;
+        if self.spare.is_empty() {
+            self.ask(is_framed, buf)
+        } else {
+            Ok(self.give(buf))
+        }
+    }
+
+    // Asks the socket. Of frames it gives those of a portion.
+    fn ask(&mut self, is_framed: bool, buf: &mut [u8]) -> io::Result<usize>
+        requires spare { self.old.spare.items ≡ [] }
+        requires left { self.old.left ≢ 0 }
+        ensures bound { ReadsAtMost result buf.new }
+        ensures bytes { ReadConsumes (left_in S.remaining self.old) (left_in S.remaining self.new) result buf.new }
+        ensures asks { Asks (length buf.old) self.old self.new result }
+    {
         let asked = buf.len();
         let outcome = self.socket.read(buf);
         self.left = if outcome.is_ok() {
@@ -117,10 +156,13 @@ impl<S: Read> ReadBudget<S> {
             READS
         };
         self.supply = supply_behind(self.supply, asked, &outcome);
-        if let Ok(count) = outcome {
-            self.given = self.given.saturating_add(count as u64);
+        match outcome {
+            Ok(count) => {
+                self.given = self.given.saturating_add(count as u64);
+                Ok(self.portion(is_framed, &buf[..count]))
+            }
+            Err(error) => Err(error),
         }
-        outcome
     }
 
     // Gives nothing and asks for nothing, at the end of a portion or not.
@@ -134,20 +176,119 @@ impl<S: Read> ReadBudget<S> {
     }
 }
 
+impl<S> ReadBudget<S> {
+    ghost use Rattle.std.specs.Prelude.{◌≢◌, ◌<◌, OnOk, drop, take};
+    ghost use Rattle.client_schedule.specs.Frames.{ended, passed};
+    ghost use Rattle.client_schedule.specs.ReadBudget.{IsPortion, IsSame};
+
+    // How many of the bytes that were read are given; the others are kept. If memory is refused for these, all are given.
+    fn portion(&mut self, is_framed: bool, bytes: &[u8]) -> usize
+        requires { self.old.spare.items ≡ [] }
+        ensures { IsPortion bytes.now self.old self.new result }
+    {
+        if !is_framed {
+            return bytes.len();
+        }
+        match self.keep(bytes) {
+            Ok(count) => count,
+            Err(_) => bytes.len(),
+        }
+    }
+
+    // The same of frames.
+    fn keep(&mut self, bytes: &[u8]) -> Result<usize, AllocError>
+        requires { self.old.spare.items ≡ [] }
+        ensures portion { IfOk result (IsPortion bytes.now self.old self.new) }
+        ensures place { IfOk result (λ count. self.new.place ≡ passed self.old.place (take count bytes.now)) }
+        ensures most { IfOk result (λ count. ended self.old.place (take count bytes.now) ≤ FRAMES) }
+        ensures err { OnErr result ((self.new.spare.items ≡ []) × IsSame self.old self.new) }
+    {
+        let mut place = self.place;
+        let count = front_of(&mut place, FRAMES, bytes);
+        let rest = &bytes[count..];
+        match self.set_aside(rest) {
+            Ok(()) => {
+                self.place = place;
+                Ok(count)
+            }
+            Err(refused) => {
+                let _ = front_of(&mut place, u32::MAX, rest);
+                self.place = place;
+                Err(refused)
+            }
+        }
+    }
+
+    // Keeps these bytes.
+    fn set_aside(&mut self, bytes: &[u8]) -> Result<(), AllocError>
+        requires { self.old.spare.items ≡ [] }
+        ensures ok { OnOk result (self.new.spare.items ≡ bytes.now) }
+        ensures err { OnErr result (self.new.spare.items ≡ []) }
+        ensures same { IsSame self.old self.new }
+    {
+        if bytes.is_empty() {
+            return Ok(());
+        }
+        let spare = bytes.to_vec(self.alloc)?;
+        drop(mem::replace(&mut self.spare, spare));
+        Ok(())
+    }
+
+    // Gives a portion of what was read before.
+    fn give(&mut self, buf: &mut [u8]) -> usize
+        requires spare { self.old.spare.items ≢ [] }
+        requires left { self.old.left ≢ 0 }
+        ensures within { (result ≤ length buf.new) × (0 < length buf.new → 0 < result) }
+        ensures given { take result buf.new ≡ take result self.old.spare.items }
+        ensures spare { self.new.spare.items ≡ drop result self.old.spare.items }
+        ensures most { ended self.old.place (take result self.old.spare.items) ≤ FRAMES }
+        ensures left { self.new.left + 1 ≡ self.old.left }
+        ensures same { (self.new.socket ≡ self.old.socket) × (self.new.flow ≡ self.old.flow) × (self.new.supply ≡ self.old.supply) }
+    {
+        let spare = mem::replace(&mut self.spare, Vec::new(self.alloc));
+        let there = spare.len().min(buf.len());
+        let mut place = self.place;
+        let count = front_of(&mut place, FRAMES, &spare[..there]);
+        buf[..count].copy_from_slice(&spare[..count]);
+        self.place = place;
+        self.left -= 1;
+        self.keep_on(spare, count);
+        count
+    }
+
+    // Keeps the bytes behind so many.
+    fn keep_on(&mut self, spare: Vec<u8>, count: usize)
+        requires within { count ≤ length spare.items }
+        requires none { self.old.spare.items ≡ [] }
+        ensures spare { self.new.spare.items ≡ drop count spare.items }
+        ensures same { IsSame self.old self.new }
+        ensures place { self.new.place ≡ self.old.place }
+    {
+        let mut spare = spare;
+        if count == spare.len() {
+            drop(spare);
+            return;
+        }
+        spare.drain(..count);
+        drop(mem::replace(&mut self.spare, spare));
+    }
+}
+
 impl<S: Read> Read for ReadBudget<S> {
-    ghost use Rattle.client_schedule.specs.ReadBudget.{Reads};
+    ghost use Rattle.client_schedule.specs.ReadBudget.{Reads, left_in};
     ghost use Rattle.client_schedule.specs.declared.supply.Told.{Told};
 
-    ghost remaining = { λ p. S.remaining p.socket };
+    ghost remaining = { λ p. left_in S.remaining p };
 
     fn read(&mut self, buf: &mut [u8]) -> io::Result<usize>
         ensures bound { ReadsAtMost result buf.new }
-        ensures bytes { ReadConsumes (S.remaining self.old.socket) (S.remaining self.new.socket) result buf.new }
+        ensures bytes { ReadConsumes (left_in S.remaining self.old) (left_in S.remaining self.new) result buf.new }
         ensures reads { (told : Told) × Reads told (length buf.old) self.old self.new result }
     {
         let told = self.told.get();
         self.told.set(Told::Nothing);
-        self.read_told(told, buf)
+        let is_framed = self.is_framed.get();
+        self.read_told(told, is_framed, buf)
     }
 }
 

@@ -2,15 +2,18 @@
 
 ghost use Rattle.std.specs.Prelude.{◌≡◌, MatchOption, cond, min, nat_lt, option_map};
 ghost use Rattle.client_schedule.specs.declared.timers.TheConstants.{NEVER};
-ghost use Rattle.client_schedule.specs.Clients.{ComesDue, IsWaitedFor, LooksBy, client_at, has_more, heard_greeting, is_seated, is_short, moment_of, parts_now, standing_at, waited_by, woken_short};
+ghost use Rattle.client_schedule.specs.Clients.{ComesDue, IsWaitedFor, LooksBy, Parts, client_at, has_more, heard_greeting, is_seated, is_short, moment_of, parts_now, standing_at, waited_by, woken_short};
 
 use crate::clients::{Client, Clients, Standing};
 use crate::deadlines::{Due, Phase};
 use crate::limits::SHORTAGE;
-use crate::read_budget::Flow;
+use crate::read_budget::{Flow, ReadBudget};
 use crate::supply::Told;
 use crate::timers::NEVER;
 use desk_core::{Next, Turned};
+use mio::net::TcpStream;
+use std::mem;
+use ws_core::Farewell;
 
 impl Clients {
     ghost use Rattle.client_schedule.specs.Turns.{gone_on, settled, woken};
@@ -85,6 +88,20 @@ impl Clients {
             Next::Close => has_rest || self.parts_now(number),
             _ => false,
         }
+    }
+
+    /// A client was refused. From now on it is waited for as one whose close is.
+    pub fn part(&mut self, number: usize, farewell: Farewell<ReadBudget<TcpStream>>, now: u64)
+        ensures { MatchOption (client_at number self.old) (self.new ≡ self.old) (λ client. Parts number farewell now self.old self.new client) }
+    {
+        let Some(client) = self.all.get_mut(number) else {
+            drop(farewell);
+            return;
+        };
+        drop(mem::replace(&mut client.standing, Standing::Refused(farewell)));
+        client.deadlines.parting(now);
+        self.timers.set(number, now);
+        self.lines.go_on(number);
     }
 
     // Whether a client's close was not waited for until now.

@@ -4,7 +4,7 @@ use Rattle.std.specs.Prelude.{IsSome, option_map}
 use Rattle.std.proofs.lemmas.List.{length-append}
 use Rattle.claim_core.specs.declared.limits.TheConstants.{WINDOW}
 use Rattle.claim_core.specs.Appends.{Appends, Refuses}
-use Rattle.claim_core.specs.Counts.{Pair, above}
+use Rattle.claim_core.specs.Counts.{Pair}
 use Rattle.claim_core.specs.Seats.{SessionSeatValue}
 use Rattle.claim_core.specs.declared.refusals.Refused.{Refused}
 use Rattle.claim_core.specs.declared.refusals.Refused.TheVariants as refusals
@@ -28,6 +28,9 @@ pub grows_by : (window : ℕ) (s t : SessionSeatValue) (ticket : ℕ) (c : Comma
 grows_by window s t ticket c a =
     let more : length t.own ≡ length (s.own ++ (ticket, c) ∷ []) = ap (λ (x : SessionSeatValue). length x.own) a.added in
     omega (arith, more, length-append s.own ((ticket, c) ∷ []))
+
+pub wider : (window most : ℕ) (s t : SessionSeatValue) (ticket : ℕ) (c : CommandValue) → window ≤ most → Appends window s t ticket c → Appends most s t ticket c
+wider window most s t ticket c less a = record { added = a.added; no_less = a.no_less; near = a.near; room = omega (arith, less, a.room); unseen = a.unseen; last = a.last }
 
 pub spoken_grows : (command : CommandValue) (was is : ConnectionValue) (s t : SessionSeatValue) (ticket : ℕ) → SaysNext command was s is t ticket → length s.own < length t.own
 spoken_grows command was is s t ticket so = grows_by WINDOW s t ticket command so.appends
@@ -61,15 +64,15 @@ appended_still false s t u a own = own ∙ a
 full_of : {B : Type 0} (p : Option (Pending B)) (pending : Pending B) → p ≡ Some pending → IsSome p
 full_of p pending is = subst (λ x. IsSome x) (sym is) refl
 
-held_by : {B : Type 0} (refused : Refused) (pending : Pending B) (p : Option (Pending B)) (step : Step) (s t : SessionSeatValue) → Refuses WINDOW s t refused → Holds pending refused p step → Grows step s t × Leaves step p t
-held_by refusals.Stopped pending p step s t r h = subst (λ x. Grows x s t × Leaves x p t) (sym h) (ap (λ (x : SessionSeatValue). x.own) r, tt)
-held_by refusals.Exhausted pending p step s t r h = subst (λ x. Grows x s t × Leaves x p t) (sym h) (ap (λ (x : SessionSeatValue). x.own) r.2, tt)
-held_by (refusals.Busy mark) pending p step s t r h =
+held_by : {B : Type 0} (window : ℕ) (refused : Refused) (pending : Pending B) (p : Option (Pending B)) (step : Step) (s t : SessionSeatValue) → Refuses window s t refused → Holds pending refused p step → Grows step s t × Leaves step p
+held_by window refusals.Stopped pending p step s t r h = subst (λ x. Grows x s t × Leaves x p) (sym h) (ap (λ (x : SessionSeatValue). x.own) r, tt)
+held_by window refusals.Exhausted pending p step s t r h = subst (λ x. Grows x s t × Leaves x p) (sym h) (ap (λ (x : SessionSeatValue). x.own) r.2, tt)
+held_by window (refusals.Busy mark) pending p step s t r h =
     let own : t.own ≡ s.own = ap (λ (x : SessionSeatValue). x.own) r.3 in
-    subst (λ x. Grows x s t × Leaves x p t) (sym h.1) (own, (full_of p pending h.0, subst (λ l. WINDOW ≤ above mark l) (sym own) r.2))
+    subst (λ x. Grows x s t × Leaves x p) (sym h.1) (own, full_of p pending h.0)
 
-pub held_takes : {B : Type 0} (refused : Refused) (pending : Pending B) (p : Option (Pending B)) (step : Step) (s t : SessionSeatValue) → Refuses WINDOW s t refused → Holds pending refused p step → TakesStep step s t p
-held_takes refused pending p step s t r h = let by = held_by refused pending p step s t r h in record { grows = by.0; leaves = by.1 }
+pub held_takes : {B : Type 0} (window : ℕ) (refused : Refused) (pending : Pending B) (p : Option (Pending B)) (step : Step) (s t : SessionSeatValue) → Refuses window s t refused → Holds pending refused p step → TakesStep step s t p
+held_takes window refused pending p step s t r h = let by = held_by window refused pending p step s t r h in record { grows = by.0; leaves = by.1 }
 
 pub quiet_takes : {B : Type 0} (step : Step) (p : Option (Pending B)) (s : SessionSeatValue) → IsQuiet step → TakesStep step s s p
 quiet_takes steps.Done p s q = record { grows = refl; leaves = tt }
@@ -78,24 +81,20 @@ quiet_takes steps.Appended p s q = absurd q
 quiet_takes (steps.Full mark) p s q = absurd q
 quiet_takes steps.Rest p s q = absurd q
 
-pub still_leaves : {B : Type 0} (step : Step) (p q : Option (Pending B)) (s t : SessionSeatValue) → q ≡ p → t.own ≡ s.own → Leaves step p s → Leaves step q t
-still_leaves steps.Done p q s t pending own l = tt
-still_leaves steps.Short p q s t pending own l = tt
-still_leaves steps.Appended p q s t pending own l = tt
-still_leaves steps.Rest p q s t pending own l = tt
-still_leaves (steps.Full mark) p q s t pending own l = (subst (λ x. IsSome x) (sym pending) l.0, subst (λ x. WINDOW ≤ above mark x) (sym own) l.1)
+pub still_leaves : {B : Type 0} (step : Step) (p q : Option (Pending B)) → q ≡ p → Leaves step p → Leaves step q
+still_leaves step p q pending l = subst (λ x. Leaves step x) (sym pending) l
 
 -- ── what it waits for ──
 
-pub awaits : {B : Type 0} (n : Next) (last : Step) (slot : Slot B) (seat : SessionSeatValue) → AwaitsBy n last slot → Leaves last slot.pending seat → Awaits n slot seat
-awaits next.Go last slot seat a l = a
-awaits next.Read last slot seat a l = a
-awaits next.Write last slot seat a l = a
-awaits (next.Room mark) last slot seat a l = (a.0, subst (λ x. Leaves x slot.pending seat) a.1 l)
-awaits (next.Output mark) last slot seat a l = a
-awaits next.Memory last slot seat a l = a
-awaits next.Close last slot seat a l = a
-awaits (next.Over ended) last slot seat a l = a
+pub awaits : {B : Type 0} (n : Next) (last : Step) (slot : Slot B) → AwaitsBy n last slot → Leaves last slot.pending → Awaits n slot
+awaits next.Go last slot a l = a
+awaits next.Read last slot a l = a
+awaits next.Write last slot a l = a
+awaits (next.Room mark) last slot a l = (a.0, subst (λ x. Leaves x slot.pending) a.1 l)
+awaits (next.Output mark) last slot a l = a
+awaits next.Memory last slot a l = a
+awaits next.Close last slot a l = a
+awaits (next.Over ended) last slot a l = a
 
 runs_yet : (stage : Stage) → stage ≡ Running → GoesOnYet stage
 runs_yet stage runs = subst GoesOnYet (sym runs) tt

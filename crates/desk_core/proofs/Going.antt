@@ -11,7 +11,7 @@ use Rattle.claim_core.specs.declared.refusals.Refused.{Refused}
 use Rattle.claim_core.specs.declared.refusals.Refused.TheVariants as refusals
 use Rattle.session_core.specs.declared.act.Act.{Act}
 use Rattle.connection_core.specs.Connections.{ConnectionValue, Fails, HearsBytes, Listens, Wants, WantsBy, to_append, with_appended}
-use Rattle.connection_core.specs.Conversations.{IsNext, said_of}
+use Rattle.connection_core.specs.Conversations.{said_of}
 use Rattle.connection_core.specs.Footprints.{charged, total}
 use Rattle.connection_core.specs.Stages.{Executes, IsEnding, given_up, stopped}
 use Rattle.connection_core.specs.declared.footprint.TheConstants.{SESSION_BYTES}

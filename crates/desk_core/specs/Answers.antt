@@ -1,8 +1,6 @@
 -- What a turn of a connection answers.
-use Rattle.std.specs.Prelude.{◌≡◌, ◌<◌, ◌≤◌, ℕ, List, [], Bool, true, false, Option, None, IsSome, length}
+use Rattle.std.specs.Prelude.{◌≡◌, ◌<◌, ℕ, List, [], Bool, true, false, Option, None, IsSome, length}
 use Rattle.command_core.specs.Outs.{OutValue}
-use Rattle.claim_core.specs.declared.limits.TheConstants.{WINDOW}
-use Rattle.claim_core.specs.Counts.{above}
 use Rattle.claim_core.specs.Seats.{SessionSeatValue}
 use Rattle.connection_core.specs.Tasks.{all_of}
 use Rattle.connection_core.specs.declared.ended.Ended.{Ended}
@@ -37,10 +35,6 @@ GoesOnYet (Parting ended) = Unit {0}
 GoesOnYet Leaving = Unit {0}
 GoesOnYet (Over ended) = ⊥
 
--- an entry waits because the window is full: as many of the seat's own commands as may are not under that mark
-abbrev pub IsFull : {B : Type 0} → ℕ → Option (Pending B) → SessionSeatValue → Type 0
-IsFull mark pending seat = IsSome pending × (WINDOW ≤ above mark seat.own)
-
 -- the next output is that one's, and was not under the mark
 abbrev pub WaitsFor : ℕ → Kept → Type 0
 WaitsFor mark it = (out : OutValue) × (it ≡ kept.Waits out) × (mark ≡ out.number)
@@ -53,21 +47,21 @@ IsSatisfied slot = (slot.pending ≡ None) × (all_of slot.connection.acts ≡ [
 -- a mark over its next output only if that output is kept. It waits for that, or for bytes of its client, only if it runs and nothing of
 -- what its client asked for is left to be done. It waits for its socket to take bytes only if it runs, and for its peer's close only after
 -- its own.
-abbrev pub Awaits : {B : Type 0} → Next → Slot B → SessionSeatValue → Type 0
-Awaits next.Go slot seat = GoesOnYet slot.connection.stage
-Awaits next.Read slot seat = (slot.connection.stage ≡ Running) × IsSatisfied slot
-Awaits next.Write slot seat = slot.connection.stage ≡ Running
-Awaits (next.Room mark) slot seat = GoesOnYet slot.connection.stage × IsFull mark slot.pending seat
-Awaits (next.Output mark) slot seat = (slot.connection.stage ≡ Running) × IsSatisfied slot × WaitsFor mark slot.kept
-Awaits next.Memory slot seat = GoesOnYet slot.connection.stage
-Awaits next.Close slot seat = (ended : Ended) × (slot.connection.stage ≡ Parting ended)
-Awaits (next.Over ended) slot seat = slot.connection.stage ≡ Over ended
+abbrev pub Awaits : {B : Type 0} → Next → Slot B → Type 0
+Awaits next.Go slot = GoesOnYet slot.connection.stage
+Awaits next.Read slot = (slot.connection.stage ≡ Running) × IsSatisfied slot
+Awaits next.Write slot = slot.connection.stage ≡ Running
+Awaits (next.Room mark) slot = GoesOnYet slot.connection.stage × IsSome slot.pending
+Awaits (next.Output mark) slot = (slot.connection.stage ≡ Running) × IsSatisfied slot × WaitsFor mark slot.kept
+Awaits next.Memory slot = GoesOnYet slot.connection.stage
+Awaits next.Close slot = (ended : Ended) × (slot.connection.stage ≡ Parting ended)
+Awaits (next.Over ended) slot = slot.connection.stage ≡ Over ended
 
 -- a turn's answer
 pub record Answers {B L : Type 0} (received : L → Option (List ℕ)) (turned : Turned) (old : SessionSeatValue) (from : L) (is : Slot B) (new : SessionSeatValue) (to : L) : Type 0 where
   pub appended : Appended turned.appended old new
   pub heard : Heard received turned.heard from to
-  pub next : Awaits turned.next is new
+  pub next : Awaits turned.next is
 
 -- one act appends a command exactly if it says so
 abbrev pub Grows : Step → SessionSeatValue → SessionSeatValue → Type 0
@@ -85,13 +79,13 @@ IsQuiet steps.Appended = ⊥
 IsQuiet (steps.Full mark) = ⊥
 IsQuiet steps.Rest = ⊥
 
--- what the last act of a turn came to: if it found the window full, an entry waits
-abbrev pub Leaves : {B : Type 0} → Step → Option (Pending B) → SessionSeatValue → Type 0
-Leaves (steps.Full mark) pending seat = IsFull mark pending seat
-Leaves steps.Appended pending seat = Unit {0}
-Leaves steps.Done pending seat = Unit {0}
-Leaves steps.Short pending seat = Unit {0}
-Leaves steps.Rest pending seat = Unit {0}
+-- what the last act of a turn came to: if it found no room, an entry waits
+abbrev pub Leaves : {B : Type 0} → Step → Option (Pending B) → Type 0
+Leaves (steps.Full mark) pending = IsSome pending
+Leaves steps.Appended pending = Unit {0}
+Leaves steps.Done pending = Unit {0}
+Leaves steps.Short pending = Unit {0}
+Leaves steps.Rest pending = Unit {0}
 
 -- what a connection waits for, by what the last act of its turn came to
 abbrev pub AwaitsBy : {B : Type 0} → Next → Step → Slot B → Type 0

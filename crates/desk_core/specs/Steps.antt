@@ -35,7 +35,7 @@ pub record MayAppend {B : Type 0} (slot : Slot B) (pending : Pending B) : Type 0
 -- One act took this step: the seat has a command more only if that is said, and if the window was full, an entry waits.
 pub record TakesStep {B : Type 0} (step : Step) (old new : SessionSeatValue) (pending : Option (Pending B)) : Type 0 where
   pub grows : Grows step old new
-  pub leaves : Leaves step pending new
+  pub leaves : Leaves step pending
 
 -- what was wanted is done, beside which so much waits, if the slot appended yet
 abbrev pub CarriesOut : {B : Type 0} → Wanted → List Op → Slot B → SessionSeatValue → Slot B → SessionSeatValue → Type 0

@@ -91,7 +91,7 @@ impl<B: Bell> Slot<B> {
         requires { seat.old.ring ≡ ring.now }
         ensures goes { GoesOn L.sent L.received self.old seat.old link.old self.new seat.new link.new }
         ensures grows { Appended result.appended seat.old seat.new }
-        ensures leaves { Leaves result.last self.new.pending seat.new }
+        ensures leaves { Leaves result.last self.new.pending }
         ensures unread { L.received link.new ≡ L.received link.old }
     {
         let mut executed = Executed {
@@ -126,7 +126,7 @@ impl<B: Bell> Slot<B> {
             return Step::Rest;
         }
         if let Some(pending) = self.pending.take() {
-            return self.append(ring, seat, pending);
+            return self.append(ring, seat, ringers, pending);
         }
         match self.connection.next() {
             Wanted::Append(command, said) => {
@@ -164,7 +164,7 @@ impl<B: Bell> Slot<B> {
             return Step::Done;
         }
         match charge(alloc, ringers, &mut self.connection, command, said) {
-            Ok(pending) => self.append(ring, seat, pending),
+            Ok(pending) => self.append(ring, seat, ringers, pending),
             Err(command) => {
                 self.connection.retry(command);
                 Step::Short
@@ -173,10 +173,11 @@ impl<B: Bell> Slot<B> {
     }
 
     // Appends an entry, or keeps it if the window is full.
-    fn append(
+    fn append<M: Ringers<B>>(
         &mut self,
         ring: &BrokerRing<OutSender<B>>,
         seat: &mut BrokerSeat<OutSender<B>>,
+        ringers: &M,
         pending: Pending<B>,
     ) -> Step
         requires ring { seat.old.ring ≡ ring.now }
@@ -187,9 +188,11 @@ impl<B: Bell> Slot<B> {
         ensures lives { CarriesOut (to_append pending.entry.command) (pending.entry.command.op ∷ []) self.old seat.old self.new seat.new }
         ensures takes { TakesStep result seat.old seat.new self.new.pending }
     {
+        let window = ringers.window(pending.entry.command().op());
         let Pending { entry, said, taker } = pending;
-        match speak(ring, seat, &mut self.connection, entry, said) {
-            Ok(_) => {
+        match speak(ring, seat, &mut self.connection, entry, said, window) {
+            Ok(ticket) => {
+                ringers.appended(ticket);
                 if let Some(taker) = taker {
                     self.outbox = Some(taker);
                 }

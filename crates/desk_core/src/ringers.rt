@@ -1,5 +1,10 @@
 //! Where the bells of outboxes come from.
 
+ghost use Rattle.std.specs.Prelude.{◌≤◌};
+ghost use Rattle.claim_core.specs.declared.limits.TheConstants.{WINDOW};
+
+use claim_core::WINDOW;
+use command_core::Op;
 use outbox_core::{Bell, Silent};
 use std::alloc::AllocError;
 
@@ -8,6 +13,16 @@ use std::alloc::AllocError;
 pub trait Ringers<B: Bell> {
     /// A bell. If memory is refused, the worker asks again in its next turn.
     fn bell(&self) -> Result<B, AllocError>;
+
+    /// How many commands of the desk may be under way, with one of this operation that comes next: none while it has to wait for others.
+    fn window(&self, _op: &Op) -> usize
+        ensures { result ≤ WINDOW }
+    {
+        WINDOW
+    }
+
+    /// The command that was asked about last has got that ticket.
+    fn appended(&self, _ticket: u64) {}
 }
 
 impl Ringers<Silent> for Silent {

@@ -21,7 +21,7 @@ pub enum Next {
     Read,
     /// That its socket takes bytes again. Until then it no longer hears its client.
     Write,
-    /// A mark over this one: as many commands of its seat as may are not under it.
+    /// A mark over this one: its next command has no room yet.
     Room(u64),
     /// A mark over this one, which is the number of its next output.
     Output(u64),

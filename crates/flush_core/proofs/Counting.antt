@@ -1,14 +1,16 @@
 -- What is counted of a journal's backlog.
-use Rattle.std.proofs.Common.{◌≡◌, ◌<◌, ◌≤◌, ◌+◌, ◌*◌, ◌-◌, ◌++◌, ℕ, List, [], ◌∷◌, length, length-append, take, max, min, refl, sym, ◌∙◌, ap, subst, arith}
-use Rattle.std.proofs.lemmas.List.{append_assoc}
+use Rattle.std.proofs.Common.{◌≡◌, ◌<◌, ◌≤◌, ◌+◌, ◌*◌, ◌-◌, ◌++◌, ℕ, List, [], ◌∷◌, length, length-append, sum_by, take, get_or, max, min, refl, sym, ◌∙◌, ap, subst, arith}
+use Rattle.std.proofs.lemmas.List.{append_assoc, take_more}
+use Rattle.std.proofs.lemmas.List.Sums.{sum_by-append}
+use Rattle.command_core.specs.Entries.{EntryValue}
 use Rattle.command_core.specs.Commands.{CommandValue}
 use Rattle.command_core.specs.Outs.{OutValue}
 use Rattle.command_core.specs.Spellings.{record_of}
-use Rattle.area_core.specs.Areas.{records}
+use Rattle.area_core.specs.Areas.{commands, records}
 use Rattle.broker_core.specs.States.{State}
 use Rattle.broker_core.specs.Steps.{outs, outs_of, state_after, step}
 use Rattle.claim_core.specs.Seats.{FlushSeatValue, next_ticket, when_stopped, with_mark}
-use Rattle.flush_core.specs.Backlogs.{IsCounted, bulk, cost, cost_of, most_cost, most_counted}
+use Rattle.flush_core.specs.Backlogs.{IsCounted, bulk, cost, cost_of, most_cost, most_counted, steps_of}
 use Rattle.flush_core.specs.Batches.{between, from_on, state_at, with_more}
 use Rattle.flush_core.proofs.Taken.{at_between, at_more, between_more, between_none, from_front, take_further}
 
@@ -28,7 +30,21 @@ cost_append : (xs ys : List CommandValue) (s : State) → cost_of s (xs ++ ys) �
 cost_append xs ys s =
     let outs_are = ap (λ (l : List OutValue). length l) (outs_append xs ys s) in
     let bytes_are = ap (λ (l : List ℕ). length l) (records_append xs ys) in
-    omega (arith, outs_are, bytes_are, length-append xs ys, length-append (records xs) (records ys), length-append (outs_of s xs) (outs_of (state_after s xs) ys))
+    omega (arith, outs_are, bytes_are, sum_by-append steps_of xs ys, length-append (records xs) (records ys), length-append (outs_of s xs) (outs_of (state_after s xs) ys))
+
+-- the steps of entries
+abbrev pub entry_steps : {B : Type 0} → EntryValue B → ℕ
+entry_steps e = steps_of e.command
+
+pub steps_of_entries : {B : Type 0} (batch : List (EntryValue B)) → sum_by steps_of (commands batch) ≡ sum_by entry_steps batch
+steps_of_entries [] = refl
+steps_of_entries (e ∷ batch) = omega (arith, sum_by-append steps_of (e.command ∷ []) (commands batch), sum_by-append entry_steps (e ∷ []) batch, steps_of_entries batch)
+
+pub steps_more : {B : Type 0} (batch : List (EntryValue B)) (i : ℕ) (e : EntryValue B) → i < length batch → e ≡ get_or batch i e
+    → sum_by entry_steps (take (i + 1) batch) ≡ sum_by entry_steps (take i batch) + entry_steps e
+steps_more batch i e lt is =
+    let one : take (i + 1) batch ≡ take i batch ++ e ∷ [] = take_more batch i e lt ∙ ap (λ y. take i batch ++ y ∷ []) (sym is) in
+    omega (arith, ap (λ es. sum_by entry_steps es) one, sum_by-append entry_steps (take i batch) (e ∷ []))
 
 -- the commands between two numbers, and those up to a third
 between_both : (seat : FlushSeatValue) (low mid high : ℕ) → seat.base ≤ low → low ≤ mid → mid ≤ high → between seat low mid ++ between seat mid high ≡ between seat low high
@@ -40,9 +56,9 @@ between_both seat low mid high begun rises further =
     ∙ (take_further (mid - low) (high - mid) (from_on seat low) ∙ ap (λ (n : ℕ). take n (from_on seat low)) sum)
 
 -- what is counted of two, and of both
-sum_counted : (a commands bytes outs counted seen n : ℕ) → counted ≡ min a most_counted → seen ≡ min bytes most_counted → n ≡ min (counted + cost commands seen outs) most_counted
-    → n ≡ min (a + cost commands bytes outs) most_counted
-sum_counted a commands bytes outs counted seen n first second both = omega (arith, first, second, both)
+sum_counted : (a steps bytes outs counted some seen n : ℕ) → counted ≡ min a most_counted → some ≡ min steps most_counted → seen ≡ min bytes most_counted
+    → n ≡ min (counted + cost some seen outs) most_counted → n ≡ min (a + cost steps bytes outs) most_counted
+sum_counted a steps bytes outs counted some seen n first second third both = omega (arith, first, second, third, both)
 
 -- what is counted is under a bound that can be counted
 below : (cost counted many : ℕ) → counted ≡ min cost most_counted → counted < min (max many 64000000) 500000000 → cost < min (max many 64000000) 500000000
@@ -59,11 +75,11 @@ module _ (opening : State) (seat : FlushSeatValue) where
       subst (λ (n : ℕ). IsCounted opening seat since n 0) (sym same) (record { begun = begun; rises = omega arith; counted_is = omega (arith, nothing) })
 
   -- more is executed
-  pub counts_more : (since executed stored counted next commands bytes outs : ℕ) → executed ≤ stored
-      → commands ≡ length (between seat executed stored) → bytes ≡ min (length (records (between seat executed stored))) most_counted
+  pub counts_more : (since executed stored counted next steps bytes outs : ℕ) → executed ≤ stored
+      → steps ≡ min (sum_by steps_of (between seat executed stored)) most_counted → bytes ≡ min (length (records (between seat executed stored))) most_counted
       → outs ≡ length (outs_of (state_at opening seat executed) (between seat executed stored))
-      → next ≡ min (counted + cost commands bytes outs) most_counted → IsCounted opening seat since executed counted → IsCounted opening seat since stored next
-  counts_more since executed stored counted next commands bytes outs further commands_are bytes_are outs_are next_is was =
+      → next ≡ min (counted + cost steps bytes outs) most_counted → IsCounted opening seat since executed counted → IsCounted opening seat since stored next
+  counts_more since executed stored counted next steps bytes outs further steps_are bytes_are outs_are next_is was =
       let first = state_at opening seat since in
       let more = between seat executed stored in
       let all : cost_of first (between seat since stored) ≡ cost_of first (between seat since executed) + cost_of (state_at opening seat executed) (between seat executed stored) =
@@ -73,8 +89,8 @@ module _ (opening : State) (seat : FlushSeatValue) where
       record {
         begun = was.begun;
         rises = omega (arith, was.rises, further);
-        counted_is = sum_counted (cost_of first (between seat since executed)) (length more) (length (records more)) (length (outs_of (state_at opening seat executed) more)) counted bytes next was.counted_is bytes_are
-            (next_is ∙ (λ i. min (counted + cost (commands_are i) bytes (outs_are i)) most_counted))
+        counted_is = sum_counted (cost_of first (between seat since executed)) (sum_by steps_of more) (length (records more)) (length (outs_of (state_at opening seat executed) more)) counted steps bytes next was.counted_is steps_are bytes_are
+            (next_is ∙ (λ i. min (counted + cost steps bytes (outs_are i)) most_counted))
             ∙ ap (λ (n : ℕ). min n most_counted) (sym all);
       }
 

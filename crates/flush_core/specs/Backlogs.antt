@@ -1,6 +1,8 @@
 -- The backlog of a journal: what a start would have to repeat, and how much that may be.
-use Rattle.std.specs.Prelude.{◌≡◌, ◌≤◌, ◌<◌, ◌+◌, ◌*◌, ◌-◌, ◌^◌, ℕ, List, length, max, min}
+use Rattle.std.specs.Prelude.{◌≡◌, ◌≤◌, ◌<◌, ◌+◌, ◌*◌, ◌-◌, ◌^◌, ℕ, List, length, max, min, sum_by}
 use Rattle.command_core.specs.Commands.{CommandValue}
+use Rattle.command_core.specs.declared.command.Op.{Op}
+use Rattle.command_core.specs.declared.command.Op.TheVariants.{Commit, Subscribe}
 use Rattle.area_core.specs.Areas.{records}
 use Rattle.broker_core.specs.States.{State, held_bytes, held_messages}
 use Rattle.broker_core.specs.Steps.{outs_of}
@@ -8,14 +10,23 @@ use Rattle.claim_core.specs.Seats.{FlushSeatValue}
 use Rattle.flush_core.specs.Batches.{between, state_at}
 use Rattle.flush_core.specs.Flushed.{Flushed, state_stored}
 
--- What it costs to carry out so many commands, whose records have so many bytes, and which have so many outputs: about as many nanoseconds
--- of a processor.
-abbrev pub cost : (commands bytes outs : ℕ) → ℕ
-cost commands bytes outs = 1000 * commands + 3 * bytes + 1600 * outs
+-- How many steps an operation takes: a subscription is put in its place among all others, and each member of a transaction is carried out.
+abbrev pub steps_of_op : Op → ℕ
+steps_of_op (Subscribe id destination mode durable) = 10
+steps_of_op (Commit members) = 1 + length members
+steps_of_op _ = 1
+
+abbrev pub steps_of : CommandValue → ℕ
+steps_of c = steps_of_op c.op
+
+-- What it costs to carry out commands of so many steps, whose records have so many bytes, and which have so many outputs: about as many
+-- nanoseconds of a processor.
+abbrev pub cost : (steps bytes outs : ℕ) → ℕ
+cost steps bytes outs = 1000 * steps + 3 * bytes + 1600 * outs
 
 -- the cost of carrying out these commands, from that state on
 abbrev pub cost_of : State → List CommandValue → ℕ
-cost_of s cs = cost (length cs) (length (records cs)) (length (outs_of s cs))
+cost_of s cs = cost (sum_by steps_of cs) (length (records cs)) (length (outs_of s cs))
 
 -- about how many bytes a snapshot of that state has
 abbrev pub bulk : State → ℕ

@@ -1,15 +1,18 @@
 //! How much a start would have to repeat, and how much that may be.
 
-ghost use Rattle.std.specs.Prelude.{◌≡◌, ◌+◌, length, min};
+ghost use Rattle.std.specs.Prelude.{◌≡◌, ◌+◌, length, min, sum_by};
 ghost use Rattle.area_core.specs.Areas.{commands, records};
-ghost use Rattle.flush_core.specs.Backlogs.{bulk, cost, most_cost, most_counted};
+ghost use Rattle.flush_core.specs.Backlogs.{bulk, cost, most_cost, most_counted, steps_of, steps_of_op};
 
 use broker_core::Broker;
-use command_core::Entry;
+use command_core::{Entry, Op};
 
-// What a start takes to repeat a command, a byte of its record, and an output, in nanoseconds of a processor at 2.5 GHz. bench/README.md
-// has what was measured.
-const COMMAND: u64 = 1_000;
+// What a start takes to repeat a step of a command, a byte of its record, and an output, in nanoseconds of a processor at 2.5 GHz.
+// bench/README.md has what was measured.
+const STEP: u64 = 1_000;
+
+// How many steps a SUBSCRIBE takes, which is put in its place among all.
+const SUBSCRIBE_STEPS: u64 = 10;
 
 const BYTE: u64 = 3;
 
@@ -29,21 +32,42 @@ const ITEM: u64 = 64;
 
 const SUBSCRIPTION: u64 = 128;
 
-// What it costs to repeat so many commands, whose records have so many bytes, and which have so many outputs.
-fn cost(commands: u64, bytes: u64, outs: u64) -> u64
-    ensures { result ≡ min (cost commands bytes outs) most_counted }
+// What it costs to repeat commands of so many steps, whose records have so many bytes, and which have so many outputs.
+fn cost(steps: u64, bytes: u64, outs: u64) -> u64
+    ensures { result ≡ min (cost steps bytes outs) most_counted }
 {
-    COMMAND
-        .saturating_mul(commands)
+    STEP.saturating_mul(steps)
         .saturating_add(BYTE.saturating_mul(bytes))
         .saturating_add(OUTPUT.saturating_mul(outs))
 }
 
-/// What is counted, and what it costs to repeat so many commands more.
-pub(crate) fn count_more(counted: u64, commands: usize, bytes: u64, outs: usize) -> u64
-    ensures { result ≡ min (counted + cost commands bytes outs) most_counted }
+/// What is counted, and what it costs to repeat commands of so many steps more.
+pub(crate) fn count_more(counted: u64, steps: u64, bytes: u64, outs: usize) -> u64
+    ensures { result ≡ min (counted + cost steps bytes outs) most_counted }
 {
-    counted.saturating_add(cost(commands as u64, bytes, outs as u64))
+    counted.saturating_add(cost(steps, bytes, outs as u64))
+}
+
+/// How many steps the commands of these entries take.
+pub(crate) fn steps_of<B>(batch: &[Entry<B>]) -> u64
+    ensures { result ≡ min (sum_by steps_of (commands batch.now)) most_counted }
+{
+    let mut steps: u64 = 0;
+    for entry in batch {
+        steps = steps.saturating_add(steps_of_op(entry.command().op()));
+    }
+    steps
+}
+
+// How many steps an operation takes.
+fn steps_of_op(op: &Op) -> u64
+    ensures { result ≡ steps_of_op op.now }
+{
+    match op {
+        Op::Subscribe { .. } => SUBSCRIBE_STEPS,
+        Op::Commit(members) => 1 + members.as_slice().len() as u64,
+        _ => 1,
+    }
 }
 
 /// How many bytes the records of these entries have.

@@ -10,7 +10,7 @@ ghost use Rattle.flush_core.specs.Outcomes.{IsOutcome, executing};
 ghost use Rattle.flush_core.specs.Sessions.{ended_by, opened};
 
 use crate::FlushFault;
-use crate::backlog::{bytes_of, count_more};
+use crate::backlog::{bytes_of, count_more, steps_of};
 use crate::flusher::Flusher;
 use crate::outlet::Outlet;
 use crate::width::Width;
@@ -21,6 +21,8 @@ use disk_core::Disk;
 use outbox_core::{Bell, Boxes, OutSender};
 use std::alloc::{AllocError, Global};
 use std::mem::replace;
+use std::sync::Arc;
+use work_share::{Audiences, Sample};
 
 // Keeps the box that comes with a command of that number, if the command opens the session of that number.
 fn keep_box<B: Bell>(
@@ -109,6 +111,32 @@ fn execute_one<B: Bell>(
     Ok(())
 }
 
+// The same, and tells what that shows of a topic's audience.
+fn execute_telling<B: Bell>(
+    alloc: Global,
+    broker: &mut Broker,
+    entry: Entry<OutSender<B>>,
+    waiting: &mut Vec<Out>,
+    boxes: &mut Boxes<B>,
+    ended: &mut Vec<u64>,
+    audiences: &Option<Arc<Audiences>>,
+) -> Result<(), FlushFault>
+    requires whole { broker.old.broken ≡ false }
+    requires count { broker.old.state.count < 2 ^ 62 }
+    ensures state { OnOk result (broker.new ≡ record { state = step broker.old.state entry.command; broken = false }) }
+    ensures outs { OnOk result (waiting.new.items ≡ waiting.old.items ++ outs broker.old.state entry.command) }
+    ensures boxes { OnOk result (boxes.new ≡ opened boxes.old broker.old.state.count entry) }
+    ensures ended { OnOk result (ended.new.items ≡ ended.old.items ++ ended_by broker.old.state entry.command) }
+    ensures fault { IsMemory result }
+{
+    let (sample, waited) = (Sample::of(entry.command().op()), waiting.len());
+    execute_one(alloc, broker, entry, waiting, boxes, ended)?;
+    if let Some(audiences) = audiences {
+        audiences.carried_out(sample, waiting.len().saturating_sub(waited) as u64);
+    }
+    Ok(())
+}
+
 // The same for commands in turn.
 fn execute_each<B: Bell>(
     alloc: Global,
@@ -117,6 +145,7 @@ fn execute_each<B: Bell>(
     waiting: &mut Vec<Out>,
     boxes: &mut Boxes<B>,
     ended: &mut Vec<u64>,
+    audiences: &Option<Arc<Audiences>>,
 ) -> Result<(), FlushFault>
     requires whole { broker.old.broken ≡ false }
     requires count { broker.old.state.count + length batch.items ≤ 2 ^ 62 }
@@ -124,7 +153,7 @@ fn execute_each<B: Bell>(
     ensures fault { IsMemory result }
 {
     for entry in batch {
-        execute_one(alloc, broker, entry, waiting, boxes, ended)?;
+        execute_telling(alloc, broker, entry, waiting, boxes, ended, audiences)?;
     }
     Ok(())
 }
@@ -152,6 +181,7 @@ fn execute_all<B: Bell>(
         &mut outlet.waiting,
         &mut outlet.boxes,
         &mut outlet.ended,
+        &outlet.audiences,
     )?;
     outlet.make_room()?;
     Ok(())
@@ -192,12 +222,12 @@ impl<D: Disk, B: Bell, W: Width> Flusher<D, B, W> {
         ensures stops { OnErr result (HasStopped self.new) }
         ensures fault { NeedsNoDisk result }
     {
-        let (commands, bytes) = (self.done.len(), bytes_of(&self.done));
+        let (steps, bytes) = (steps_of(&self.done), bytes_of(&self.done));
         let waited = self.outlet.waiting.len();
         match execute_all(alloc, &mut self.broker, &mut self.done, &mut self.outlet) {
             Ok(()) => {
                 let outs = self.outlet.waiting.len().saturating_sub(waited);
-                self.counted = count_more(self.counted, commands, bytes, outs);
+                self.counted = count_more(self.counted, steps, bytes, outs);
                 self.executed = self.stored;
                 Ok(())
             }

@@ -11,6 +11,8 @@ use command_core::Out;
 use outbox_core::{Bell, Boxes, OutSender};
 use std::alloc::{AllocError, Global};
 use std::mem::{replace, swap};
+use std::sync::Arc;
+use work_share::Audiences;
 
 /// The boxes of sessions, and the outputs on their way there.
 #[derive(Drop)]
@@ -26,6 +28,8 @@ pub(crate) struct Outlet<B: Bell> {
     // Room for what goes to no box, for as long as a call of `give` lasts.
     pub(crate) spare: Vec<Out>,
     pub(crate) tally: Tally,
+    // What is told of topics, if somebody asked for that.
+    pub(crate) audiences: Option<Arc<Audiences>>,
 }
 
 impl<B: Bell> Outlet<B> {
@@ -43,6 +47,7 @@ impl<B: Bell> Outlet<B> {
             left: Vec::new(alloc),
             spare: Vec::new(alloc),
             tally: Tally::none(),
+            audiences: None,
         }
     }
 

@@ -15,6 +15,8 @@ use command_core::Out;
 use disk_core::Disk;
 use outbox_core::{Bell, OutSender};
 use std::mem::replace;
+use std::sync::Arc;
+use work_share::Audiences;
 
 impl<D: Disk, B: Bell, W: Width> Flusher<D, B, W> {
     /// Raises the mark to all that is stored, which each image of the disk holds. Then it gives each outbox the outputs of its session, in
@@ -32,6 +34,13 @@ impl<D: Disk, B: Bell, W: Width> Flusher<D, B, W> {
         ring.raise(&mut self.seat, self.stored);
         self.outlet.tally.add(&self.outlet.waiting);
         self.outlet.give(&self.seat);
+    }
+
+    /// Has it count from now on how many listen to each topic.
+    pub fn count_audiences(&mut self, audiences: Arc<Audiences>)
+        ensures { self.new ≡ self.old }
+    {
+        drop(self.outlet.audiences.replace(audiences));
     }
 
     /// How many outputs have been published so far.

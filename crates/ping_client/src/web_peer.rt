@@ -206,7 +206,7 @@ fn refusal_of<R: Clock + RandomSource + Drop>(
 
 // The request of the handshake. `None` if memory is refused.
 fn request_of(alloc: Global, port: u16) -> Option<Request<()>> {
-    let place = format!(in alloc; "ws://127.0.0.1:{port}/").ok()?;
+    let place = format!(in alloc; "ws://127.0.0.1:{port}/stompd-ping").ok()?;
     let request = Request::builder(alloc)
         .uri(place.as_str())
         .header("Sec-WebSocket-Protocol", "v12.stomp")

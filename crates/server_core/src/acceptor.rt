@@ -1,20 +1,24 @@
 //! Where clients come in, and how they are handed to desks.
 
 ghost use Rattle.std.specs.Prelude.{◌≡◌, [], IfSome, IsNone};
-ghost use Rattle.server_core.specs.Handing.{IsFewest};
+ghost use Rattle.server_core.specs.Handing.{IsFewest, vacancy};
 
 use crate::ending::Ending;
 use crate::log_thread::LogThread;
 use crate::mailbox::{Arrival, Mailbox};
 use claim_core::SEATS;
 use event_log::{Kind, ServeFault, Unopened};
-use std::net::{Net, TcpListener, TcpStream};
+use std::net::{Ipv4Addr, Net, SocketAddr, SocketAddrV4, TcpListener, TcpStream};
 use std::sync::{Arc, Wait};
-use std::thread;
 use std::time::{Clock, Duration};
+use std::{io, thread};
+use ws_core::Vacancy;
 
 /// For how many milliseconds nobody is accepted after accepting a client has failed.
 const REST: u64 = 20;
+
+/// How many places are kept for pings.
+const KEPT: u64 = 8;
 
 /// Where clients come in, the mailboxes of the desks that get them, and how many clients the server takes.
 #[derive(Drop)]
@@ -62,15 +66,21 @@ impl<R> Acceptor<R> {
     }
 }
 
-/// Opens the port at 127.0.0.1. `Port` if the system refuses it.
-pub(crate) fn listen<R: Net<Listener = TcpListener, Stream = TcpStream>>(
-    net: &R,
-    port: u16,
-) -> Result<TcpListener, ServeFault> {
-    match TcpListener::bind(net, ("127.0.0.1", port)) {
+/// Opens the port at 127.0.0.1. `Port` if the system refuses it. So many clients may wait there as the system lets: the standard library's
+/// listener has room for 128, and the others would try again after a second.
+pub(crate) fn listen<R: Net>(net: &R, port: u16) -> Result<TcpListener, ServeFault> {
+    let address = SocketAddr::V4(SocketAddrV4::new(Ipv4Addr::LOCALHOST, port));
+    match bind(net, address) {
         Ok(listener) => Ok(listener),
         Err(error) => Err(ServeFault::Port(Unopened::by(error.kind()))),
     }
+}
+
+// The port as a listener that waits for clients.
+fn bind<R: Net>(net: &R, address: SocketAddr) -> io::Result<TcpListener> {
+    let listener = TcpListener::from(mio::net::TcpListener::bind(net, address)?);
+    listener.set_nonblocking(false)?;
+    Ok(listener)
 }
 
 impl<R: Wait + Clock> Acceptor<R> {
@@ -89,17 +99,30 @@ impl<R: Wait + Clock> Acceptor<R> {
         }
     }
 
-    // Hands a client to the desk that has the fewest. If as many are there as the server takes, the client is only to hear that.
+    // Hands a client to the desk that has the fewest. If as many are there as the server takes, all but a ping only hear that.
     fn hand_out(&self, socket: TcpStream) {
         let mut counts = [0u64; SEATS];
         let total = count(&self.mailboxes, &mut counts);
         let workers = self.mailboxes.len().min(SEATS);
-        let is_full = total >= self.most_clients;
         let Some(at) = fewest(&counts[..workers]) else {
             drop(socket);
             return;
         };
-        self.mailboxes[at].hand(&self.rt, Arrival { socket, is_full });
+        let vacancy = vacancy(total, self.most_clients);
+        self.mailboxes[at].hand(&self.rt, Arrival { socket, vacancy });
+    }
+}
+
+// Whom the server has a place for if it has so many clients, and takes no more than that.
+fn vacancy(clients: u64, most: u64) -> Vacancy
+    ensures { result ≡ vacancy clients most }
+{
+    if clients < most {
+        Vacancy::Any
+    } else if clients - most < KEPT {
+        Vacancy::Ping
+    } else {
+        Vacancy::Nobody
     }
 }
 

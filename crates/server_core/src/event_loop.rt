@@ -203,11 +203,12 @@ impl<'a, R: Wait + Clock + Drop> EventLoop<'a, R> {
         self.services.iter().any(|service| service.is_ready())
     }
 
-    // Gives those that stand in line their turns.
+    // Gives those that stand in line their turns, and then those that go on by themselves, at whichever desk they are.
     fn serve(&mut self)
         ensures { self.new ≡ self.old }
     {
         pass_all(&mut self.services);
+        pass_again_all(&mut self.services);
     }
 }
 
@@ -327,6 +328,15 @@ fn pass_all<R: Wait + Clock + Drop>(services: &mut Vec<Service<'_, R>>)
 {
     for desk in 0..services.len() {
         services[desk].pass();
+    }
+}
+
+fn pass_again_all<R: Wait + Clock + Drop>(services: &mut Vec<Service<'_, R>>)
+    ensures ring { (ring : TableId) → AreServed ring services.old.items → AreServed ring services.new.items }
+    ensures count { vec_len services.new ≡ vec_len services.old }
+{
+    for desk in 0..services.len() {
+        services[desk].pass_again();
     }
 }
 

@@ -44,6 +44,9 @@ impl<'a, R: Wait + Clock + Drop> Service<'a, R> {
             self.shared.wakeups.log().count(Kind::TookMost);
             self.desk.lose(number);
             self.clients.wake(number);
+        } else if self.is_greeted(number) {
+            self.shared.wakeups.log().count(Kind::TookMost);
+            self.leave(number);
         }
         if self.shared.memory.is_over() {
             self.shared.wakeups.ring_all();

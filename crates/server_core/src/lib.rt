@@ -9,6 +9,7 @@ mod doorbell;
 mod ending;
 mod entrance;
 mod event_loop;
+mod greeting;
 mod keeping;
 mod log_thread;
 mod mailbox;

@@ -1,18 +1,22 @@
 //! What others know of a worker's desk: where its clients come in, and which were called for.
 
-ghost use Rattle.std.specs.Prelude.{◌≡◌, IfOk};
+ghost use Rattle.std.specs.Prelude.{◌≡◌, ◌≤◌, IfOk};
 ghost use Rattle.std.specs.Arc.{arc_value};
+ghost use Rattle.claim_core.specs.declared.limits.TheConstants.{WINDOW};
 ghost use Rattle.server_core.specs.Bells.{called_by, called_for};
 
 use crate::calls::{Called, Calls};
 use crate::doorbell::Doorbell;
+use command_core::Op;
 use crossbeam_queue::ArrayQueue;
-use desk_core::Ringers;
+use desk_core::{Next, Ringers, Turned};
 use outbox_core::Bell;
 use std::alloc::{AllocError, Global};
 use std::net::TcpStream;
 use std::sync::atomic::{AtomicU64, Ordering};
 use std::sync::{Arc, Wait};
+use work_share::Pace;
+use ws_core::Vacancy;
 
 /// How many sockets wait at most to be looked at by one desk's worker.
 const ARRIVALS: usize = 512;
@@ -21,7 +25,7 @@ const ARRIVALS: usize = 512;
 #[derive(Drop)]
 pub(crate) struct Arrival {
     pub(crate) socket: TcpStream,
-    pub(crate) is_full: bool,
+    pub(crate) vacancy: Vacancy,
 }
 
 /// What others know of a worker's desk.
@@ -133,6 +137,33 @@ impl Bell for BellRope {
 pub(crate) struct Ropes<'a> {
     pub(crate) mailbox: &'a Arc<Mailbox>,
     pub(crate) client: usize,
+    pub(crate) pace: &'a Pace,
+    // The mark when its turns began.
+    pub(crate) mark: u64,
+}
+
+impl Ropes<'_> {
+    /// What the turns came to. A client that waits for room does so over the mark when they began: others whose commands it waited for may
+    /// have had theirs published since. If it waits for others, it doesn't stand before its neighbours.
+    pub(crate) fn since(&self, turned: Turned) -> Turned {
+        let Turned {
+            appended,
+            heard,
+            next,
+        } = turned;
+        let next = match next {
+            Next::Room(mark) if self.pace.waits(self.mailbox.desk) => {
+                Next::Output(mark.min(self.mark))
+            }
+            Next::Room(mark) => Next::Room(mark.min(self.mark)),
+            other => other,
+        };
+        Turned {
+            appended,
+            heard,
+            next,
+        }
+    }
 }
 
 impl Ringers<BellRope> for Ropes<'_> {
@@ -143,5 +174,15 @@ impl Ringers<BellRope> for Ropes<'_> {
             mailbox: self.mailbox.clone()?,
             client: self.client,
         })
+    }
+
+    fn window(&self, op: &Op) -> usize
+        ensures { result ≤ WINDOW }
+    {
+        self.pace.window(self.mailbox.desk, op, self.mark)
+    }
+
+    fn appended(&self, ticket: u64) {
+        self.pace.appended(self.mailbox.desk, ticket, self.mark);
     }
 }

@@ -15,7 +15,7 @@ use std::alloc::Global;
 use std::io;
 use std::sync::{Arc, Wait};
 use std::time::Clock;
-use ws_core::{Greeted, Greeting, Outgoing, Refusal, WsLink};
+use ws_core::{Greeting, Outgoing, WsLink};
 
 /// How many turns a client has one after another at most.
 const TURNS: u32 = 8;
@@ -28,7 +28,7 @@ type ClientDesk = Desk<BellRope, WsLink<ReadBudget<TcpStream>>>;
 /// A desk of a worker, and its clients.
 #[derive(Drop)]
 pub(crate) struct Service<'a, R: Drop> {
-    alloc: Global,
+    pub(crate) alloc: Global,
     pub(crate) shared: &'a Shared<R>,
     pub(crate) mailbox: Arc<Mailbox>,
     // Which of its worker's desks it is: its clients' sockets are registered so.
@@ -36,10 +36,12 @@ pub(crate) struct Service<'a, R: Drop> {
     pub(crate) desk: ClientDesk,
     pub(crate) clients: Clients,
     // The moment of this round, in milliseconds of the worker's watch.
-    now: u64,
+    pub(crate) now: u64,
     pub(crate) held: Held,
+    // How many of its clients went on by themselves when this round began.
+    going_on: usize,
     // Whether it parts with its clients, since the server ends.
-    parting: bool,
+    pub(crate) parting: bool,
     ghost at_ring: { desk.seat.ring ≡ shared.now.ring },
 }
 
@@ -75,6 +77,7 @@ impl<'a, R: Wait + Clock + Drop> Service<'a, R> {
             clients,
             now: 0,
             held: Held::new(),
+            going_on: 0,
             parting: false,
         }
     }
@@ -92,6 +95,7 @@ impl<'a, R: Wait + Clock + Drop> Service<'a, R> {
             clients,
             now: _,
             held,
+            going_on: _,
             parting: _,
         } = self;
         drop(held);
@@ -105,9 +109,9 @@ impl<'a, R: Wait + Clock + Drop> Service<'a, R> {
         self.mailbox.clients() == 0
     }
 
-    /// Whether a client stands in line for a turn.
+    /// Whether a client stands in line for a turn, or goes on by itself.
     pub(crate) fn is_ready(&self) -> bool {
-        self.clients.count_ready() > 0
+        self.clients.count_ready() > 0 || self.clients.count_again() > 0
     }
 
     /// Whether a client waits for the mark.
@@ -142,6 +146,7 @@ impl<'a, R: Wait + Clock + Drop> Service<'a, R> {
         ensures shared { self.new.shared ≡ self.old.shared }
     {
         self.now = now;
+        self.going_on = self.clients.count_again();
         if was_rung {
             self.hear_calls(registry);
         }
@@ -217,20 +222,16 @@ impl<'a, R: Wait + Clock + Drop> Service<'a, R> {
             drop(arrival);
             return Err(io::Error::from(io::ErrorKind::OutOfMemory));
         };
-        let Arrival { socket, is_full } = arrival;
+        let Arrival { socket, vacancy } = arrival;
         socket.set_nodelay(true)?;
         socket.set_nonblocking(true)?;
         let mut stream = TcpStream::from_std(socket);
         let interests = Interest::READABLE | Interest::WRITABLE;
         let token = token_of(self.number, number);
         registry.register(&mut stream, token, interests)?;
-        let stream = ReadBudget::new(stream);
+        let stream = ReadBudget::new(self.alloc, stream);
         let origins = self.shared.origins.clone()?;
-        let greeting = if is_full {
-            Greeting::full(self.alloc, stream, origins)
-        } else {
-            Greeting::new(self.alloc, stream, origins)
-        };
+        let greeting = Greeting::begin(self.alloc, stream, origins, vacancy);
         self.clients.admit(greeting, self.now)?;
         Ok(())
     }
@@ -276,7 +277,9 @@ impl<'a, R: Wait + Clock + Drop> Service<'a, R> {
                 self.clients.wake(number);
             }
             Due::GivenUp => {
-                self.shared.wakeups.log().count(Kind::Unopened);
+                if self.is_greeted(number) {
+                    self.shared.wakeups.log().count(Kind::Unopened);
+                }
                 self.leave(number);
             }
             _ => {}
@@ -320,6 +323,19 @@ impl<'a, R: Wait + Clock + Drop> Service<'a, R> {
         }
     }
 
+    /// The same for each client that went on by itself when the round began. What this round's turns leave to be done is the next round's:
+    /// whom the poll tells of then comes first.
+    pub(crate) fn pass_again(&mut self)
+        ensures shared { self.new.shared ≡ self.old.shared }
+    {
+        for _client in 0..self.going_on {
+            if let Some((number, standing)) = self.clients.next_again() {
+                self.give_turn(number, standing);
+            }
+            self.let_in();
+        }
+    }
+
     // Gives a turn to those that the mark lets in, each once at most. The mark is the ring's own: it rises before the wakeups tell of it,
     // and by the same mark others find room.
     fn let_in(&mut self)
@@ -350,6 +366,7 @@ impl<'a, R: Wait + Clock + Drop> Service<'a, R> {
         match standing {
             Standing::Seated => self.turn(number),
             Standing::Greeting(greeting) => self.greet(number, greeting),
+            Standing::Refused(farewell) => self.drop_some(number, farewell),
             Standing::Away => {}
         }
     }
@@ -358,14 +375,18 @@ impl<'a, R: Wait + Clock + Drop> Service<'a, R> {
     fn turn(&mut self, number: usize)
         ensures shared { self.new.shared ≡ self.old.shared }
     {
+        let mark = self.desk.look(&self.shared.ring);
         let ropes = Ropes {
             mailbox: &self.mailbox,
             client: number,
+            pace: &self.shared.pace,
+            mark,
         };
         let desk = &mut self.desk;
         let Some(turned) = take_turns(self.alloc, &self.shared.ring, desk, &ropes) else {
             return;
         };
+        let turned = ropes.since(turned);
         if turned.appended {
             self.shared.wakeups.wake_flusher();
         }
@@ -410,34 +431,8 @@ impl<'a, R: Wait + Clock + Drop> Service<'a, R> {
         }
     }
 
-    // Goes on with a client's handshake. Once it has its WebSocket, it sits at the desk.
-    fn greet(&mut self, number: usize, greeting: Greeting<ReadBudget<TcpStream>>)
-        ensures shared { self.new.shared ≡ self.old.shared }
-    {
-        match greeting.greet(self.alloc) {
-            Greeted::Waits(greeting) if self.parting => {
-                drop(greeting);
-                self.leave(number);
-            }
-            Greeted::Waits(greeting) => {
-                let has_rest = greeting.stream().flow().has_rest;
-                self.clients
-                    .stand(number, Standing::Greeting(greeting), has_rest);
-            }
-            Greeted::Accepted(link) => match self.desk.admit(self.alloc, number, link) {
-                Ok(()) => self.clients.stand(number, Standing::Seated, true),
-                Err(_) => self.leave(number),
-            },
-            Greeted::Refused(refusal) => {
-                self.shared.wakeups.log().count(kind_of(refusal));
-                self.leave(number);
-            }
-            Greeted::Failed(_) => self.leave(number),
-        }
-    }
-
     // Lets a client go.
-    fn leave(&mut self, number: usize)
+    pub(crate) fn leave(&mut self, number: usize)
         ensures shared { self.new.shared ≡ self.old.shared }
     {
         self.count(number, 0);
@@ -477,18 +472,4 @@ fn take_turns(
         heard,
         next: last.next,
     })
-}
-
-// What is counted of a refusal.
-fn kind_of(refusal: Refusal) -> Kind {
-    match refusal {
-        Refusal::Malformed => Kind::Malformed,
-        Refusal::OtherProtocol => Kind::OtherProtocol,
-        Refusal::Foreign => Kind::Foreign,
-        Refusal::Method => Kind::Method,
-        Refusal::NoUpgrade => Kind::NoUpgrade,
-        Refusal::Version => Kind::Version,
-        Refusal::TooLarge => Kind::TooLarge,
-        Refusal::Full => Kind::Full,
-    }
 }

@@ -30,6 +30,7 @@ use std::marker::Model;
 use std::net::{Net, TcpListener, TcpStream};
 use std::sync::{Arc, Wait};
 use std::time::Clock;
+use work_share::Pace;
 
 pub(crate) type ServerHub = Hub<FileDisk, BellRope>;
 
@@ -148,20 +149,23 @@ impl<R: Wait + Clone + Drop> Server<R> {
                 return Err(fault);
             }
         }
-        let flusher = hub.flusher().unwrap();
+        let mut flusher = hub.flusher().unwrap();
         let (ring, room) = hub.into_ring();
         let port = entrance.port;
         match share(alloc, rt, ring, entrance, flusher.mark()) {
-            Ok((shared, acceptor, setups)) => Ok(Server {
-                shared,
-                port,
-                acceptor,
-                seats,
-                setups,
-                room,
-                flusher,
-                workers: Vec::new(alloc),
-            }),
+            Ok((shared, acceptor, setups)) => {
+                count_audiences(&shared, &mut flusher)?;
+                Ok(Server {
+                    shared,
+                    port,
+                    acceptor,
+                    seats,
+                    setups,
+                    room,
+                    flusher,
+                    workers: Vec::new(alloc),
+                })
+            }
             Err(fault) => {
                 drop(seats);
                 drop(room);
@@ -342,6 +346,7 @@ fn share<R: Wait + Clone + Drop>(
         origins,
         wakeups,
         memory,
+        pace: Pace::new(alloc, SEATS)?,
     };
     let shared = shared_by(alloc, shared)?;
     Ok((shared, acceptor, setups))
@@ -356,6 +361,14 @@ fn tell_figures<R: Wait>(shared: &Shared<R>, flusher: &ServerFlusher, commands: 
     if shared.wakeups.has_compacted() && used / 3 > area / 4 {
         log.note(&shared.rt, Event::NearlyFull { used, area });
     }
+}
+
+// The flusher counts from now on how many listen to each topic.
+fn count_audiences<R>(shared: &Shared<R>, flusher: &mut ServerFlusher) -> Result<(), ServeFault>
+    ensures { flusher.new ≡ flusher.old }
+{
+    flusher.count_audiences(shared.pace.audiences()?);
+    Ok(())
 }
 
 // The value, for several threads.

@@ -7,6 +7,7 @@ use claim_core::{BrokerRing, BrokerSeat};
 use outbox_core::OutSender;
 use std::sync::Arc;
 use std::time::Clock;
+use work_share::Pace;
 
 pub(crate) type ServerRing = BrokerRing<OutSender<BellRope>>;
 
@@ -21,6 +22,7 @@ pub struct Shared<R> {
     pub(crate) origins: Arc<Vec<Vec<u8>>>,
     pub(crate) wakeups: Wakeups<R>,
     pub(crate) memory: Memory,
+    pub(crate) pace: Pace,
 }
 
 impl<R: Clock> Shared<R> {

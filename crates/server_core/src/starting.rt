@@ -259,11 +259,13 @@ fn finish<R: Drop>(
                 origins,
                 wakeups,
                 memory,
+                pace,
             } = shared;
             drop(rt);
             drop(origins);
             drop(wakeups);
             drop(memory);
+            drop(pace);
             close(ring, room, all, flusher)
         }
         (_, shared) => {

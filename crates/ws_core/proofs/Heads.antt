@@ -6,7 +6,7 @@ use Rattle.httparse.specs.declared.spans.RequestSpans.{RequestSpans}
 use Rattle.websocket.specs.Headers.{Fields, fields_of}
 use Rattle.ws_core.specs.declared.answer.Answer.{Answer}
 use Rattle.ws_core.specs.declared.answer.Answer.TheVariants.{Accept, Refuse}
-use Rattle.ws_core.specs.Greetings.{Greeter, Tells, answer_at}
+use Rattle.ws_core.specs.Greetings.{Greeter, Tells, answer_at, shuts_out}
 use Rattle.ws_core.specs.Handshakes.{IsAccepted, IsAnswer, IsAnswerTo, IsHead, accepting, as_refusal}
 
 -- the parts of a head that were found are the head's
@@ -45,7 +45,7 @@ module _ {S : Type 0} (remaining contents : S → Option (List ℕ)) where
   -- and gets the response that says so
   pub accepted : (g : Greeter S) (head : List ℕ) (new : S) (accept_key : List ℕ) (has_stomp : Bool)
       → Tells remaining contents g head new (Accept accept_key has_stomp) (accepting accept_key has_stomp)
-      → IsAccepted remaining contents g.origins g.opening new × (g.is_full ≡ false)
+      → (given : IsAccepted remaining contents g.origins g.opening new) × (shuts_out g.vacancy given.bytes ≡ false)
   accepted g head new accept_key has_stomp tells =
-      let is = accepts g.is_full tells.given accept_key has_stomp tells.is in
+      let is = accepts (shuts_out g.vacancy head) tells.given accept_key has_stomp tells.is in
       (record { between = tells.between; bytes = head; accept_key = accept_key; has_stomp = has_stomp; read = tells.read; head = accepted_head g.origins head tells.given accept_key has_stomp tells.answered is.1; written = tells.wrote }, is.0)

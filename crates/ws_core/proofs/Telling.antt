@@ -4,8 +4,8 @@ use Rattle.std.specs.Io.KnownBytes.{Appends, Consumes}
 use Rattle.std.proofs.lemmas.List.{append-nil, take_all}
 use Rattle.ws_core.specs.declared.answer.Answer.{Answer}
 use Rattle.ws_core.specs.declared.saying.Saying.{Saying}
-use Rattle.ws_core.specs.Greetings.{Greeter, IsUnderWay, Says, Tells, answer_at}
-use Rattle.ws_core.specs.Handshakes.{IsAnswerTo, ReadsOn, WritesOn, response_to}
+use Rattle.ws_core.specs.Greetings.{Greeter, IsUnderWay, Says, Tells, answer_at, shuts_out}
+use Rattle.ws_core.specs.Handshakes.{IsAnswerTo, ReadsOn, WritesOn, is_head, response_to}
 
 appends_nothing : (held : Option (List ℕ)) → Appends held held []
 appends_nothing None = tt
@@ -20,8 +20,8 @@ module _ {S : Type 0} (remaining contents : S → Option (List ℕ)) where
   -- the head is whole, and its answer begins
   pub begins : (g : Greeter S) (head more : List ℕ) (stream now : S) (was : Option Saying) (saying : Saying) (named : List (List ℕ)) (heard : Option Answer) (given : Answer)
       → IsUnderWay remaining contents g head stream was → is_some was ≡ false → ReadsOn (remaining stream) (remaining now) head more
-      → IfSome heard (IsAnswerTo named more) → heard ≡ Some given → named ≡ g.origins → saying.answer ≡ answer_at g.is_full given → saying.said ≡ 0
-      → saying.response.items ≡ response_to saying.answer → Says remaining contents g more now saying
+      → IfSome heard (IsAnswerTo named more) → heard ≡ Some given → named ≡ g.origins → saying.answer ≡ answer_at (shuts_out g.vacancy more) given → saying.said ≡ 0
+      → saying.response.items ≡ response_to (is_head more) saying.answer → Says remaining contents g more now saying
   begins g head more stream now was saying named heard given under none reads answered one origins is said response =
       record {
         within = subst (λ n. n ≤ length saying.response.items) (sym said) (omega arith);
@@ -55,9 +55,9 @@ module _ {S : Type 0} (remaining contents : S → Option (List ℕ)) where
   pub told : (g : Greeter S) (head : List ℕ) (stream now : S) (saying after : Saying) (was : Option Saying)
       → IsUnderWay remaining contents g head stream was → was ≡ Some saying → after.answer ≡ saying.answer → after.response ≡ saying.response
       → WritesOn (contents stream) (contents now) (take saying.said saying.response.items) (take after.said after.response.items)
-      → after.said ≡ length after.response.items → Tells remaining contents g head now after.answer (response_to after.answer)
+      → after.said ≡ length after.response.items → Tells remaining contents g head now after.answer (response_to (is_head head) after.answer)
   told g head stream now saying after was under is same response writes all =
       let says : Says remaining contents g head stream saying = subst (IsUnderWay remaining contents g head stream) is under in
-      let whole : take after.said after.response.items ≡ response_to after.answer =
-      take_all after.said after.response.items (omega (arith, all)) ∙ (ap (λ r. r.items) response ∙ (says.response ∙ ap response_to (sym same))) in
+      let whole : take after.said after.response.items ≡ response_to (is_head head) after.answer =
+      take_all after.said after.response.items (omega (arith, all)) ∙ (ap (λ r. r.items) response ∙ (says.response ∙ ap (response_to (is_head head)) (sym same))) in
       subst (Tells remaining contents g head now after.answer) whole (wrote g head stream now saying after says same writes)

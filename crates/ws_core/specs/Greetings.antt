@@ -1,23 +1,36 @@
 -- A handshake that goes on from call to call.
-use Rattle.std.specs.Prelude.{◌≡◌, ◌≤◌, ℕ, List, Bool, false, Option, None, Some, cond, length, take, ⊤}
+use Rattle.std.specs.Prelude.{◌≡◌, ◌≤◌, ℕ, List, Bool, codes, false, true, nat_eq, not, Option, None, Some, cond, length, take, ⊤}
+use Rattle.std.specs.List.{starts_with}
 use Rattle.std.specs.Io.KnownBytes.{Appends, Consumes}
 use Rattle.ws_core.specs.declared.answer.Answer.{Answer}
 use Rattle.ws_core.specs.declared.answer.Answer.TheVariants.{Refuse}
 use Rattle.ws_core.specs.declared.saying.Saying.{Saying}
-use Rattle.ws_core.specs.Handshakes.{IsAnswerTo, as_full, response_to}
+use Rattle.ws_core.specs.declared.vacancy.Vacancy.{Vacancy}
+use Rattle.ws_core.specs.declared.vacancy.Vacancy.TheVariants.{Any, Ping, Nobody}
+use Rattle.ws_core.specs.Handshakes.{IsAnswerTo, as_full, is_head, response_to}
 
--- The stream as it was given, the origins whose pages are served, and whether the server takes no more clients.
+-- the head is that of a ping
+abbrev pub is_ping : List ℕ → Bool
+is_ping head = starts_with nat_eq head (codes "GET /stompd-ping ")
+
+-- a client with this head finds no place
+abbrev pub shuts_out : Vacancy → List ℕ → Bool
+shuts_out Any head = false
+shuts_out Ping head = not (is_ping head)
+shuts_out Nobody head = true
+
+-- The stream as it was given, the origins whose pages are served, and whom the server has a place for.
 pub record Greeter (S : Type 0) : Type 0 where
   pub opening : S
   pub origins : List (List ℕ)
-  pub is_full : Bool
+  pub vacancy : Vacancy
 
-abbrev pub greeter : {S : Type 0} → S → List (List ℕ) → Bool → Greeter S
-greeter opening origins is_full = record { opening = opening; origins = origins; is_full = is_full }
+abbrev pub greeter : {S : Type 0} → S → List (List ℕ) → Vacancy → Greeter S
+greeter opening origins vacancy = record { opening = opening; origins = origins; vacancy = vacancy }
 
--- the answer, unless the server takes no more clients
+-- the answer, unless the client finds no place
 abbrev pub answer_at : Bool → Answer → Answer
-answer_at is_full answer = cond is_full (as_full answer) answer
+answer_at is_shut_out answer = cond is_shut_out (as_full answer) answer
 
 module _ {S : Type 0} (remaining contents : S → Option (List ℕ)) where
   -- The stream gave these bytes, and is answered so; then this was written.
@@ -26,13 +39,13 @@ module _ {S : Type 0} (remaining contents : S → Option (List ℕ)) where
     pub read : Consumes (remaining g.opening) (remaining between) head
     pub given : Answer
     pub answered : IsAnswerTo g.origins head given
-    pub is : answer ≡ answer_at g.is_full given
+    pub is : answer ≡ answer_at (shuts_out g.vacancy head) given
     pub wrote : Appends (contents between) (contents new) written
 
   -- so much of the response was written
   pub record Says (g : Greeter S) (head : List ℕ) (new : S) (saying : Saying) : Type 0 where
     pub within : saying.said ≤ length saying.response.items
-    pub response : saying.response.items ≡ response_to saying.answer
+    pub response : saying.response.items ≡ response_to (is_head head) saying.answer
     pub tells : Tells g head new saying.answer (take saying.said saying.response.items)
 
   -- All that the stream gave is kept, until it has an answer; from then on only that is written.

@@ -1,8 +1,8 @@
 -- What a client that asks for a WebSocket is answered (RFC 6455, section 4.2).
-use Rattle.std.specs.Prelude.{◌≡◌, ◌⊎◌, ◌<◌, ◌==◌, ◌||◌, ◌++◌, [], ℕ, List, Bool, true, false, Option, Result, Ok, Err, cond, codes, length, map, not, bytes_eq}
+use Rattle.std.specs.Prelude.{◌≡◌, ◌⊎◌, ◌<◌, ◌==◌, ◌||◌, ◌++◌, [], ℕ, List, Bool, true, false, Option, Result, Ok, Err, cond, codes, length, map, nat_eq, not, bytes_eq}
 use Rattle.std.specs.Fmt.{decimal}
 use Rattle.std.specs.Io.KnownBytes.{Appends, Consumes}
-use Rattle.std.specs.List.{list_all, list_any}
+use Rattle.std.specs.List.{list_all, list_any, starts_with}
 use Rattle.httparse.specs.Grammar.{RequestHead, ReadsRequest, NeverHasRequest}
 use Rattle.httparse.specs.Spans.{RequestExceeds, name_and_value}
 use Rattle.websocket.specs.Handshake.{Answers, requested_key}
@@ -72,7 +72,7 @@ pub record IsHead (origins : List (List ℕ)) (bytes : List ℕ) (answer : Answe
 
 -- a head of more bytes or fields than are read
 abbrev pub IsTooLarge : List ℕ → Type 0
-IsTooLarge bytes = (65536 < length bytes) ⊎ RequestExceeds 124 bytes
+IsTooLarge bytes = (16384 < length bytes) ⊎ RequestExceeds 124 bytes
 
 -- what is answered to these bytes of a client
 abbrev pub IsAnswerTo : List (List ℕ) → List ℕ → Answer → Type 0
@@ -118,11 +118,19 @@ body_of Version = codes "This server speaks version 13 of WebSocket alone.\n"
 body_of TooLarge = codes "The head of this request is too large.\n"
 body_of Full = codes "This server has as many clients as it takes.\n"
 
+-- the bytes begin a HEAD, whose answer has no content (RFC 9110, section 9.3.2)
+abbrev pub is_head : List ℕ → Bool
+is_head bytes = starts_with nat_eq bytes (codes "HEAD ")
+
+-- what is sent of its text
+abbrev pub content_of : Bool → Refusal → List ℕ
+content_of is_head refusal = cond is_head [] (body_of refusal)
+
 -- the whole response
-abbrev pub refusal_bytes : Refusal → List ℕ
-refusal_bytes refusal =
+abbrev pub refusal_bytes : Bool → Refusal → List ℕ
+refusal_bytes is_head refusal =
     codes "HTTP/1.1 " ++ (status_line refusal ++ (codes "\r\n" ++ (further_fields refusal
-    ++ (codes "Content-Type: text/plain\r\nContent-Length: " ++ (decimal (length (body_of refusal)) ++ (codes "\r\n\r\n" ++ body_of refusal))))))
+    ++ (codes "Content-Type: text/plain\r\nContent-Length: " ++ (decimal (length (body_of refusal)) ++ (codes "\r\n\r\n" ++ content_of is_head refusal))))))
 
 -- the response that says that the WebSocket is there (RFC 6455, section 4.2.2), with the subprotocol if the client offers it
 abbrev pub accepting : List ℕ → Bool → List ℕ
@@ -133,10 +141,10 @@ accepting accept_key has_stomp =
     ++ field_line (codes "sec-websocket-accept") accept_key
     ++ cond has_stomp (field_line (codes "sec-websocket-protocol") (codes "v12.stomp")) [] ++ crlf
 
--- what is written to a client that is answered so
-abbrev pub response_to : Answer → List ℕ
-response_to (Accept accept_key has_stomp) = accepting accept_key has_stomp
-response_to (Refuse refusal) = refusal_bytes refusal
+-- what is written to a client that is answered so, and that asked by a HEAD or did not
+abbrev pub response_to : Bool → Answer → List ℕ
+response_to is_head (Accept accept_key has_stomp) = accepting accept_key has_stomp
+response_to is_head (Refuse refusal) = refusal_bytes is_head refusal
 
 -- Reads took on: if a stream had lost this head in all before them, it has lost that one now.
 abbrev pub ReadsOn : Option (List ℕ) → Option (List ℕ) → List ℕ → List ℕ → Type 0

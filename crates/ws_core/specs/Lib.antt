@@ -7,5 +7,6 @@ pub mod Limits
 pub mod Links
 pub mod Memory
 pub mod Offers
+pub mod Pieces
 pub mod Receiving
 pub mod Sending

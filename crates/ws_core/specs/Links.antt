@@ -1,6 +1,6 @@
 -- What a link holds.
 use Rattle.std.specs.Prelude.{◌≡◌, ◌⊎◌, ◌==◌, ℕ, Bool, false, Option, Some, List, [], cond, refl, ⊤}
-use Rattle.std.specs.Coded.{Coded, code_by, coded×, coded_bool, coded_ℕ}
+use Rattle.std.specs.Coded.{Coded, code_by, coded×, coded_bool, coded_list, coded_ℕ}
 use Rattle.websocket.specs.declared.protocol.config.Role.TheVariants.{Server}
 use Rattle.tungstenite.specs.Connection.{close_step}
 use Rattle.tungstenite.specs.Socket.{Socket, socket_code, IsFresh, Writes}
@@ -9,13 +9,14 @@ use Rattle.ws_core.specs.declared.phase.Phase.{Phase}
 use Rattle.ws_core.specs.declared.phase.Phase.TheVariants.{Open, Closing, Failed, Shut, Over}
 use Rattle.ws_core.specs.Closing.{close_of}
 
--- A WebSocket, how far the link has come, whether the stream has not taken all that it was last offered, and how many bytes were
--- dropped after the close.
+-- A WebSocket, how far the link has come, whether the stream has not taken all that it was last offered, how many bytes were
+-- dropped after the close, and what is left of a message that is given in pieces.
 pub record Linked (S : Type 0) : Type 0 where
   pub socket : Socket S
   pub phase : Phase
   pub held_up : Bool
   pub dropped : ℕ
+  pub unfed : List ℕ
 
 abbrev phase_number : Phase → ℕ
 phase_number Open = 0
@@ -48,9 +49,10 @@ HasFailed Over = ⊥
 module _ {S : Type 0} where
   abbrev pub linked_code : Coded S → Coded (Linked S)
   linked_code stream =
-      code_by (Socket S × (Phase × (Bool × ℕ))) (coded× (socket_code stream) (coded× phase_code (coded× coded_bool coded_ℕ)))
-      (λ l. (l.socket, (l.phase, (l.held_up, l.dropped))))
-      (λ p. record { socket = p.0; phase = p.1.0; held_up = p.1.1.0; dropped = p.1.1.1 }) (λ _. refl)
+      code_by (Socket S × (Phase × (Bool × (ℕ × List ℕ))))
+      (coded× (socket_code stream) (coded× phase_code (coded× coded_bool (coded× coded_ℕ (coded_list coded_ℕ)))))
+      (λ l. (l.socket, (l.phase, (l.held_up, (l.dropped, l.unfed)))))
+      (λ p. record { socket = p.0; phase = p.1.0; held_up = p.1.1.0; dropped = p.1.1.1.0; unfed = p.1.1.1.1 }) (λ _. refl)
 
   -- A link whose handshake has just been done: nothing is read, and nothing waits to be sent. A message and a frame of it may
   -- have 131,072 bytes, and the peer's frames are masked (RFC 6455, section 5.1).
@@ -59,6 +61,7 @@ module _ {S : Type 0} where
     pub goes_on : l.phase ≡ Open
     pub free : l.held_up ≡ false
     pub none_dropped : l.dropped ≡ 0
+    pub none_left : l.unfed ≡ []
     pub message : l.socket.conn.config.max_message_size ≡ Some 131072
     pub frame : l.socket.conn.config.max_frame_size ≡ Some 131072
     pub masked : l.socket.conn.config.accept_unmasked_frames ≡ false

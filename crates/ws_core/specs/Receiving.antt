@@ -14,6 +14,7 @@ use Rattle.ws_core.specs.declared.link.Received.TheVariants.{Bytes, Skipped, Not
 use Rattle.ws_core.specs.declared.phase.Phase.{Phase}
 use Rattle.ws_core.specs.declared.phase.Phase.TheVariants as phases
 use Rattle.ws_core.specs.Links.{HasFailed, Linked}
+use Rattle.ws_core.specs.Pieces.{IsPiece}
 
 -- the bytes that a read gave
 abbrev pub given : Received → List ℕ
@@ -43,6 +44,19 @@ Holds Skipped bytes = ⊥
 Holds Nothing bytes = ⊥
 Holds Failed bytes = ⊥
 Holds Closed bytes = ⊤
+
+-- a piece of these bytes was given, after which those are left, unless memory was refused
+abbrev pub Feeds : List ℕ → List ℕ → Received → Type 0
+Feeds bytes left (Bytes v) = IsPiece bytes v.items left
+Feeds bytes left Skipped = ⊥
+Feeds bytes left Nothing = ⊥
+Feeds bytes left Failed = ⊥
+Feeds bytes left Closed = ⊤
+
+-- of a message that a read gave, the first piece is given, and all else as it is
+abbrev pub Begins : Received → List ℕ → Received → Type 0
+Begins (Bytes v) left got = Feeds v.items left got
+Begins whole left got = (got ≡ whole) × (left ≡ [])
 
 -- how far the link has come when it has given this
 abbrev pub after : Phase → Received → Phase
@@ -101,6 +115,12 @@ module _ {S : Type 0} where
   Hears remaining contents old new Failed = Breaks contents old new ⊎ Answers remaining contents old new
   Hears remaining contents old new Closed = ⊤
 
+  -- A link gives the next piece of a message that it has. Or else it reads, and gives the first piece of a message that came, or what
+  -- else did.
+  pub record Listens (remaining contents : S → Option (List ℕ)) (old new : Linked S) (got : Received) : Type 0 where
+    pub next : old.unfed ≢ [] → Feeds old.unfed new.unfed got × (new.socket ≡ old.socket)
+    pub first : old.unfed ≡ [] → (whole : Received) × Hears remaining contents old.socket new.socket whole × Begins whole new.unfed got
+
   -- what a read of the socket gave once the link was ended: no message's bytes
   abbrev pub Drops : (S → Option (List ℕ)) → Socket S → Socket S → Received → Type 0
   Drops remaining old new (Bytes v) = ⊥
@@ -119,7 +139,7 @@ module _ {S : Type 0} where
 
   -- One read of a link. One that is over says so and stays as it is.
   pub record Receives (remaining contents : S → Option (List ℕ)) (old new : Linked S) (got : Received) : Type 0 where
-    pub hears : old.phase ≡ phases.Open → Hears remaining contents old.socket new.socket got
+    pub listens : old.phase ≡ phases.Open → Listens remaining contents old new got
     pub drops : old.phase ≡ phases.Closing → Drops remaining old.socket new.socket got
     pub leaves : HasFailed old.phase → Leaves contents old new got
     pub phase : (HasFailed old.phase → ⊥) → new.phase ≡ after old.phase got

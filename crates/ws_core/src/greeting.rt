@@ -4,13 +4,14 @@ ghost use Rattle.std.specs.Prelude.{◌≡◌, ℕ, List, IfOk, IfErr, false, ma
 ghost use Rattle.std.specs.Arc.{arc_value};
 ghost use Rattle.ws_core.specs.Greetings.{Greeter, Tells, answer_at, greeter};
 ghost use Rattle.ws_core.specs.Greeted.{Greets};
-ghost use Rattle.ws_core.specs.Handshakes.{response_to};
+ghost use Rattle.ws_core.specs.Handshakes.{is_head, response_to};
 
 use crate::answer::Answer;
 use crate::fault::LinkFault;
-use crate::handshake::hear_head;
+use crate::handshake::{hear_head, is_head};
 use crate::refusal::Refusal;
 use crate::saying::Saying;
+use crate::vacancy::Vacancy;
 use crate::ws_link::WsLink;
 use std::alloc::Global;
 use std::io::{Read, Write};
@@ -25,17 +26,17 @@ use std::sync::Arc;
 /// `v12.stomp` if the client offers it, and none if it offers none. A browser's page, which sends its origin, is served if its
 /// origin is among the named ones, or if none is named. Any other client gets a response whose status says why not.
 ///
-/// A head may have 65,536 bytes and 124 fields, and from the 65th read on at least 128 bytes a read. Beyond that the stream is given
+/// A head may have 16,384 bytes and 124 fields, and from the 65th read on at least 128 bytes a read. Beyond that the stream is given
 /// up, so a client that never ends its head costs no more than that. How long a client takes is the caller's to limit.
 ///
-/// Contracts see the stream as it was given, the origins, and whether the server takes no more clients.
+/// Contracts see the stream as it was given, the origins, and whom the server has a place for.
 #[derive(Drop)]
 pub struct Greeting<S: Read + Write> {
     // The stream as it was given.
     opening: Snapshot<S>,
     stream: S,
     origins: Arc<Vec<Vec<u8>>>,
-    is_full: bool,
+    vacancy: Vacancy,
     // What was read, and by how many reads.
     head: Vec<u8>,
     reads: usize,
@@ -50,10 +51,10 @@ impl<S: Read + Write> Model for Greeting<S> {
 
     ghost Value = { Greeter S };
 
-    ghost view = { λ a. greeter a.opening.value (map (λ origin. origin.items) (arc_value a.origins).items) a.is_full };
+    ghost view = { λ a. greeter a.opening.value (map (λ origin. origin.items) (arc_value a.origins).items) a.vacancy };
 
     ghost invariant = { λ a. IsUnderWay S.remaining S.contents
-        (greeter a.opening.value (map (λ origin. origin.items) (arc_value a.origins).items) a.is_full) a.head.items a.stream a.saying };
+        (greeter a.opening.value (map (λ origin. origin.items) (arc_value a.origins).items) a.vacancy) a.head.items a.stream a.saying };
 }
 
 /// What a handshake has come to.
@@ -63,8 +64,9 @@ pub enum Greeted<S: Read + Write> {
     Waits(Greeting<S>),
     /// The client has its WebSocket, and the whole response that says so is written.
     Accepted(WsLink<S>),
-    /// The client gets none. The whole response that says why is written, and the stream is closed.
-    Refused(Refusal),
+    /// The client gets none. The whole response that says why is written, and what comes is to be dropped before the stream is closed
+    /// (`Farewell`).
+    Refused(Refusal, S),
     /// The handshake is given up, and the stream is closed. It is `Memory` if memory was refused, and `Gone` if the stream has ended
     /// or failed, or gave its head too slowly.
     Failed(LinkFault),
@@ -74,27 +76,26 @@ impl<S: Read + Write + Drop> Greeting<S> {
     /// The handshake with a client to which that stream leads, of which nothing was read. Only pages of these origins are served; if
     /// none is named, all pages are. No memory is taken.
     pub fn new(alloc: Global, stream: S, origins: Arc<Vec<Vec<u8>>>) -> Greeting<S>
-        ensures { result ≡ greeter stream (map (λ origin. origin.items) (arc_value origins).items) false }
+        ensures { result ≡ greeter stream (map (λ origin. origin.items) (arc_value origins).items) Vacancy.Any }
     {
-        Greeting::begin(alloc, stream, origins, false)
+        Greeting::begin(alloc, stream, origins, Vacancy::Any)
     }
 
-    /// The same of a server that takes no more clients: one that would get a WebSocket is answered `Refusal::Full`.
-    pub fn full(alloc: Global, stream: S, origins: Arc<Vec<Vec<u8>>>) -> Greeting<S>
-        ensures { result ≡ greeter stream (map (λ origin. origin.items) (arc_value origins).items) true }
-    {
-        Greeting::begin(alloc, stream, origins, true)
-    }
-
-    fn begin(alloc: Global, stream: S, origins: Arc<Vec<Vec<u8>>>, is_full: bool) -> Greeting<S>
-        ensures { result ≡ greeter stream (map (λ origin. origin.items) (arc_value origins).items) is_full }
+    /// The same of a server that has a place for those alone. Any other that would get a WebSocket is answered `Refusal::Full`.
+    pub fn begin(
+        alloc: Global,
+        stream: S,
+        origins: Arc<Vec<Vec<u8>>>,
+        vacancy: Vacancy,
+    ) -> Greeting<S>
+        ensures { result ≡ greeter stream (map (λ origin. origin.items) (arc_value origins).items) vacancy }
     {
         let opening = Snapshot::of(&stream);
         Greeting {
             opening,
             stream,
             origins,
-            is_full,
+            vacancy,
             head: Vec::new(alloc),
             reads: 0,
             saying: None,
@@ -117,6 +118,11 @@ impl<S: Read + Write + Drop> Greeting<S> {
         &self.stream
     }
 
+    /// How many bytes it keeps of a head that isn't whole.
+    pub fn held(&self) -> u64 {
+        self.head.capacity() as u64
+    }
+
     // Hears the request, unless it has its answer.
     fn hear(self, alloc: Global) -> Result<Greeting<S>, Greeted<S>>
         ensures same { IfOk result (λ greeting. greeting ≡ self) }
@@ -129,30 +135,33 @@ impl<S: Read + Write + Drop> Greeting<S> {
             opening,
             mut stream,
             origins,
-            is_full,
+            vacancy,
             mut head,
             mut reads,
             saying,
         } = self;
         drop(saying);
         match hear_head(&mut stream, &mut head, &mut reads, origins.as_slice()) {
-            Ok(Some(answer)) => match Saying::new(alloc, at(is_full, answer)) {
-                Ok(saying) => Ok(Greeting {
-                    opening,
-                    stream,
-                    origins,
-                    is_full,
-                    head,
-                    reads,
-                    saying: Some(saying),
-                }),
-                Err(fault) => Err(Greeted::Failed(fault)),
-            },
+            Ok(Some(answer)) => {
+                let answer = at(vacancy.shuts_out(head.as_slice()), answer);
+                match Saying::new(alloc, answer, is_head(head.as_slice())) {
+                    Ok(saying) => Ok(Greeting {
+                        opening,
+                        stream,
+                        origins,
+                        vacancy,
+                        head,
+                        reads,
+                        saying: Some(saying),
+                    }),
+                    Err(fault) => Err(Greeted::Failed(fault)),
+                }
+            }
             Ok(None) => Err(Greeted::Waits(Greeting {
                 opening,
                 stream,
                 origins,
-                is_full,
+                vacancy,
                 head,
                 reads,
                 saying: None,
@@ -169,7 +178,7 @@ impl<S: Read + Write + Drop> Greeting<S> {
             opening,
             mut stream,
             origins,
-            is_full,
+            vacancy,
             head,
             reads,
             saying,
@@ -179,7 +188,7 @@ impl<S: Read + Write + Drop> Greeting<S> {
                 opening,
                 stream,
                 origins,
-                is_full,
+                vacancy,
                 head,
                 reads,
                 saying: None,
@@ -191,7 +200,7 @@ impl<S: Read + Write + Drop> Greeting<S> {
                 opening,
                 stream,
                 origins,
-                is_full,
+                vacancy,
                 head,
                 reads,
                 saying: Some(saying),
@@ -201,22 +210,22 @@ impl<S: Read + Write + Drop> Greeting<S> {
     }
 }
 
-// The answer, unless the server takes no more clients.
-fn at(is_full: bool, answer: Answer) -> Answer
-    ensures { result ≡ answer_at is_full answer }
+// The answer, unless the client finds no place.
+fn at(is_shut_out: bool, answer: Answer) -> Answer
+    ensures { result ≡ answer_at is_shut_out answer }
 {
     match answer {
-        Answer::Accept(..) if is_full => Answer::Refuse(Refusal::Full),
+        Answer::Accept(..) if is_shut_out => Answer::Refuse(Refusal::Full),
         answer => answer,
     }
 }
 
 // What a handshake has come to if its answer is wholly written.
 fn done<S: Read + Write + Drop>(alloc: Global, stream: S, answer: Answer) -> Greeted<S>
-    ensures { (g : Greeter S) (head : List ℕ) → Tells S.remaining S.contents g head stream answer (response_to answer) → Greets S.remaining S.contents g result }
+    ensures { (g : Greeter S) (head : List ℕ) → Tells S.remaining S.contents g head stream answer (response_to (is_head head) answer) → Greets S.remaining S.contents g result }
 {
     match answer {
         Answer::Accept(..) => Greeted::Accepted(WsLink::new(alloc, stream)),
-        Answer::Refuse(refusal) => Greeted::Refused(refusal),
+        Answer::Refuse(refusal) => Greeted::Refused(refusal, stream),
     }
 }

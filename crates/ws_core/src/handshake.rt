@@ -1,7 +1,7 @@
 //! How the request of an opening handshake is read (RFC 6455, section 4.2.1).
 
 ghost use Rattle.std.specs.Prelude.{◌≡◌, ◌++◌, IfOk, IfSome, OnOk, map};
-ghost use Rattle.ws_core.specs.Handshakes.{IsAnswerTo, ReadsOn};
+ghost use Rattle.ws_core.specs.Handshakes.{IsAnswerTo, ReadsOn, is_head};
 
 use crate::answer::{Answer, answer_to};
 use crate::fault::LinkFault;
@@ -11,7 +11,7 @@ use std::io::{ErrorKind, Read};
 // How many bytes one read of a head asks for, and the most bytes of a head.
 const PIECE_BYTES: usize = 4_096;
 
-const HEAD_BYTES: usize = 65_536;
+const HEAD_BYTES: usize = 16_384;
 
 // How many reads a head may take; and, after so many of them, how many bytes a read must have given on average.
 const MOST_READS: usize = 1_024;
@@ -35,11 +35,11 @@ pub fn hear_head<S: Read>(
         if !hear_piece(stream, head)? {
             return Ok(None);
         }
-        if let Some(answer) = answer_to(origins, head.as_slice()) {
-            return Ok(Some(answer));
-        }
         if head.len() > HEAD_BYTES {
             return Ok(Some(Answer::Refuse(Refusal::TooLarge)));
+        }
+        if let Some(answer) = answer_to(origins, head.as_slice()) {
+            return Ok(Some(answer));
         }
         if is_too_slow(*reads, head.len()) {
             return Err(LinkFault::Gone);
@@ -47,6 +47,13 @@ pub fn hear_head<S: Read>(
         *reads = reads.saturating_add(1);
     }
     Err(LinkFault::Gone)
+}
+
+/// Whether these bytes begin a HEAD.
+pub fn is_head(bytes: &[u8]) -> bool
+    ensures { result ≡ is_head bytes.now }
+{
+    bytes.starts_with(b"HEAD ")
 }
 
 // Whether so many reads before the last one, and it, have given too little.

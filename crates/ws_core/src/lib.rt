@@ -4,6 +4,7 @@
 
 mod answer;
 mod closing;
+mod farewell;
 mod fault;
 mod fields;
 mod greeting;
@@ -16,10 +17,13 @@ mod phase;
 mod refusal;
 mod saying;
 mod stream;
+mod unfed;
+mod vacancy;
 mod ws_link;
 
 pub use answer::{Answer, answer_to};
 pub use closing::CloseReason;
+pub use farewell::Farewell;
 pub use fault::LinkFault;
 pub use greeting::{Greeted, Greeting};
 pub use link::{Link, Outgoing, Received};
@@ -27,4 +31,5 @@ pub use mem_link::MemLink;
 pub use phase::Phase;
 pub use refusal::Refusal;
 pub use stream::Ending;
+pub use vacancy::Vacancy;
 pub use ws_link::WsLink;

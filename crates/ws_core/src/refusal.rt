@@ -1,7 +1,7 @@
 //! Why a client gets no WebSocket, and what it is sent.
 
 ghost use Rattle.std.specs.Prelude.{◌≡◌, IfOk, string_bytes};
-ghost use Rattle.ws_core.specs.Handshakes.{body_of, further_fields, refusal_bytes, refusal_of, status_line};
+ghost use Rattle.ws_core.specs.Handshakes.{body_of, content_of, further_fields, refusal_bytes, refusal_of, status_line};
 
 use std::alloc::{AllocError, Global};
 use websocket::handshake::HandshakeError;
@@ -22,22 +22,34 @@ pub enum Refusal {
     NoUpgrade,
     /// 426: it asks for another version of WebSocket than 13.
     Version,
-    /// 431: its head has more than 65,536 bytes or 124 fields.
+    /// 431: its head has more than 16,384 bytes or 124 fields.
     TooLarge,
     /// 503: it would get one, but the server takes no more clients now. The answer asks it to come again in ten seconds.
     Full,
 }
 
 impl Refusal {
-    /// What the client is sent: a response of HTTP/1.1 with a short text, after which the connection is closed.
-    pub fn response(self, alloc: Global) -> Result<String, AllocError>
-        ensures { IfOk result (λ text. string_bytes text ≡ refusal_bytes self) }
+    /// What the client is sent: a response of HTTP/1.1 with a short text, after which the connection is closed. The answer to a HEAD has no
+    /// text, but says how long it would be (RFC 9110, section 9.3.2).
+    pub fn response(self, alloc: Global, is_head: bool) -> Result<String, AllocError>
+        ensures { IfOk result (λ text. string_bytes text ≡ refusal_bytes is_head self) }
     {
-        let (status, fields, body) = (self.status_line(), self.further_fields(), self.body());
-        let size = body.len();
+        let (status, fields, content) = (
+            self.status_line(),
+            self.further_fields(),
+            self.content(is_head),
+        );
+        let size = self.body().len();
         format!(in alloc;
-            "HTTP/1.1 {status}\r\n{fields}Content-Type: text/plain\r\nContent-Length: {size}\r\n\r\n{body}"
+            "HTTP/1.1 {status}\r\n{fields}Content-Type: text/plain\r\nContent-Length: {size}\r\n\r\n{content}"
         )
+    }
+
+    // The text that is sent.
+    fn content(self, is_head: bool) -> &'static str
+        ensures { result.now ≡ content_of is_head self }
+    {
+        if is_head { "" } else { self.body() }
     }
 
     fn status_line(self) -> &'static str

@@ -24,13 +24,13 @@ pub struct Saying {
 }
 
 impl Saying {
-    /// An answer of which nothing was written yet. It fails only if memory is refused.
-    pub fn new(alloc: Global, answer: Answer) -> Result<Saying, LinkFault>
+    /// An answer of which nothing was written yet, to a HEAD or not. It fails only if memory is refused.
+    pub fn new(alloc: Global, answer: Answer, is_head: bool) -> Result<Saying, LinkFault>
         ensures said { IfOk result (λ saying. (saying.answer ≡ answer) × (saying.said ≡ 0)) }
-        ensures response { IfOk result (λ saying. saying.response.items ≡ response_to answer) }
+        ensures response { IfOk result (λ saying. saying.response.items ≡ response_to is_head answer) }
         ensures memory { IfErr result (λ fault. fault ≡ LinkFault.Memory) }
     {
-        let response = response_to(alloc, answer)?;
+        let response = response_to(alloc, answer, is_head)?;
         Ok(Saying {
             answer,
             response,
@@ -54,21 +54,21 @@ impl Saying {
 }
 
 // The whole response of an answer.
-fn response_to(alloc: Global, answer: Answer) -> Result<Vec<u8>, LinkFault>
-    ensures response { IfOk result (λ response. response.items ≡ response_to answer) }
+fn response_to(alloc: Global, answer: Answer, is_head: bool) -> Result<Vec<u8>, LinkFault>
+    ensures response { IfOk result (λ response. response.items ≡ response_to is_head answer) }
     ensures memory { IfErr result (λ fault. fault ≡ LinkFault.Memory) }
 {
     match answer {
         Answer::Accept(accept_key, has_stomp) => acceptance(alloc, &accept_key, has_stomp),
-        Answer::Refuse(refusal) => refusing(alloc, refusal),
+        Answer::Refuse(refusal) => refusing(alloc, refusal, is_head),
     }
 }
 
-fn refusing(alloc: Global, refusal: Refusal) -> Result<Vec<u8>, LinkFault>
-    ensures response { IfOk result (λ response. response.items ≡ refusal_bytes refusal) }
+fn refusing(alloc: Global, refusal: Refusal, is_head: bool) -> Result<Vec<u8>, LinkFault>
+    ensures response { IfOk result (λ response. response.items ≡ refusal_bytes is_head refusal) }
     ensures memory { IfErr result (λ fault. fault ≡ LinkFault.Memory) }
 {
-    match refusal.response(alloc) {
+    match refusal.response(alloc, is_head) {
         Ok(response) => Ok(response.into_bytes()),
         Err(_) => Err(LinkFault::Memory),
     }

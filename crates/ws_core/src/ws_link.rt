@@ -9,12 +9,14 @@ use crate::link::{Link, Outgoing, Received};
 use crate::messages::{count_dropped, flush, hear, hear_close, message_of, put, say_close};
 use crate::phase::Phase;
 use crate::stream::Ending;
+use crate::unfed::Unfed;
 use claim_core::Released;
 use frame_core::{Frame, write_frame};
 use session_core::Notice;
 use std::alloc::Global;
 use std::io::{Read, Write};
 use std::marker::Model;
+use std::mem;
 use tungstenite::{Bytes, Error, Message, NoMask, Role, WebSocket, WebSocketConfig};
 
 // The most bytes of a message that a peer may send, and of a frame of it.
@@ -30,7 +32,9 @@ const CONTROL_BYTES: u64 = 131;
 
 /// A WebSocket over a stream, after its handshake. If a stream has nothing to give, or takes nothing, a read or a write fails with
 /// `WouldBlock`; any other failure but `Interrupted` ends the link. Contracts see the socket, how far the link has come, and how many bytes
-/// were dropped after the close. They also see whether the stream has not taken all that it was last offered.
+/// were dropped after the close. They also see whether the stream has not taken all that it was last offered, and what is left of a message.
+///
+/// A message is given in pieces of 4,096 bytes, one a call: the next message is read once all are.
 ///
 /// A link drops what comes after the peer's close, and after the close that tells a peer that it broke the protocol. Its stream's writing
 /// side is shut once all is written. It drops bytes up to the stream's end, but no more than 16,777,216 (RFC 6455, section 7.1.1). For a
@@ -44,6 +48,8 @@ pub struct WsLink<S> {
     phase: Phase,
     held_up: bool,
     dropped: u64,
+    // What is left of the last message.
+    unfed: Unfed,
     // How many bytes of messages were put into the socket since nothing waited there.
     unsent: u64,
     // How many bytes the stream had given when the last message was whole.
@@ -57,7 +63,7 @@ impl<S> Model for WsLink<S> {
 
     ghost coded = { linked_code S.code };
 
-    ghost view = { λ a. record { socket = a.socket; phase = a.phase; held_up = a.held_up; dropped = a.dropped } };
+    ghost view = { λ a. record { socket = a.socket; phase = a.phase; held_up = a.held_up; dropped = a.dropped; unfed = a.unfed } };
 }
 
 fn limits() -> WebSocketConfig
@@ -93,6 +99,7 @@ impl<S: Read + Write + Drop> WsLink<S> {
             phase: Phase::Open,
             held_up: false,
             dropped: 0,
+            unfed: Unfed::new(Vec::new(alloc)),
             unsent: 0,
             whole: 0,
         }
@@ -220,20 +227,20 @@ impl<S: Read + Write + Ending + Drop> Link for WsLink<S> {
     fn receive(&mut self, alloc: Global) -> Received
         ensures { Receives S.remaining S.contents self.old self.new result }
     {
-        let received = match self.phase {
-            Phase::Open => hear(alloc, &mut self.socket, &mut self.held_up),
-            Phase::Closing => hear_close(&mut self.socket),
-            Phase::Failed | Phase::Shut => return self.leave(),
-            Phase::Over => return Received::Closed,
-        };
-        match received {
-            Received::Failed => self.phase = Phase::Failed,
-            Received::Closed => self.phase = Phase::Over,
-            Received::Bytes(_) => self.whole = self.socket.get_ref().given(),
-            Received::Skipped => self.skip_control(),
-            Received::Nothing => {}
+        match self.phase {
+            Phase::Open => {
+                let received = self.listen(alloc);
+                self.note(&received);
+                received
+            }
+            Phase::Closing => {
+                let received = hear_close(&mut self.socket);
+                self.note(&received);
+                received
+            }
+            Phase::Failed | Phase::Shut => self.leave(),
+            Phase::Over => Received::Closed,
         }
-        received
     }
 
     // Both are counted for more than they are. The first has messages of up to 64 KiB that the stream has taken, until a flush; the second
@@ -242,7 +249,9 @@ impl<S: Read + Write + Ending + Drop> Link for WsLink<S> {
         let given = self.socket.get_ref().given();
         let most = (MESSAGE_BYTES + READ_BYTES) as u64;
         let unread = given.saturating_sub(self.whole).min(most);
-        self.unsent.saturating_add(unread)
+        self.unsent
+            .saturating_add(unread)
+            .saturating_add(self.unfed.len() as u64)
     }
 
     fn send_direct(&mut self, alloc: Global, notice: &Notice) -> Result<(), LinkFault>
@@ -283,10 +292,53 @@ impl<S: Read + Write + Ending + Drop> Link for WsLink<S> {
 }
 
 impl<S: Read + Write + Ending + Drop> WsLink<S> {
-    ghost use Rattle.std.specs.Prelude.{◌≡◌, cond, not};
+    ghost use Rattle.std.specs.Prelude.{◌≡◌, ◌≢◌, [], cond, false, not};
     ghost use Rattle.ws_core.specs.Links.{HasFailed};
-    ghost use Rattle.ws_core.specs.Receiving.{Leaves};
+    ghost use Rattle.ws_core.specs.Receiving.{Feeds, Leaves, Listens, after};
     ghost use Rattle.ws_core.specs.declared.phase.Phase.TheVariants.{Failed, Shut};
+
+    // The next piece of a message: of the one that is left, or of the next one.
+    fn listen(&mut self, alloc: Global) -> Received
+        ensures listens { Listens S.remaining S.contents self.old self.new result }
+        ensures same { self.new ≡ record self.old { socket = self.new.socket; held_up = self.new.held_up; unfed = self.new.unfed } }
+        ensures held_up { result ≢ Received.Failed → self.new.held_up ≡ self.old.held_up }
+        ensures rest { result ≡ Received.Failed → self.new.held_up ≡ false → self.new.socket.output ≡ [] }
+    {
+        if self.unfed.len() > 0 {
+            return self.feed(alloc);
+        }
+        match hear(alloc, &mut self.socket, &mut self.held_up) {
+            Received::Bytes(message) => {
+                drop(mem::replace(&mut self.unfed, Unfed::new(message)));
+                self.feed(alloc)
+            }
+            received => received,
+        }
+    }
+
+    // The next piece of the message that is left. If memory is refused for it, the link is over.
+    fn feed(&mut self, alloc: Global) -> Received
+        ensures piece { Feeds self.old.unfed self.new.unfed result }
+        ensures same { self.new ≡ record self.old { unfed = self.new.unfed } }
+    {
+        match self.unfed.next(alloc) {
+            Ok(piece) => Received::Bytes(piece),
+            Err(_) => Received::Closed,
+        }
+    }
+
+    // Notes how far it has come by what a read gave.
+    fn note(&mut self, received: &Received)
+        ensures { self.new ≡ record self.old { phase = after self.old.phase received.now } }
+    {
+        match received {
+            Received::Failed => self.phase = Phase::Failed,
+            Received::Closed => self.phase = Phase::Over,
+            Received::Bytes(_) => self.whole = self.socket.get_ref().given(),
+            Received::Skipped => self.skip_control(),
+            Received::Nothing => {}
+        }
+    }
 
     // A ping or a pong came, which is no part of a message.
     fn skip_control(&mut self)

@@ -3,7 +3,7 @@ use crate::wire::Wire;
 use std::alloc::{AllocError, Global};
 use std::sync::Arc;
 use std::test::Fail;
-use ws_core::{Greeted, Greeting, Refusal};
+use ws_core::{Greeted, Greeting, Refusal, Vacancy};
 
 // The accept key of section 1.3.
 const ACCEPT: &str = "sec-websocket-accept: s3pPLMBiTxaQ9kYGzzhZRbK+xOo=";
@@ -204,7 +204,7 @@ fn bytes_read(alloc: Global, step: usize) -> Result<Option<usize>, Fail> {
 #[test]
 fn a_head_that_does_not_end_is_given_up(rt: HostRuntime) -> Result<(), Fail> {
     // The limit and one read of 4,096 bytes; 64 reads and one more.
-    for (step, most) in [(usize::MAX, 69_632), (1, 65)] {
+    for (step, most) in [(usize::MAX, 20_480), (1, 65)] {
         let Some(count) = bytes_read(rt.alloc(), step)? else {
             return Err(Fail::from("accepted"));
         };
@@ -218,7 +218,7 @@ fn outcome(greeted: Greeted<&Wire>) -> Result<Greeting<&Wire>, u8> {
     match greeted {
         Greeted::Waits(greeting) => Ok(greeting),
         Greeted::Accepted(_link) => Err(b'+'),
-        Greeted::Refused(_refusal) => Err(b'-'),
+        Greeted::Refused(_refusal, _wire) => Err(b'-'),
         Greeted::Failed(_fault) => Err(b'!'),
     }
 }
@@ -307,10 +307,14 @@ fn a_response_may_go_out_a_byte_at_a_time(rt: HostRuntime) -> Result<(), Fail> {
 }
 
 // What a server that takes no more clients answers, and whether it says that it is full.
-fn answered_in_full(alloc: Global, request: &str) -> Result<(bool, String), Fail> {
+fn answered_in_full(
+    alloc: Global,
+    request: &str,
+    vacancy: Vacancy,
+) -> Result<(bool, String), Fail> {
     let wire = Wire::new(alloc, request.as_bytes(), b"", usize::MAX)?;
-    let greeted = Greeting::full(alloc, &wire, two_origins(alloc)?).greet(alloc);
-    let is_full = matches!(greeted, Greeted::Refused(Refusal::Full));
+    let greeted = Greeting::begin(alloc, &wire, two_origins(alloc)?, vacancy).greet(alloc);
+    let is_full = matches!(greeted, Greeted::Refused(Refusal::Full, _));
     drop(greeted);
     Ok((is_full, written(alloc, &wire)?))
 }
@@ -319,7 +323,7 @@ fn answered_in_full(alloc: Global, request: &str) -> Result<(bool, String), Fail
 fn one_client_too_many_is_told_503_and_when_to_ask_again(rt: HostRuntime) -> Result<(), Fail> {
     let alloc = rt.alloc();
     let served = REQUEST.replace(alloc, "http://example.com", "http://a.example")?;
-    let (is_full, answer) = answered_in_full(alloc, served.as_str())?;
+    let (is_full, answer) = answered_in_full(alloc, served.as_str(), Vacancy::Nobody)?;
     let answer = answer.as_str();
     assert!(rt; is_full && answer.starts_with("HTTP/1.1 503 "), "{answer}");
     assert!(rt;
@@ -327,7 +331,22 @@ fn one_client_too_many_is_told_503_and_when_to_ask_again(rt: HostRuntime) -> Res
         "{answer}"
     );
     // A client that any server would refuse is told that.
-    let (is_full, answer) = answered_in_full(alloc, REQUEST)?;
+    let (is_full, answer) = answered_in_full(alloc, REQUEST, Vacancy::Nobody)?;
     assert!(rt; !is_full && answer.as_str().starts_with("HTTP/1.1 403 "));
+    Ok(())
+}
+
+#[test]
+fn places_are_kept_for_pings_alone(rt: HostRuntime) -> Result<(), Fail> {
+    let alloc = rt.alloc();
+    let served = REQUEST.replace(alloc, "http://example.com", "http://a.example")?;
+    let begin = served.as_str().find(" HTTP/1.1").unwrap_or(0);
+    let ping = format!(in alloc; "GET /stompd-ping{}", &served.as_str()[begin..])?;
+    let (is_full, answer) = answered_in_full(alloc, ping.as_str(), Vacancy::Ping)?;
+    assert!(rt; !is_full && answer.as_str().starts_with("HTTP/1.1 101 "));
+    let (is_full, _) = answered_in_full(alloc, served.as_str(), Vacancy::Ping)?;
+    assert!(rt; is_full);
+    let (is_full, _) = answered_in_full(alloc, ping.as_str(), Vacancy::Nobody)?;
+    assert!(rt; is_full);
     Ok(())
 }

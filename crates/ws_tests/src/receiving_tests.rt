@@ -164,10 +164,38 @@ const TOO_BIG: &[u8] = b"x\x88\x02\x03\xf1";
 
 #[test]
 fn a_message_may_have_131072_bytes_and_no_more(rt: HostRuntime) -> Result<(), Fail> {
-    assert_eq!(rt; shown_of(rt.alloc(), 0x82, 131_072)?.len(), 131_074);
+    // The first piece, between two marks.
+    assert_eq!(rt; shown_of(rt.alloc(), 0x82, 131_072)?.len(), 4_098);
     assert_eq!(rt; shown_of(rt.alloc(), 0x02, 131_072)?.as_slice(), TOO_BIG);
     for length in [131_073, 1 << 62] {
         assert_eq!(rt; shown_of_head(rt.alloc(), length)?.as_slice(), TOO_BIG);
+    }
+    Ok(())
+}
+
+#[test]
+fn a_message_is_given_in_pieces_of_4096_bytes(rt: HostRuntime) -> Result<(), Fail> {
+    for (length, pieces) in [(4_096usize, 1usize), (4_097, 2), (8_192, 2), (10_000, 3)] {
+        let mut payload = Vec::new(rt.alloc());
+        for place in 0..length {
+            payload.push(b'a' + (place % 26) as u8)?;
+        }
+        let input = frames(rt.alloc(), &[(0x82, payload.as_slice()), (0x82, b"-")])?;
+        let mut expected = Vec::new(rt.alloc());
+        for piece in payload.as_slice().chunks(4_096) {
+            expected.push(b'<')?;
+            expected.extend_from_slice(piece)?;
+            expected.push(b'>')?;
+        }
+        expected.extend_from_slice(b"<->")?;
+        let acts = [Do::Hear; 4];
+        let seen = shown(
+            rt.alloc(),
+            input.as_slice(),
+            usize::MAX,
+            &acts[..pieces + 1],
+        )?;
+        assert_eq!(rt; seen.as_slice(), expected.as_slice());
     }
     Ok(())
 }

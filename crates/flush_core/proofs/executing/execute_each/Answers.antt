@@ -15,8 +15,8 @@ use Rattle.flush_core.proofs.Sessions.{boxes_entries, ended_commands}
 use Rattle.flush_core.proofs.Taken.{commands_more, count_after, length_commands, outs_commands, state_commands}
 use Rattle.flush_core.proofs.executing.execute_each.Goals as goal
 
-pub execute_one-requires-clause-count : goal.execute_one-requires-clause-count
-execute_one-requires-clause-count g c =
+pub execute_telling-requires-clause-count : goal.execute_telling-requires-clause-count
+execute_telling-requires-clause-count g c =
     let h = c.into_iter-entry-iterator.ensures.into_iter_gives in
     let t = YieldsList-turn (YieldsList-from_vec {s = c.into_iter-entry-iterator.result} c.args.batch.items h.0 (search rules)) c.loop-entry.yielded c.loop-entry.entry-iterator c.loop-entry.yielded_by c.next.result c.next.new.self c.in-Some.entry c.in-Some.is c.next.ensures.steps in
     let counted = count_after (commands c.loop-entry.yielded) c.args.broker.now.state in
@@ -41,7 +41,7 @@ loop-entry-preserved g c =
     let was : c.loop-entry.broker.state ≡ state_after before so_far = ap (λ (b : BrokerValue). b.state) c.loop-entry.invariant.broker in
     let counted : c.loop-entry.broker.state.count ≡ before.count + length c.loop-entry.yielded =
     omega (arith, ap (λ (s : State). s.count) was, count_after so_far before, length_commands c.loop-entry.yielded) in
-    let did = c.in_ok-execute_one.ensures in
+    let did = c.in_ok-execute_telling.ensures in
     record {
       broker = did.state ∙ ap (λ (s : State). record { state = s; broken = false }) (ap (λ (s : State). step s command) was ∙ (sym (state_commands so_far before command) ∙ ap (λ (l : List CommandValue). state_after before l) (sym is)));
       outs = did.outs
@@ -57,8 +57,8 @@ loop-entry-preserved g c =
           ∙ ap (λ (l : List ℕ). c.args.ended.now.items ++ l) (sym (ended_commands so_far before command) ∙ ap (λ (l : List CommandValue). ended_of before l) (sym is))));
     }
 
-pub execute_one-requires-clause-whole : goal.execute_one-requires-clause-whole
-execute_one-requires-clause-whole g c = ap (λ (b : BrokerValue). b.broken) c.loop-entry.invariant.broker
+pub execute_telling-requires-clause-whole : goal.execute_telling-requires-clause-whole
+execute_telling-requires-clause-whole g c = ap (λ (b : BrokerValue). b.broken) c.loop-entry.invariant.broker
 
 pub returns-clause-done : goal.returns-clause-done
 returns-clause-done g c =

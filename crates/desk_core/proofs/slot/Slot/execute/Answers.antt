@@ -10,7 +10,7 @@ pub returns-then-matches : goal.returns-then-matches
 returns-then-matches g c = record {
   goes = goes_then g.L.Outgoing.sent g.L.Outgoing.received _ c.loop.self _ _ c.loop.seat _ _ c.loop.link _ c.loop.invariant.goes c.step-step.ensures.goes;
   grows = c.with-executed.ensures.grows _ _ _ c.loop.invariant.grows c.step-step.ensures.takes.grows;
-  leaves = subst (λ x. Leaves x c.step-step.new.self.pending c.step-step.new.seat) (sym c.with-executed.ensures.last) c.step-step.ensures.takes.leaves;
+  leaves = subst (λ x. Leaves x c.step-step.new.self.pending) (sym c.with-executed.ensures.last) c.step-step.ensures.takes.leaves;
   unread = c.step-step.ensures.unread ∙ c.loop.invariant.unread;
 }
 
@@ -18,6 +18,6 @@ pub loop-preserved : goal.loop-preserved
 loop-preserved g c = record {
   goes = goes_then g.L.Outgoing.sent g.L.Outgoing.received _ c.loop.self _ _ c.loop.seat _ _ c.loop.link _ c.loop.invariant.goes c.step-step.ensures.goes;
   grows = c.with-executed.ensures.grows _ _ _ c.loop.invariant.grows c.step-step.ensures.takes.grows;
-  leaves = subst (λ x. Leaves x c.step-step.new.self.pending c.step-step.new.seat) (sym c.with-executed.ensures.last) c.step-step.ensures.takes.leaves;
+  leaves = subst (λ x. Leaves x c.step-step.new.self.pending) (sym c.with-executed.ensures.last) c.step-step.ensures.takes.leaves;
   unread = c.step-step.ensures.unread ∙ c.loop.invariant.unread;
 }

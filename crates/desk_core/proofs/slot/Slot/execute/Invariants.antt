@@ -7,6 +7,6 @@ abbrev pub invariant-loop : goal.invariant-loop
 invariant-loop g l = record {
   goes : GoesOn g.L.Outgoing.sent g.L.Outgoing.received l.fn.self l.fn.seat l.fn.link l.self l.seat l.link;
   grows : Appended l.executed.appended l.fn.seat l.seat;
-  leaves : Leaves l.executed.last l.self.pending l.seat;
+  leaves : Leaves l.executed.last l.self.pending;
   unread : g.L.Outgoing.received l.link ≡ g.L.Outgoing.received l.fn.link;
 }

@@ -16,7 +16,7 @@ returns-clause-answers g c = record {
   appended = appended_still c.execute-executed.result.appended c.args.seat.now c.execute-executed.new.seat c.pass_on-passed_on.new.seat c.execute-executed.ensures.grows c.pass_on-passed_on.ensures.own;
   heard = heard_by g.L.Outgoing.received c.is_something.result c.args.link.now c.finish-is_short.new.link
       (λ none. c.finish-is_short.ensures.unread ∙ c.pass_on-passed_on.ensures.unread ∙ c.execute-executed.ensures.unread ∙ c.read-heard.ensures.heard (c.is_something.ensures none));
-  next = awaits c.next.result c.execute-executed.result.last c.finish-is_short.new.self c.pass_on-passed_on.new.seat c.next.ensures
-      (still_leaves c.execute-executed.result.last c.execute-executed.new.self.pending c.finish-is_short.new.self.pending c.execute-executed.new.seat c.pass_on-passed_on.new.seat
-      (c.finish-is_short.ensures.unserved.pending ∙ c.pass_on-passed_on.ensures.pending) c.pass_on-passed_on.ensures.own c.execute-executed.ensures.leaves);
+  next = awaits c.next.result c.execute-executed.result.last c.finish-is_short.new.self c.next.ensures
+      (still_leaves c.execute-executed.result.last c.execute-executed.new.self.pending c.finish-is_short.new.self.pending
+      (c.finish-is_short.ensures.unserved.pending ∙ c.pass_on-passed_on.ensures.pending) c.execute-executed.ensures.leaves);
 }

@@ -1,4 +1,4 @@
-use Rattle.std.proofs.Common.{arith, ap, length, length-append, min, refl, subst, sym, ◌∙◌, ◌++◌, ◌≡◌, Err, List, Result, false}
+use Rattle.std.proofs.Common.{arith, ap, length, length-append, min, sum_by, refl, subst, sym, ◌∙◌, ◌++◌, ◌≡◌, Err, List, Result, false}
 use Rattle.area_core.specs.Areas.{commands, records}
 use Rattle.broker_core.specs.States.{BrokerValue}
 use Rattle.broker_core.specs.Steps.{outs_of, state_after}
@@ -8,9 +8,8 @@ use Rattle.outbox_core.specs.Boxes.{SenderValue}
 use Rattle.claim_core.specs.Seats.{FlushSeatValue, when_stopped}
 use Rattle.flush_core.specs.declared.faults.FlushFault.{FlushFault}
 use Rattle.command_core.specs.Outs.{OutValue}
-use Rattle.flush_core.specs.Backlogs.{most_counted}
+use Rattle.flush_core.specs.Backlogs.{most_counted, steps_of}
 use Rattle.flush_core.specs.Batches.{between, state_at}
-use Rattle.flush_core.proofs.Taken.{length_commands}
 use Rattle.flush_core.specs.Faults.{IsMemory}
 use Rattle.flush_core.proofs.StoreFaults.{fell_for_memory, needs_memory}
 use Rattle.flush_core.specs.Flushed.{Flushed, flushed}
@@ -47,9 +46,9 @@ invariant_of-self g c =
       λ w. held_executed it.seat it.stored it.executed _ it.batch.items it.done.items now.done.items it.bytes _ _ _ _ _ _ did.same.0 did.room.behind held,
       λ w. record { none = did.room.none; room_is = did.room.beside },
       c.self.invariant.3,
-      λ w. counts_more it.opening.value.state it.seat it.since it.executed it.stored it.counted c.count_more-self-inside.result c.len-commands.result c.bytes_of-bytes.result c.saturating_sub-outs.result c.self.invariant.0.executed
-          (omega (arith, c.len-commands.ensures, it.done.ok.0, length_commands it.done.items, ap (λ (l : List CommandValue). length l) held.done_is))
-          (c.bytes_of-bytes.ensures ∙ (ap (λ es. min (length (records (commands es))) most_counted) c.deref.ensures.value ∙ ap (λ (l : List CommandValue). min (length (records l)) most_counted) held.done_is))
+      λ w. counts_more it.opening.value.state it.seat it.since it.executed it.stored it.counted c.count_more-self-inside.result c.steps_of-steps.result c.bytes_of-bytes.result c.saturating_sub-outs.result c.self.invariant.0.executed
+          (c.steps_of-steps.ensures ∙ (ap (λ es. min (sum_by steps_of (commands es)) most_counted) c.deref.ensures.value ∙ ap (λ (l : List CommandValue). min (sum_by steps_of l) most_counted) held.done_is))
+          (c.bytes_of-bytes.ensures ∙ (ap (λ es. min (length (records (commands es))) most_counted) c.deref-2.ensures.value ∙ ap (λ (l : List CommandValue). min (length (records l)) most_counted) held.done_is))
           (omega (arith, c.saturating_sub-outs.ensures, c.len.ensures, c.len-waited.ensures, it.outlet.waiting.ok.0, c.execute_all.new.outlet.waiting.ok.0, added, ap (λ (l : List OutValue). length l) outs))
           c.count_more-self-inside.ensures (c.self.invariant.4 whole),
     )

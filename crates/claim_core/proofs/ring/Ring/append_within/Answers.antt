@@ -6,7 +6,7 @@ use Rattle.claim_core.specs.Appends.{Appends, Refuses}
 use Rattle.claim_core.specs.Rule.{far}
 use Rattle.claim_core.specs.Steps.{IsLast}
 use Rattle.claim_core.specs.Seats.{SessionSeatValue, waiting, with_own, with_seen, with_stop}
-use Rattle.claim_core.proofs.ring.Ring.append.Goals as goal
+use Rattle.claim_core.proofs.ring.Ring.append_within.Goals as goal
 
 -- The seat t has found the ring running, and u then read that mark.
 module _ (window mark : ℕ) (s t u : SessionSeatValue) (ran : t ≡ with_stop s false) (read : u ≡ with_seen t mark) (less : t.seen ≤ mark) where
@@ -37,7 +37,7 @@ pub returns-then-finds_stop-clause-refused : goal.returns-then-finds_stop-clause
 returns-then-finds_stop-clause-refused g c = (refl, c.finds_stop.ensures ∙ ap (with_stop c.args.seat.now) c.if-finds_stop.true)
 
 pub returns-then-mark-ge-FAR-clause-refused : goal.returns-then-mark-ge-FAR-clause-refused
-returns-then-mark-ge-FAR-clause-refused g c = let read = c.read_mark-mark.ensures in (refl, exhausted g.row.WINDOW _ c.args.seat.now _ _ c.if-finds_stop.ensures read.seen read.no_less (omega (arith, c.if-mark-ge-FAR.true)))
+returns-then-mark-ge-FAR-clause-refused g c = let read = c.read_mark-mark.ensures in (refl, exhausted c.args.window _ c.args.seat.now _ _ c.if-finds_stop.ensures read.seen read.no_less (omega (arith, c.if-mark-ge-FAR.true)))
 
 pub returns-then-not-has_room-clause-refused : goal.returns-then-not-has_room-clause-refused
 returns-then-not-has_room-clause-refused g c = let read = c.read_mark-mark.ensures in (refl, busy _ _ c.args.seat.now _ _ c.if-finds_stop.ensures read.seen read.no_less c.if-mark-ge-FAR.false (ltb-false _ _ (sym c.if-not-has_room.ensures)))

@@ -1,0 +1,113 @@
+//! How the bytes of a client's socket are counted as frames of its WebSocket.
+
+ghost use Rattle.std.specs.Prelude.{◌≡◌, ◌≢◌, ◌≤◌, ◌<◌, [], length, take};
+ghost use Rattle.client_schedule.specs.Frames.{Passes, behind_second, ended, is_front, passed, step};
+
+/// How many bytes the mask of a client's frame has (RFC 6455, section 5.3).
+const MASK: u64 = 4;
+
+/// How far a stream has come in a frame of a client (section 5.2).
+#[derive(Clone, Copy)]
+pub enum Place {
+    /// Before a frame.
+    Front,
+    /// Behind its first byte. The next one says how long its payload is, or its length.
+    Second,
+    /// In its length: so many bytes of that are to come, and those before say this.
+    Length(u32, u64),
+    /// Before so many bytes of its mask and its payload.
+    Payload(u64),
+}
+
+/// How many of these bytes come before the end of so many frames, and with the last of these: all, if no more end there.
+pub(crate) fn front_of(place: &mut Place, most: u32, bytes: &[u8]) -> usize
+    ensures within { result ≤ length bytes.now }
+    ensures place { place.new ≡ passed place.old (take result bytes.now) }
+    ensures most { ended place.old (take result bytes.now) ≤ most }
+    ensures all { ended place.old (take result bytes.now) < most → result ≡ length bytes.now }
+{
+    let mut rest = bytes;
+    let mut left = most;
+    while !rest.is_empty() && left > 0 {
+        let count = pass(place, &mut left, rest);
+        rest = &rest[count..];
+    }
+    bytes.len() - rest.len()
+}
+
+// Passes what there is of a payload, or else a byte, and answers how many bytes these are.
+fn pass(place: &mut Place, left: &mut u32, bytes: &[u8]) -> usize
+    requires some { bytes.now ≢ [] }
+    requires left { 0 < left.old }
+    ensures some { 0 < result }
+    ensures passes { Passes place.old place.new left.old left.new bytes.now result }
+{
+    match *place {
+        Place::Payload(count) if count > 1 => pass_payload(place, count, left, bytes),
+        _ => {
+            *place = step(*place, bytes[0]);
+            if is_front(*place) {
+                *left -= 1;
+            }
+            1
+        }
+    }
+}
+
+// Passes what there is of so many bytes.
+fn pass_payload(place: &mut Place, count: u64, left: &mut u32, bytes: &[u8]) -> usize
+    requires some { bytes.now ≢ [] }
+    requires left { 0 < left.old }
+    requires place { place.old ≡ Place.Payload count }
+    requires count { 1 < count }
+    ensures some { 0 < result }
+    ensures passes { Passes place.old place.new left.old left.new bytes.now result }
+{
+    let there = bytes.len() as u64;
+    if there < count {
+        *place = Place::Payload(count - there);
+        return bytes.len();
+    }
+    *place = Place::Front;
+    *left -= 1;
+    count as usize
+}
+
+// Behind one byte more.
+fn step(place: Place, byte: u8) -> Place
+    ensures { result ≡ step place byte }
+{
+    match place {
+        Place::Front => Place::Second,
+        Place::Second => behind_second(byte % 128),
+        Place::Length(count, before) => {
+            let length = before.saturating_mul(256).saturating_add(u64::from(byte));
+            if count > 1 {
+                Place::Length(count - 1, length)
+            } else {
+                Place::Payload(length.saturating_add(MASK))
+            }
+        }
+        Place::Payload(count) if count > 1 => Place::Payload(count - 1),
+        Place::Payload(_) => Place::Front,
+    }
+}
+
+// Behind the second byte, which says this of the length.
+fn behind_second(length: u8) -> Place
+    requires { length < 128 }
+    ensures { result ≡ behind_second length }
+{
+    match length {
+        126 => Place::Length(2, 0),
+        127 => Place::Length(8, 0),
+        length => Place::Payload(MASK + u64::from(length)),
+    }
+}
+
+// Whether a frame has just ended.
+fn is_front(place: Place) -> bool
+    ensures { result ≡ is_front place }
+{
+    matches!(place, Place::Front)
+}

@@ -1,0 +1,116 @@
+//! How many listen to each topic, as far as is known.
+
+ghost use Rattle.std.specs.Prelude.{◌≤◌, ◌*◌, ◌+◌, length, max};
+ghost use Rattle.work_share.specs.Costs.{least_cost};
+ghost use Rattle.work_share.specs.declared.audiences.TheConstants.{OPERATION};
+
+use crate::sample::Sample;
+use crate::words::Words;
+use command_core::{Member, Op};
+use record_core::Dest;
+use std::alloc::{AllocError, Global};
+
+/// In how many places topics are counted.
+const PLACES: usize = 4_096;
+
+/// What it costs to carry out an operation, in nanoseconds of a processor, beside workers that have the others.
+pub const OPERATION: u64 = 3_000;
+
+// What a delivery costs.
+const DELIVERY: u64 = 4_000;
+
+// A count that is too large falls by this part of itself with each message to the topic.
+const FALL: u64 = 16;
+
+/// How many listen to each topic, as far as is known. Topics share places, so that a count may be too large. The flusher counts, and others look.
+#[derive(Drop)]
+pub struct Audiences {
+    counts: Words,
+}
+
+impl Audiences {
+    /// Nobody listens yet.
+    pub fn new(alloc: Global) -> Result<Audiences, AllocError> {
+        Ok(Audiences {
+            counts: Words::new(alloc, PLACES)?,
+        })
+    }
+
+    /// A command was carried out that tells this, and had so many outputs.
+    pub fn carried_out(&self, sample: Sample, outs: u64) {
+        match sample {
+            Sample::Nothing => {}
+            Sample::Joins(place) => {
+                let known = self.counts.get(place);
+                self.counts.set(place, known.saturating_add(1));
+            }
+            Sample::Hears(place, count) => {
+                let known = self.counts.get(place);
+                self.counts.set(place, heard(known, outs / count.max(1)));
+            }
+        }
+    }
+
+    // What it costs to send a message there.
+    fn cost_to(&self, destination: &Dest) -> u64
+        ensures { OPERATION ≤ result }
+    {
+        let audience = match place_of(destination) {
+            Some(place) => self.counts.get(place),
+            None => 1,
+        };
+        OPERATION.saturating_add(DELIVERY.saturating_mul(audience))
+    }
+
+    /// What this operation is taken to cost, in nanoseconds of a processor.
+    pub fn cost(&self, op: &Op) -> u64
+        ensures { least_cost op.now ≤ result }
+    {
+        match op {
+            Op::Send(sending) => self.cost_to(sending.destination()),
+            Op::Commit(members) => self.cost_of(members.as_slice()),
+            _ => OPERATION,
+        }
+    }
+
+    // What it costs to carry out all members of a transaction.
+    fn cost_of(&self, members: &[Member]) -> u64
+        requires { length members.now ≤ 64 }
+        ensures { OPERATION * (1 + length members.now) ≤ result }
+    {
+        let mut cost = OPERATION;
+        for member in members {
+            cost = cost.saturating_add(self.cost_of_one(member));
+        }
+        cost
+    }
+
+    fn cost_of_one(&self, member: &Member) -> u64
+        ensures { OPERATION ≤ result }
+    {
+        match member {
+            Member::Send(sending) => self.cost_to(sending.destination()),
+            Member::Ack(_) | Member::Nack(_) => OPERATION,
+        }
+    }
+}
+
+// The audience of a topic that was taken for so many, once a message went to so many: what is too much falls slowly, since topics share a
+// place.
+fn heard(known: u64, seen: u64) -> u64
+    ensures { (seen ≤ result) × (result ≤ max known seen) }
+{
+    seen.max(known - known / FALL)
+}
+
+/// The place of a topic; `None` for a queue.
+pub(crate) fn place_of(destination: &Dest) -> Option<usize> {
+    if destination.is_queue() {
+        return None;
+    }
+    let mut hash: u64 = 0xcbf2_9ce4_8422_2325;
+    for byte in destination.as_str().as_bytes() {
+        hash = (hash ^ u64::from(*byte)).wrapping_mul(0x0100_0000_01b3);
+    }
+    Some((hash >> 32) as usize % PLACES)
+}

@@ -1,0 +1,16 @@
+//! What commands cost to carry out, and how many of a desk may be under way.
+
+#![tactic(auto)]
+
+mod audiences;
+mod granting;
+mod loads;
+mod pace;
+mod sample;
+mod words;
+
+pub use audiences::Audiences;
+pub use granting::{BUDGET, GREEDY, SHARE, WIDEST, window};
+pub use loads::Loads;
+pub use pace::Pace;
+pub use sample::Sample;

@@ -1,0 +1,144 @@
+//! What the desks have under way.
+
+ghost use Rattle.std.specs.Prelude.{◌≤◌};
+ghost use Rattle.work_share.specs.declared.granting.TheConstants.{WIDEST};
+
+use crate::granting::{SHARE, WIDEST, window};
+use crate::words::{Words, get, set};
+use std::alloc::{AllocError, Global};
+use std::sync::atomic::{AtomicU64, Ordering};
+
+/// What a desk has under way. It alone writes this, and others look.
+#[derive(Drop)]
+struct Load {
+    // The tickets of its last commands, what each of them cost, and how many it has had.
+    tickets: Words,
+    costs: Words,
+    count: AtomicU64,
+    // Its last ticket, and what its commands under way cost.
+    last: AtomicU64,
+    sum: AtomicU64,
+    // What the command costs that it has asked about last; and its number in line, if it waits with one that is dear.
+    asked: AtomicU64,
+    line: AtomicU64,
+}
+
+impl Load {
+    // It has nothing under way.
+    fn new(alloc: Global) -> Result<Load, AllocError> {
+        Ok(Load {
+            tickets: Words::new(alloc, WIDEST)?,
+            costs: Words::new(alloc, WIDEST)?,
+            count: AtomicU64::new(0),
+            last: AtomicU64::new(0),
+            sum: AtomicU64::new(0),
+            asked: AtomicU64::new(0),
+            line: AtomicU64::new(0),
+        })
+    }
+
+    // What its commands cost that are under way at this mark.
+    fn under_way(&self, mark: u64) -> u64 {
+        if get(&self.last) < mark {
+            0
+        } else {
+            get(&self.sum)
+        }
+    }
+
+    // The command that it has asked about last has that ticket.
+    fn add(&self, ticket: u64, mark: u64) {
+        let cost = get(&self.asked);
+        let place = (self.count.fetch_add(1, Ordering::SeqCst) % WIDEST as u64) as usize;
+        self.tickets.set(place, ticket);
+        self.costs.set(place, cost);
+        let mut sum: u64 = 0;
+        for place in 0..WIDEST {
+            if self.tickets.get(place) >= mark {
+                sum = sum.saturating_add(self.costs.get(place));
+            }
+        }
+        set(&self.sum, sum);
+        set(&self.last, ticket);
+        if cost > SHARE {
+            set(&self.line, 0);
+        }
+    }
+}
+
+/// What the commands cost that all desks have under way, and which desks wait with one that is dear.
+#[derive(Drop)]
+pub struct Loads {
+    desks: Vec<Load>,
+    // The number in line that was given last.
+    line: AtomicU64,
+}
+
+impl Loads {
+    /// Of so many desks that have nothing under way.
+    pub fn new(alloc: Global, count: usize) -> Result<Loads, AllocError> {
+        let mut desks = Vec::with_capacity(alloc, count)?;
+        for _desk in 0..count {
+            desks.push(Load::new(alloc)?)?;
+        }
+        Ok(Loads {
+            desks,
+            line: AtomicU64::new(0),
+        })
+    }
+
+    /// How many commands that desk may have under way with one that costs so much, at this mark.
+    pub fn window(&self, desk: usize, cost: u64, mark: u64) -> usize
+        ensures { result ≤ WIDEST }
+    {
+        let Some(own) = self.desks.get(desk) else {
+            return WIDEST;
+        };
+        set(&own.asked, cost);
+        if cost <= SHARE / WIDEST as u64 {
+            return WIDEST;
+        }
+        let window = window(cost, self.under_way(mark), self.is_first(own));
+        if window == 0 && get(&own.line) == 0 {
+            let line = self.line.fetch_add(1, Ordering::SeqCst);
+            set(&own.line, line.saturating_add(1));
+        }
+        window
+    }
+
+    /// The command that this desk has asked about last has that ticket.
+    pub fn appended(&self, desk: usize, ticket: u64, mark: u64) {
+        if let Some(own) = self.desks.get(desk) {
+            own.add(ticket, mark);
+        }
+    }
+
+    /// Whether that desk waits with a command that is dear.
+    pub fn waits(&self, desk: usize) -> bool {
+        match self.desks.get(desk) {
+            Some(own) => get(&own.line) != 0,
+            None => false,
+        }
+    }
+
+    // What the commands of all desks cost that are under way at this mark.
+    fn under_way(&self, mark: u64) -> u64 {
+        let mut sum: u64 = 0;
+        for desk in &self.desks {
+            sum = sum.saturating_add(desk.under_way(mark));
+        }
+        sum
+    }
+
+    // Whether nobody stands in line before this desk.
+    fn is_first(&self, own: &Load) -> bool {
+        let stands = get(&own.line);
+        for desk in &self.desks {
+            let line = get(&desk.line);
+            if line != 0 && (stands == 0 || line < stands) {
+                return false;
+            }
+        }
+        true
+    }
+}

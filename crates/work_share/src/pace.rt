@@ -1,0 +1,49 @@
+//! How fast the desks may put commands into the ring.
+
+ghost use Rattle.std.specs.Prelude.{◌≤◌};
+ghost use Rattle.work_share.specs.declared.granting.TheConstants.{WIDEST};
+
+use crate::audiences::Audiences;
+use crate::loads::Loads;
+use command_core::Op;
+use std::alloc::{AllocError, Global};
+use std::sync::Arc;
+
+/// What commands of desks cost, and what is under way of them.
+#[derive(Drop)]
+pub struct Pace {
+    audiences: Arc<Audiences>,
+    loads: Loads,
+}
+
+impl Pace {
+    /// Of so many desks that have nothing under way, while nobody listens to a topic.
+    pub fn new(alloc: Global, desks: usize) -> Result<Pace, AllocError> {
+        Ok(Pace {
+            audiences: Arc::new(alloc, Audiences::new(alloc)?)?,
+            loads: Loads::new(alloc, desks)?,
+        })
+    }
+
+    /// What the flusher counts.
+    pub fn audiences(&self) -> Result<Arc<Audiences>, AllocError> {
+        self.audiences.clone()
+    }
+
+    /// How many commands that desk may have under way, with one of this operation that comes next, at this mark.
+    pub fn window(&self, desk: usize, op: &Op, mark: u64) -> usize
+        ensures { result ≤ WIDEST }
+    {
+        self.loads.window(desk, self.audiences.cost(op), mark)
+    }
+
+    /// Whether that desk waits with a command that is dear.
+    pub fn waits(&self, desk: usize) -> bool {
+        self.loads.waits(desk)
+    }
+
+    /// The command that this desk has asked about last has got that ticket.
+    pub fn appended(&self, desk: usize, ticket: u64, mark: u64) {
+        self.loads.appended(desk, ticket, mark);
+    }
+}

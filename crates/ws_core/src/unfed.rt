@@ -1,0 +1,78 @@
+//! The rest of a message, which is fed in pieces.
+
+ghost use Rattle.std.specs.Prelude.{◌≡◌, ◌<◌, [], IfOk, OnErr, length};
+ghost use Rattle.ws_core.specs.Pieces.{IsPiece};
+
+use std::alloc::{AllocError, Global};
+use std::marker::Model;
+use std::mem;
+
+/// How many bytes of a message a link gives at a time. A session may find some 190 frames in so many, and nobody else has a turn
+/// meanwhile.
+const PIECE_BYTES: usize = 4_096;
+
+/// The bytes of a whole message that are still to be fed. Contracts see these.
+#[derive(Drop)]
+pub struct Unfed {
+    message: Vec<u8>,
+    // How many of its bytes were fed.
+    fed: usize,
+}
+
+impl Model for Unfed {
+    ghost use Rattle.std.specs.Prelude.{◌≤◌, List, ℕ, drop, length};
+
+    ghost Value = { List ℕ };
+
+    ghost view = { λ a. drop a.fed a.message.items };
+
+    ghost invariant = { λ a. a.fed ≤ length a.message.items };
+}
+
+impl Unfed {
+    /// A message of which nothing was fed.
+    pub fn new(message: Vec<u8>) -> Unfed
+        ensures { result ≡ message.items }
+    {
+        Unfed { message, fed: 0 }
+    }
+
+    /// How many bytes are left.
+    pub fn len(&self) -> usize
+        ensures { result ≡ length self.now }
+    {
+        self.message.len() - self.fed
+    }
+
+    /// The next piece. If memory is refused for it, nothing has changed. Of a message that is wholly fed nothing is kept.
+    pub fn next(&mut self, alloc: Global) -> Result<Vec<u8>, AllocError>
+        ensures ok { IfOk result (λ piece. IsPiece self.old piece.items self.new) }
+        ensures err { OnErr result (self.new ≡ self.old) }
+    {
+        let left = self.message.len() - self.fed;
+        if left > PIECE_BYTES {
+            return self.cut(alloc);
+        }
+        let piece = if self.fed == 0 {
+            mem::replace(&mut self.message, Vec::new(alloc))
+        } else {
+            let last = self.message[self.fed..].to_vec(alloc)?;
+            drop(mem::replace(&mut self.message, Vec::new(alloc)));
+            last
+        };
+        self.fed = 0;
+        Ok(piece)
+    }
+
+    // A piece after which more are left.
+    fn cut(&mut self, alloc: Global) -> Result<Vec<u8>, AllocError>
+        requires { PIECE_BYTES < length self.old }
+        ensures ok { IfOk result (λ piece. IsPiece self.old piece.items self.new) }
+        ensures err { OnErr result (self.new ≡ self.old) }
+    {
+        let end = self.fed + PIECE_BYTES;
+        let piece = self.message[self.fed..end].to_vec(alloc)?;
+        self.fed = end;
+        Ok(piece)
+    }
+}
