@@ -8,6 +8,9 @@ use crate::words::{Words, get, set};
 use std::alloc::{AllocError, Global};
 use std::sync::atomic::{AtomicU64, Ordering};
 
+// A command that costs so little counts for nothing: all that desks may have under way of these keep to their shares.
+const CHEAP: u64 = SHARE / WIDEST as u64;
+
 /// What a desk has under way. It alone writes this, and others look.
 #[derive(Drop)]
 struct Load {
@@ -18,7 +21,8 @@ struct Load {
     // Its last ticket, and what its commands under way cost.
     last: AtomicU64,
     sum: AtomicU64,
-    // What the command costs that it has asked about last; and its number in line, if it waits with one that is dear.
+    // What the command costs that it has asked about last, or 0 if that counts for nothing; and its number in line, if it waits with one that
+    // is dear.
     asked: AtomicU64,
     line: AtomicU64,
 }
@@ -49,6 +53,9 @@ impl Load {
     // The command that it has asked about last has that ticket.
     fn add(&self, ticket: u64, mark: u64) {
         let cost = get(&self.asked);
+        if cost == 0 {
+            return;
+        }
         let place = (self.count.fetch_add(1, Ordering::SeqCst) % WIDEST as u64) as usize;
         self.tickets.set(place, ticket);
         self.costs.set(place, cost);
@@ -94,10 +101,11 @@ impl Loads {
         let Some(own) = self.desks.get(desk) else {
             return WIDEST;
         };
-        set(&own.asked, cost);
-        if cost <= SHARE / WIDEST as u64 {
+        if cost <= CHEAP {
+            set(&own.asked, 0);
             return WIDEST;
         }
+        set(&own.asked, cost);
         let window = window(cost, self.under_way(mark), self.is_first(own));
         if window == 0 && get(&own.line) == 0 {
             let line = self.line.fetch_add(1, Ordering::SeqCst);
