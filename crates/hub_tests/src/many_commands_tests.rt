@@ -1,4 +1,4 @@
-ghost use Rattle.std.specs.Prelude.{◌≡◌, false};
+ghost use Rattle.std.specs.Prelude.{◌≡◌, IfSome, false};
 ghost use Rattle.hub_tests.specs.Parties.{AreTogether};
 
 use crate::hubs::{AREA, HubFlusher, HubRing, HubSeat, Party, close, new_party, numbers};
@@ -93,6 +93,33 @@ fn append_all<R: Clock>(rt: &R, alloc: Global, ring: &HubRing, seat: &mut HubSea
     true
 }
 
+// Makes a turn, and compacts the journal after it if that is asked for and the mark has risen. Answers the mark, and nothing after a fault.
+fn turn_once<P: Pacing>(
+    alloc: Global,
+    ring: &HubRing,
+    flusher: &mut HubFlusher,
+    pace: &P,
+    before: u64,
+    compacts: bool,
+) -> Option<u64>
+    requires ring { flusher.old.seat.ring ≡ ring.now }
+    requires executed { flusher.old.broken ≡ false → flusher.old.executed ≡ flusher.old.stored }
+    ensures ring { flusher.new.seat.ring ≡ flusher.old.seat.ring }
+    ensures seats { flusher.new.seat.seats ≡ flusher.old.seat.seats }
+    ensures executed { IfSome result (λ _. flusher.new.broken ≡ false → flusher.new.executed ≡ flusher.new.stored) }
+{
+    let Ok(mark) = flush_loop(alloc, ring, flusher, pace, 1) else {
+        return None;
+    };
+    if !compacts || mark <= before {
+        return Some(mark);
+    }
+    match flusher.compact(alloc, ring) {
+        Ok(()) => Some(mark),
+        Err(_) => None,
+    }
+}
+
 /// Turns until so many commands are published. Where that is asked for, the journal is compacted after each batch.
 pub fn flush_to<P: Pacing>(
     alloc: Global,
@@ -109,12 +136,9 @@ pub fn flush_to<P: Pacing>(
 {
     let mut before = flusher.mark();
     for _ in 0..20_000u32 {
-        let Ok(mark) = flush_loop(alloc, ring, flusher, pace, 1) else {
+        let Some(mark) = turn_once(alloc, ring, flusher, pace, before, compacts) else {
             return;
         };
-        if compacts && before < mark && flusher.compact(alloc, ring).is_err() {
-            return;
-        }
         if wanted <= mark {
             return;
         }
