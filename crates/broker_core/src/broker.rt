@@ -1,11 +1,14 @@
 //! The broker, one command after another.
 
-ghost use Rattle.std.specs.Prelude.{◌≡◌, ◌+◌, ◌<◌, ◌^◌, ◌↔◌, false, true, IfOk, IfSome, IsSome, OnOk, Some, length, slice_get};
+ghost use Rattle.std.specs.Prelude.{◌≡◌, ◌+◌, ◌<◌, ◌^◌, ◌↔◌, false, true, IfOk, IfSome, IsSome, OnOk, length, map, ℕ};
+ghost use Rattle.std.specs.List.{sum_by};
 ghost use Rattle.broker_core.specs.Outcomes.{IsOutcome};
 ghost use Rattle.broker_state.specs.Operations.{restarted};
 ghost use Rattle.broker_state.specs.PartsOf.{state_of_parts};
 ghost use Rattle.broker_state.specs.Sound.{IsSound};
 ghost use Rattle.broker_state.specs.States.{empty_state, held_messages, held_bytes};
+ghost use Rattle.broker_state.specs.declared.subscription.Subscription.{Subscription};
+ghost use Rattle.waiting_order.specs.Waiting.{subs_of};
 ghost use Rattle.broker_state.specs.Steps.{outs, outs_by, outs_v1, step, step_by, step_v1};
 
 use crate::committing::have_few_members;
@@ -15,10 +18,12 @@ use broker_checks::{are_sound, held_of};
 use broker_state::{DurableName, GivenName, Held, NackRule, Parts, Subscription};
 use broker_tables::{SharedLines, Tables};
 use command_core::{Command, Out};
+use indexmap::map::Slice;
 use record_core::Dest;
 use std::alloc::{AllocError, Global};
 use std::collections::BTreeMap;
 use std::marker::Model;
+use waiting_order::{Key, Standing};
 
 /// The broker: it carries out commands one after another, numbered from 0, and answers each. Contracts see its state and
 /// whether it is broken. It breaks if memory is refused within a command, and stays so for good. It holds nothing then.
@@ -183,12 +188,18 @@ impl Broker {
         self.tables.order().len()
     }
 
-    /// The subscription in that place of the waiting order; the one that waits longest has the place 0.
-    pub fn subscription(&self, at: usize) -> &Subscription
-        requires { at < length self.now.state.subscriptions }
-        ensures { slice_get self.now.state.subscriptions at ≡ Some result.now }
+    /// The subscriptions in waiting order; the one that waits longest is the first.
+    pub fn subscriptions(&self, alloc: Global) -> Result<Vec<&Subscription>, AllocError>
+        ensures { IfOk result (λ subs. map (λ sub. sub.now) subs.items ≡ self.now.state.subscriptions) }
     {
-        self.tables.order().get(at)
+        self.tables.order().in_order(alloc)
+    }
+
+    /// The subscriptions in any order, each with its key.
+    pub fn subscriptions_by_key(&self) -> Slice<'_, Key, Standing>
+        ensures { (f : Subscription → ℕ) → sum_by f (subs_of result) ≡ sum_by f self.now.state.subscriptions }
+    {
+        self.tables.order().as_slice()
     }
 
     /// How much it holds: nothing once it is broken.

@@ -14,15 +14,16 @@ ghost use Rattle.broker_state.specs.Names.{Name};
 ghost use Rattle.broker_state.specs.Operations.{acknowledged};
 ghost use Rattle.broker_state.specs.Parts.{IsFirst, NonePass, find_room, without_state};
 ghost use Rattle.broker_state.specs.States.{State};
+ghost use Rattle.waiting_order.specs.Waiting.{subs_of};
 ghost use Rattle.broker_core.specs.Prechecks.{HoldsFlights, Leads, SettlesFlight, StandsFor, bytes_in, deliveries_in, flight_of, flights_of, has, kept_bytes_in, kept_in, left_by, sized};
 
-use broker_order::Order;
 use broker_state::{Held, MOST_BYTES, NackRule, Subscription, stand_in_order};
 use broker_tables::{Tables, copies_to, find_room, is_dropped, refused_size};
 use command_core::{Fault, Member};
 use line_core::{Flight, Message, SettleFault, size};
 use record_core::AckMode;
 use std::alloc::{AllocError, Global};
+use waiting_order::{Order, Sought};
 
 /// What decides whether a message that is not acknowledged finds room: its bytes, and those that it has in the queue of
 /// refused messages. It has none there if it is dropped once it is refused.
@@ -89,14 +90,14 @@ fn flight_of(alloc: Global, sub: &Subscription) -> Result<PrecheckFlight, AllocE
 
 /// The subscriptions of the session, in waiting order.
 fn flights_of(alloc: Global, order: &Order, session: u64) -> Result<Vec<PrecheckFlight>, AllocError>
-    ensures { IfOk result (λ flights. flights.items ≡ flights_of session order.now) }
+    ensures { IfOk result (λ flights. flights.items ≡ flights_of session (subs_of order.now.all)) }
 {
     let mut flights = Vec::new(alloc);
-    let mut at = order.next_of(session, 0);
-    while at < order.len() {
-        let flight = flight_of(alloc, order.get(at))?;
+    let mut from = 0;
+    while let Some(place) = order.next_of(session, Sought::Any, from) {
+        let flight = flight_of(alloc, order.get(place.key))?;
         flights.push(flight)?;
-        at = order.next_of(session, at + 1);
+        from = place.ticket + 1;
     }
     Ok(flights)
 }

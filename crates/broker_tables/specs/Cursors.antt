@@ -1,31 +1,52 @@
-use Rattle.std.specs.Prelude.{◌≡◌, ◌+◌, ◌≤◌, ◌&&◌, List, ℕ, Bool, true, Some, count_by, nat_le, nat_lt, slice_get}
-use Rattle.std.specs.List.{list_any}
+use Rattle.std.specs.Prelude.{◌≡◌, ◌+◌, ◌-◌, ◌<◌, ◌≤◌, ◌^◌, ◌&&◌, List, ℕ, Bool, true, false, Some, nat_le, slice_get}
+use Rattle.std.specs.List.{AllByRecursion, list_any, sum_by}
 use Rattle.broker_state.specs.declared.subscription.Subscription.{Subscription}
 use Rattle.broker_state.specs.HandOut.{can_take}
-use Rattle.broker_state.specs.States.{State}
+use Rattle.broker_state.specs.Lists.{is_none}
+use Rattle.broker_state.specs.Parts.{NonePass}
+use Rattle.broker_state.specs.Waiting.{Shared, line_for}
 use Rattle.broker_tables.specs.declared.cursors.Cursor.{Cursor}
-use Rattle.broker_tables.specs.declared.due.Key.{Key}
-use Rattle.broker_tables.specs.Dues.{is_under}
+use Rattle.broker_tables.specs.declared.due.Due.{Due}
+use Rattle.broker_tables.specs.declared.stock.Stock.{Stock}
+use Rattle.broker_tables.specs.Dues.{is_awaited, is_under}
+use Rattle.broker_tables.specs.Places.{IsFirstAt}
+use Rattle.broker_tables.specs.Stocks.{stocked}
+use Rattle.waiting_order.specs.declared.key.Key.{Key}
+use Rattle.waiting_order.specs.declared.places.Place.{Place}
+use Rattle.waiting_order.specs.declared.standing.Standing.{Standing}
+use Rattle.waiting_order.specs.Waiting.{subs_of}
 
--- some cursor under one of the subscription's keys is at that standing or before it
-abbrev pub is_awaited : List Cursor → ℕ → Subscription → Bool
-is_awaited cursors standing sub = list_any (λ cursor. nat_le cursor.standing standing && is_under cursor.key sub) cursors
+-- each waiter who can be served is awaited at its ticket
+abbrev pub AreAwaited : List Cursor → Stock → Type 0
+AreAwaited cursors stock =
+    AllByRecursion (λ (w : Key × Standing). can_take (stocked stock) w.1.sub ≡ true → is_awaited cursors w.1.ticket w.1.sub ≡ true) stock.order.all
 
--- a subscription that was awaited still is
-abbrev pub KeepsAwaited : List Cursor → List Cursor → Type 0
-KeepsAwaited old new = (standing : ℕ) (sub : Subscription) → is_awaited old standing sub ≡ true → is_awaited new standing sub ≡ true
+-- nothing waits for those that are due and have a ticket from the one on and under the other
+abbrev pub IdleUntil : Due → Shared → List (Key × Standing) → ℕ → ℕ → Type 0
+IdleUntil due shared ws from until = (i : ℕ) (w : Key × Standing) → slice_get ws i ≡ Some w → from ≤ w.1.ticket → w.1.ticket < until
+    → is_under due w.1.sub ≡ true → is_none (line_for shared w.1.sub) ≡ true
 
--- each subscription from a place on that is under the key and can be served is awaited at its standing
-abbrev pub AreAwaitedUnder : Key → List Cursor → State → ℕ → Type 0
-AreAwaitedUnder key cursors s from = (i : ℕ) (sub : Subscription) → slice_get s.subscriptions i ≡ Some sub → from ≤ i
-    → is_under key sub ≡ true → can_take s sub ≡ true → is_awaited cursors (i + s.next_delivery) sub ≡ true
+-- Nothing waits for those that are due, from a ticket on, before somebody's place.
+pub record WaitsUntil (due : Due) (shared : Shared) (ws : List (Key × Standing)) (from : ℕ) (place : Place) : Type 0 where
+  pub at : ℕ
+  pub standing : Standing
+  pub there : slice_get ws at ≡ Some (place.key, standing)
+  pub ticket : standing.ticket ≡ place.ticket
+  pub after : from ≤ place.ticket
+  pub idle : IdleUntil due shared ws from place.ticket
 
--- how many cursors are before that standing
-abbrev pub count_before : ℕ → List Cursor → ℕ
-count_before standing cursors = count_by (λ cursor. nat_lt cursor.standing standing) cursors
+-- a cursor at another ticket
+abbrev pub at_ticket : ℕ → Cursor → Cursor
+at_ticket ticket cursor = record cursor { from = ticket }
 
--- each subscription from a place on that can be served is awaited at its standing: its place and the number of the next
--- delivery together
-abbrev pub AreAwaited : List Cursor → State → ℕ → Type 0
-AreAwaited cursors s from = (at : ℕ) (sub : Subscription) → slice_get s.subscriptions at ≡ Some sub → from ≤ at → can_take s sub ≡ true
-    → is_awaited cursors (at + s.next_delivery) sub ≡ true
+-- how many tickets cursors have before them
+abbrev pub tickets_left : List Cursor → ℕ
+tickets_left cursors = sum_by (λ (cursor : Cursor). 2 ^ 64 - cursor.from) cursors
+
+-- the first in waiting order that can be served stands at that key
+abbrev pub IsReady : Stock → Key → Type 0
+IsReady stock key = IsFirstAt (can_take (stocked stock)) stock.order.all key
+
+-- none can be served
+abbrev pub NoneReady : Stock → Type 0
+NoneReady stock = NonePass (can_take (stocked stock)) (subs_of stock.order.all)

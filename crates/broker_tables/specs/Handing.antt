@@ -1,34 +1,16 @@
-use Rattle.std.specs.Prelude.{◌≡◌, ◌+◌, ◌-◌, List, ℕ, Some, drop, if◌then◌else◌, length, remove}
+use Rattle.std.specs.Prelude.{◌≡◌, ◌+◌, ◌-◌, ◌++◌, ◌∷◌, [], List, ℕ, Some, drop, if◌then◌else◌, remove, slice_get}
 use Rattle.command_core.specs.Outs.{OutValue}
 use Rattle.line_core.specs.declared.message.Message.{Message}
 use Rattle.line_core.specs.Lines.{first_of}
 use Rattle.broker_state.specs.declared.held.Held.{Held}
 use Rattle.broker_state.specs.declared.subscription.Subscription.{Subscription}
-use Rattle.broker_state.specs.HandOut.{delivered, handed_to, is_auto, message_out, waiting}
-use Rattle.broker_state.specs.Settles.{SettlesSo}
-use Rattle.broker_state.specs.States.{State, bytes}
+use Rattle.broker_state.specs.HandOut.{delivered, is_auto, message_out}
+use Rattle.broker_state.specs.States.{bytes}
 use Rattle.broker_state.specs.Waiting.{Shared, left_line, left_shared, line_for}
-use Rattle.broker_tables.specs.Cursors.{AreAwaited}
-use Rattle.broker_tables.specs.declared.cursors.Cursor.{Cursor}
-use Rattle.broker_tables.specs.Places.{HoldsAt}
+use Rattle.broker_tables.specs.declared.stock.Stock.{Stock}
 use Rattle.broker_tables.specs.Returns.{HandFirst}
-
--- the subscription in that place was handed the least message of its line, which left this state
-abbrev pub IsServedAt : State → ℕ → State → OutValue → Type 0
-IsServedAt s at t out = HoldsAt s.subscriptions at (λ sub. handed_to s (Some (sub, remove s.subscriptions at)) ≡ Some (record { state = t; out = out }))
-
--- whatever was handed out before: the subscriptions that wait from a place on are still to be served, and then those from
--- the other on
-abbrev pub GoesOn : State → List OutValue → ℕ → State → List OutValue → ℕ → Type 0
-GoesOn s outs at t outs_after from = (first : State) (before : List OutValue) → SettlesSo first before s outs at → SettlesSo first before t outs_after from
-
--- how much may be handed out from a place on: the messages that wait, and the subscriptions from there
-abbrev pub left_from : State → ℕ → ℕ
-left_from s at = waiting s + (length s.subscriptions - at)
-
--- the subscriptions that the cursors await from a place on, they await from the other on too
-abbrev pub KeepsAwaiting : State → ℕ → State → ℕ → Type 0
-KeepsAwaiting s at t from = (cursors : List Cursor) → AreAwaited cursors s at → AreAwaited cursors t from
+use Rattle.waiting_order.specs.declared.key.Key.{Key}
+use Rattle.waiting_order.specs.declared.standing.Standing.{Standing}
 
 -- A subscription got the least message of its line, which left the line first; what is counted as held follows its mode.
 pub record IsHanded (number delivery : ℕ) (shared : Shared) (sub : Subscription) (held : Held) (shared_after : Shared) (sub_after : Subscription) (held_after : Held) (reply : OutValue) : Type 0 where
@@ -42,3 +24,13 @@ pub record IsHanded (number delivery : ℕ) (shared : Shared) (sub : Subscriptio
   pub out : reply ≡ message_out number left delivery message
   pub messages : held_after.messages ≡ (if is_auto left.mode then held.messages - 1 else held.messages)
   pub lighter : held_after.bytes ≡ (if is_auto left.mode then held.bytes - bytes message else held.bytes)
+
+-- Who stands at that key was handed the least message of its line by the command of that number, and waits last then.
+pub record IsServed (number : ℕ) (old : Stock) (key : Key) (new : Stock) (out : OutValue) : Type 0 where
+  pub at : ℕ
+  pub standing : Standing
+  pub sub : Subscription
+  pub there : slice_get old.order.all at ≡ Some (key, standing)
+  pub handed : IsHanded number old.next_delivery old.shared standing.sub old.held new.shared sub new.held out
+  pub order : new.order ≡ record { all = remove old.order.all at ++ (key, record { ticket = old.order.next; sub = sub }) ∷ []; next = old.order.next + 1 }
+  pub delivery : new.next_delivery ≡ old.next_delivery + 1

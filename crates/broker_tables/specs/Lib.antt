@@ -5,5 +5,6 @@ pub mod Places
 pub mod Refusals
 pub mod Returns
 pub mod Sendings
+pub mod Stocks
 pub mod Tables
 pub mod Topics

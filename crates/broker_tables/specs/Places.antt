@@ -1,13 +1,35 @@
-use Rattle.std.specs.Prelude.{◌≡◌, List, ℕ, Result, Ok, Err, Some, if◌then◌else◌, count_by, nat_le, slice_get}
+use Rattle.std.specs.Prelude.{◌≡◌, List, ℕ, Bool, true, false, Result, Ok, Err, Some, if◌then◌else◌, count_by, nat_le, remove, slice_get}
 use Rattle.std.specs.List.{list_any}
 use Rattle.command_core.specs.declared.fault.Fault.{Fault}
 use Rattle.command_core.specs.declared.fault.Fault.TheVariants.{SubscriptionIdInUse, TooManyEntries}
 use Rattle.broker_state.specs.declared.subscription.Subscription.{Subscription}
-use Rattle.broker_state.specs.Operations.{is_named, is_of}
+use Rattle.broker_state.specs.Operations.{is_named, is_of, without}
+use Rattle.broker_state.specs.Parts.{IsFirst, NonePass}
+use Rattle.broker_state.specs.States.{State}
+use Rattle.waiting_order.specs.declared.key.Key.{Key}
+use Rattle.waiting_order.specs.declared.standing.Standing.{Standing}
+use Rattle.waiting_order.specs.Waiting.{subs_of}
 
 -- the subscription in that place has P
 abbrev pub HoldsAt : List Subscription → ℕ → (Subscription → Type 0) → Type 0
 HoldsAt subs at P = (sub : Subscription) → slice_get subs at ≡ Some sub → P sub
+
+-- somebody stands at that key, and the subscription has P
+abbrev pub StandsSo : List (Key × Standing) → Key → (Subscription → Type 0) → Type 0
+StandsSo ws key P = (at : ℕ) × (s : Standing) × (slice_get ws at ≡ Some (key, s)) × P s.sub
+
+-- the first subscription that passes stands at that key
+pub record IsFirstAt (passes : Subscription → Bool) (ws : List (Key × Standing)) (key : Key) : Type 0 where
+  pub at : ℕ
+  pub standing : Standing
+  pub there : slice_get ws at ≡ Some (key, standing)
+  pub first : IsFirst passes (subs_of ws) at
+
+-- the first subscription that passes has ended, or none passes and nothing has changed
+abbrev pub EndsFirst : (Subscription → Bool) → State → State → Bool → Type 0
+EndsFirst passes s t true =
+    (at : ℕ) × IsFirst passes s.subscriptions at × HoldsAt s.subscriptions at (λ sub. t ≡ without s sub (remove s.subscriptions at))
+EndsFirst passes s t false = NonePass passes s.subscriptions × (t ≡ s)
 
 -- whether a session may have one more subscription, of that id: not if it has one of that id, or 16
 abbrev pub place_for : List Subscription → ℕ → List ℕ → Result (Unit {0}) Fault

@@ -40,3 +40,10 @@ pub record LetsGo (held held_after : Held) (shared shared_after : Shared) (sub :
 abbrev pub KeepsWeight : Shared → List (ℕ × Message) → Shared → List (ℕ × Message) → Type 0
 KeepsWeight old deliveries new gone =
     (weight : Message → ℕ) → weight_of_shared weight new + sum_by (λ delivery. weight delivery.1) gone ≡ weight_of_shared weight old + sum_by (λ delivery. weight delivery.1) deliveries
+
+-- What counts as held is what stands in those lines and in subscriptions together, within the limits.
+pub record HoldAll (held : Held) (shared : Shared) (subs : List Subscription) : Type 0 where
+  pub few : held.messages ≤ 4096
+  pub small : held.bytes ≤ 16777216
+  pub messages : held.messages ≡ weight_of_shared one shared + sum_by (weight_of_subscription one) subs
+  pub bytes : held.bytes ≡ weight_of_shared bytes shared + sum_by (weight_of_subscription bytes) subs

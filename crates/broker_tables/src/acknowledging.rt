@@ -2,28 +2,27 @@
 
 ghost use Rattle.std.specs.Prelude.{◌≡◌, IfOk, IsErr, MatchOption, OnOk, false};
 ghost use Rattle.broker_state.specs.Operations.{acknowledged, awaits};
-ghost use Rattle.broker_state.specs.Parts.{IsFirst, NonePass, leaving};
+ghost use Rattle.broker_state.specs.Parts.{NonePass, leaving};
+ghost use Rattle.broker_tables.specs.Places.{IsFirstAt};
+ghost use Rattle.waiting_order.specs.Waiting.{subs_of};
 
-use crate::due::{Key, mark};
+use crate::due::{Due, mark};
 use crate::subscribing::let_deliveries_go;
 use crate::tables::Tables;
-use broker_order::Order;
 use command_core::Fault;
 use std::alloc::AllocError;
+use waiting_order::{Key, Order, Sought};
 
-/// Where the subscription of that session waits that has not acknowledged the delivery of that number.
-pub(crate) fn find_awaiting(order: &Order, session: u64, delivery: u64) -> Option<usize>
-    ensures { MatchOption result (NonePass (awaits session delivery) order.now)
-        (λ at. IsFirst (awaits session delivery) order.now at) }
+/// The key of the subscription of that session that has not acknowledged the delivery of that number.
+pub(crate) fn find_awaiting(order: &Order, session: u64, delivery: u64) -> Option<Key>
+    ensures { MatchOption result (NonePass (awaits session delivery) (subs_of order.now.all))
+        (IsFirstAt (awaits session delivery) order.now.all) }
 {
-    let mut at = order.next_of(session, 0);
-    while at < order.len() {
-        if order.get(at).unacknowledged.contains(delivery) {
-            return Some(at);
-        }
-        at = order.next_of(session, at + 1);
+    let sought = Sought::Delivery(delivery);
+    match order.next_of(session, sought, 0) {
+        Some(place) => Some(place.key),
+        None => None,
     }
-    None
 }
 
 impl Tables {
@@ -39,13 +38,13 @@ impl Tables {
         ensures same { IfOk result (λ r. IsErr r → self.new ≡ self.old) }
         ensures whole { OnOk result (self.new.broken ≡ false) }
     {
-        let Some(at) = find_awaiting(&self.order, session, delivery) else {
+        let Some(key) = find_awaiting(&self.stock.order, session, delivery) else {
             return Ok(Err(Fault::UnknownAcknowledgement));
         };
         self.broken = true;
-        mark(&mut self.due, Key::Session(session))?;
-        let settled = self.order.settle(at, delivery)?;
-        let_deliveries_go(&mut self.held, settled.as_slice());
+        mark(&mut self.due, Due::Session(session))?;
+        let settled = self.stock.order.settle(key, delivery)?;
+        let_deliveries_go(&mut self.stock.held, settled.as_slice());
         self.broken = false;
         Ok(Ok(()))
     }

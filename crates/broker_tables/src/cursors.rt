@@ -1,132 +1,96 @@
-//! From where on a subscription may be served, for each key that is due.
+//! From which ticket on a subscription may be served, of those that are due.
 
-ghost use Rattle.std.specs.Prelude.{◌≡◌, ◌+◌, ◌<◌, ◌≤◌, ◌∷◌, ◌^◌, ℕ, IfNone, IfOk, IfSome, OnOk, Some, count_by, false, length, nat_lt, slice_get, true};
+ghost use Rattle.std.specs.Prelude.{◌≡◌, ◌<◌, ◌≤◌, ◌^◌, ◌-◌, ℕ, IfNone, IfSome, MatchOption, Some, length, slice_get, true};
 ghost use Rattle.std.specs.List.{AllByRecursion};
-ghost use Rattle.broker_state.specs.declared.subscription.Subscription.{Subscription};
-ghost use Rattle.broker_state.specs.HandOut.{can_take};
-ghost use Rattle.broker_tables.specs.Cursors.{AreAwaited, AreAwaitedUnder, KeepsAwaited, count_before, is_awaited};
-ghost use Rattle.broker_tables.specs.Dues.{is_due, is_under};
+ghost use Rattle.broker_state.specs.Lists.{changed};
+ghost use Rattle.broker_tables.specs.Cursors.{AreAwaited, IsReady, NoneReady, at_ticket, tickets_left};
+ghost use Rattle.broker_tables.specs.declared.cursors.Cursor.{Cursor};
 
-use crate::due::{Key, next_waiting};
-use crate::tables::Tables;
-use std::alloc::{AllocError, Global};
-use std::collections::BTreeSet;
+use crate::due::{Due, next_waiting};
+use crate::stock::Stock;
+use waiting_order::Key;
 
-/// No subscription under the key that can be served stands before that standing. The *standing* of a subscription is its
-/// place and the number of the next delivery together. Each delivery takes one out before it and adds one at the end, so its
-/// standing stays until it is served itself. Cursors are in order of their standing, and then of their keys.
+/// Of those that are due no subscription with a lesser ticket can be served.
 #[derive(PartialEq, Eq, PartialOrd, Ord, Drop)]
 pub struct Cursor {
-    pub standing: u64,
-    pub key: Key,
+    pub from: u64,
+    pub due: Due,
 }
 
-/// Takes out the least cursor, if it is under that standing.
-fn take_under(cursors: &mut BTreeSet<Cursor>, standing: u64) -> Option<Cursor>
-    ensures taken { IfSome result (λ cursor. cursors.old.keys ≡ cursor ∷ cursors.new.keys) }
-    ensures under { IfSome result (λ cursor. cursor.standing < standing) }
-    ensures same { IfNone result (cursors.new.keys ≡ cursors.old.keys) }
-    ensures none { IfNone result (AllByRecursion (λ cursor. standing ≤ cursor.standing) cursors.old.keys) }
+/// The ticket of a cursor behind which nothing waits. No subscription has it.
+const END: u64 = u64::MAX;
+
+/// The index of a cursor with the least ticket; none if all are at the end.
+fn least(cursors: &[Cursor]) -> Option<usize>
+    ensures some { IfSome result (λ at. (c : Cursor) × (slice_get cursors.now at ≡ Some c) × (c.from < 2 ^ 64 - 1)
+        × AllByRecursion (λ d. c.from ≤ d.from) cursors.now) }
+    ensures none { IfNone result (AllByRecursion (λ c. 2 ^ 64 - 1 ≤ c.from) cursors.now) }
 {
-    let Some(least) = cursors.first() else {
-        return None;
-    };
-    if standing <= least.standing {
-        return None;
-    }
-    cursors.pop_first()
-}
-
-/// The place of the least cursor before the end, or the end.
-fn least_place(cursors: &BTreeSet<Cursor>, next_delivery: u64, end: usize) -> usize
-    requires { AllByRecursion (λ cursor. next_delivery ≤ cursor.standing) cursors.now.keys }
-    ensures within { result ≤ end }
-    ensures after { (from : ℕ) → from ≤ end → AllByRecursion (λ cursor. from + next_delivery ≤ cursor.standing) cursors.now.keys → from ≤ result }
-    ensures least { (at : ℕ) (sub : Subscription) → at < result → is_awaited cursors.now.keys (at + next_delivery) sub ≡ false }
-{
-    match cursors.first() {
-        Some(least) => end.min((least.standing - next_delivery) as usize),
-        None => end,
-    }
-}
-
-/// A cursor for each of these keys.
-fn cursors_for(alloc: Global, tables: &Tables, keys: &[Key]) -> Result<BTreeSet<Cursor>, AllocError>
-    requires whole { tables.now.broken ≡ false }
-    ensures { IfOk result (λ cursors. (at : ℕ) (sub : Subscription) → slice_get tables.now.state.subscriptions at ≡ Some sub → is_due keys.now sub ≡ true
-        → can_take tables.now.state sub ≡ true → is_awaited cursors.keys (at + tables.now.state.next_delivery) sub ≡ true) }
-{
-    let mut cursors = BTreeSet::new(alloc);
-    for key in keys {
-        let key = key.clone()?;
-        tables.add_cursor(&mut cursors, key, 0)?;
-    }
-    Ok(cursors)
-}
-
-impl Tables {
-    /// A cursor for each key that is due.
-    pub(crate) fn first_cursors(&self, alloc: Global) -> Result<BTreeSet<Cursor>, AllocError>
-        requires whole { self.now.broken ≡ false }
-        ensures { IfOk result (λ cursors. AreAwaited cursors.keys self.now.state 0) }
-    {
-        cursors_for(alloc, self, self.due.as_slice())
-    }
-
-    /// The place of the first subscription, from a place on, that may be one that can be served, or the end. Cursors that
-    /// are behind are moved on first. If memory is refused, some of them may be gone.
-    pub(crate) fn next_ready(
-        &self,
-        cursors: &mut BTreeSet<Cursor>,
-        from: usize,
-    ) -> Result<usize, AllocError>
-        requires place { from ≤ length self.now.state.subscriptions }
-        requires awaited { AreAwaited cursors.old.keys self.now.state from }
-        requires whole { self.now.broken ≡ false }
-        ensures after { IfOk result (λ at. from ≤ at) }
-        ensures within { IfOk result (λ at. at ≤ length self.now.state.subscriptions) }
-        ensures none { IfOk result (λ at. (i : ℕ) (sub : Subscription) → slice_get self.now.state.subscriptions i ≡ Some sub → from ≤ i → i < at
-            → can_take self.now.state sub ≡ false) }
-        ensures awaited { OnOk result (AreAwaited cursors.new.keys self.now.state from) }
-    {
-        let end = self.order().len();
-        let standing = self.standing(from);
-        while let Some(cursor) = take_under(cursors, standing) {
-            self.add_cursor(cursors, cursor.key, from)?;
+    let mut least = None;
+    let mut from = END;
+    for at in 0..cursors.len() {
+        if cursors[at].from < from {
+            from = cursors[at].from;
+            least = Some(at);
         }
-        Ok(least_place(cursors, self.next_delivery(), end))
     }
+    least
+}
 
-    /// A cursor for the first subscription under a key, from a place on, for which something waits, unless there is none. If
-    /// memory is refused, nothing changes.
-    fn add_cursor(
-        &self,
-        cursors: &mut BTreeSet<Cursor>,
-        key: Key,
-        from: usize,
-    ) -> Result<(), AllocError>
-        requires place { from ≤ length self.now.state.subscriptions }
-        requires whole { self.now.broken ≡ false }
-        ensures kept { OnOk result (KeepsAwaited cursors.old.keys cursors.new.keys) }
-        ensures added { OnOk result (AreAwaitedUnder key cursors.new.keys self.now.state from) }
-        ensures after { OnOk result (count_before (from + self.now.state.next_delivery) cursors.new.keys ≤ count_before (from + self.now.state.next_delivery) cursors.old.keys) }
+/// Whether no cursor has a ticket under that one.
+fn are_from(cursors: &[Cursor], ticket: u64) -> bool
+    ensures { result ≡ true → AllByRecursion (λ c. ticket ≤ c.from) cursors.now }
+{
+    cursors.iter().all(|cursor| ticket <= cursor.from)
+}
+
+/// A cursor moves on to a ticket.
+fn move_on(cursors: &mut Vec<Cursor>, at: usize, ticket: u64)
+    requires { at < length cursors.old.items }
+    ensures { cursors.new.items ≡ changed at (at_ticket ticket) cursors.old.items }
+{
+    let cursor = &mut cursors[at];
+    cursor.from = ticket;
+}
+
+impl Stock {
+    /// The key of the first subscription in waiting order that can be served, if there is one. Cursors move on meanwhile.
+    pub fn next_ready(&self, cursors: &mut Vec<Cursor>) -> Option<Key>
+        requires { AreAwaited cursors.old.items self.now }
+        ensures ready { MatchOption result (NoneReady self.now) (IsReady self.now) }
+        ensures awaited { AreAwaited cursors.new.items self.now }
     {
-        let place = next_waiting(self.order(), self.shared(), &key, from);
-        if place == self.order().len() {
-            drop(key);
-            return Ok(());
+        while let Some(at) = least(cursors.as_slice()) {
+            if let Some(key) = self.advance(cursors, at) {
+                return Some(key);
+            }
         }
-        let standing = self.standing(place);
-        cursors.insert(Cursor { standing, key })?;
-        Ok(())
+        None
     }
 
-    /// The standing of the subscription in that place.
-    fn standing(&self, place: usize) -> u64
-        requires place { place < 2 ^ 63 }
-        requires whole { self.now.broken ≡ false }
-        ensures { result ≡ place + self.now.state.next_delivery }
+    /// A cursor with the least ticket moves on to the first subscription for which something may wait. Its key is given if it
+    /// can be served and none can that waits before it.
+    fn advance(&self, cursors: &mut Vec<Cursor>, at: usize) -> Option<Key>
+        requires least { (c : Cursor) × (slice_get cursors.old.items at ≡ Some c) × (c.from < 2 ^ 64 - 1)
+            × AllByRecursion (λ d. c.from ≤ d.from) cursors.old.items }
+        requires awaited { AreAwaited cursors.old.items self.now }
+        ensures ready { IfSome result (IsReady self.now) }
+        ensures awaited { AreAwaited cursors.new.items self.now }
+        ensures nearer { IfNone result (tickets_left cursors.new.items < tickets_left cursors.old.items) }
     {
-        place as u64 + self.next_delivery
+        let from = cursors[at].from;
+        let Some(place) = next_waiting(&self.order, &self.shared, &cursors[at].due, from) else {
+            move_on(cursors, at, END);
+            return None;
+        };
+        move_on(cursors, at, place.ticket);
+        if from < place.ticket && !are_from(cursors.as_slice(), place.ticket) {
+            return None;
+        }
+        if self.can_serve(place.key) {
+            return Some(place.key);
+        }
+        move_on(cursors, at, place.ticket + 1);
+        None
     }
 }

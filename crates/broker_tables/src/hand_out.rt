@@ -1,29 +1,33 @@
 //! What waits is handed out.
 
-ghost use Rattle.std.specs.Prelude.{◌≡◌, ◌+◌, ◌-◌, ◌++◌, ◌∷◌, ◌<◌, ◌≤◌, ◌^◌, [], ℕ, IfOk, OnOk, Some, drop, false, if◌then◌else◌, length, nat_lt, not, slice_get, true};
+ghost use Rattle.std.specs.Prelude.{◌≡◌, ◌+◌, ◌-◌, ◌++◌, ◌∷◌, ◌<◌, ◌≤◌, ◌^◌, [], ℕ, IfOk, OnOk, Some, drop, false, if◌then◌else◌, length, nat_lt, not, remove, slice_get, true};
 ghost use Rattle.line_core.specs.Flights.{IsOver};
 ghost use Rattle.line_core.specs.Lines.{first_of};
-ghost use Rattle.broker_state.specs.HandOut.{ack_of, can_take, delivered, is_auto, message_out, settled, waiting};
-ghost use Rattle.broker_state.specs.Lists.{is_none};
+ghost use Rattle.broker_state.specs.HandOut.{ack_of, delivered, is_auto, message_out, settled};
+ghost use Rattle.broker_state.specs.Lists.{changed, is_none};
 ghost use Rattle.broker_state.specs.States.{bytes, one};
-ghost use Rattle.broker_state.specs.Waiting.{line_for, weight_of_shared};
-ghost use Rattle.broker_tables.specs.Cursors.{AreAwaited};
-ghost use Rattle.broker_tables.specs.Handing.{GoesOn, IsHanded, IsServedAt, KeepsAwaiting, left_from};
-ghost use Rattle.broker_tables.specs.Places.{HoldsAt};
-ghost use Rattle.line_core.specs.declared.message.Message.{Message};
+ghost use Rattle.broker_state.specs.Waiting.{left_line, left_shared, line_for, weight_of_shared};
+ghost use Rattle.broker_tables.specs.Cursors.{AreAwaited, IsReady, NoneReady};
+ghost use Rattle.broker_tables.specs.Handing.{IsServed};
+ghost use Rattle.broker_tables.specs.Places.{StandsSo};
+ghost use Rattle.broker_tables.specs.Returns.{HandFirst};
+ghost use Rattle.broker_tables.specs.Stocks.{HandsAll, IsStocked};
 ghost use Rattle.std.specs.List.{sum_by};
+ghost use Rattle.waiting_order.specs.Keeping.{with_sub};
+ghost use Rattle.waiting_order.specs.Waiting.{Stands};
+ghost use Rattle.waiting_order.specs.declared.standing.Standing.{Standing};
 ghost use Rattle.broker_state.specs.declared.subscription.Subscription.{Subscription};
 
 use crate::cursors::Cursor;
 use crate::shared_lines::SharedLines;
+use crate::stock::Stock;
 use crate::tables::Tables;
-use broker_order::Order;
 use broker_state::{Held, LAST_DELIVERY, Subscription};
 use command_core::{Out, message_reply};
 use line_core::{Message, size};
 use record_core::AckMode;
 use std::alloc::{AllocError, Global};
-use std::collections::BTreeSet;
+use waiting_order::{Key, Order};
 
 /// The number by which a delivery is acknowledged, if it is to be.
 fn ack_of(sub: &Subscription, delivery: u64) -> Option<u64>
@@ -54,78 +58,112 @@ fn reply(
     Out::new(alloc, number, sub.session, frame)
 }
 
-/// A message becomes unacknowledged, under that number of its delivery.
-fn keep(sub: &mut Subscription, delivery: u64, message: &Message) -> Result<(), AllocError>
-    requires { IsOver delivery sub.old.unacknowledged }
-    ensures { OnOk result (sub.new ≡ record sub.old { unacknowledged = sub.old.unacknowledged ++ (delivery, message.now) ∷ [] }) }
+/// Takes the least message for the subscription at that key out of its line, which has one. If memory is refused, that line
+/// is gone, and the others stand.
+fn take_for(order: &mut Order, shared: &mut SharedLines, key: Key) -> Result<Message, AllocError>
+    requires { StandsSo order.old.all key (λ sub. is_none (line_for shared.old sub) ≡ false) }
+    ensures taken { IfOk result (λ m. (at : ℕ) (s : Standing) → slice_get order.old.all at ≡ Some (key, s)
+        → first_of (line_for shared.old s.sub) ≡ Some m) }
+    ensures shared { OnOk result ((at : ℕ) (s : Standing) → slice_get order.old.all at ≡ Some (key, s)
+        → shared.new ≡ left_shared shared.old s.sub (drop 1 (line_for shared.old s.sub))) }
+    ensures weight { OnOk result ((at : ℕ) (s : Standing) → slice_get order.old.all at ≡ Some (key, s)
+        → HandFirst shared.old s.sub shared.new (left_line s.sub (drop 1 (line_for shared.old s.sub))) (line_for shared.old s.sub)) }
+    ensures order { OnOk result ((at : ℕ) (s : Standing) → slice_get order.old.all at ≡ Some (key, s)
+        → order.new ≡ record order.old { all = changed at (with_sub (λ sub. left_line sub (drop 1 (line_for shared.old s.sub)))) order.old.all }) }
 {
-    let copy = message.clone()?;
-    sub.unacknowledged.add(delivery, copy)
+    let sub = order.get(key);
+    if sub.has_own_line() {
+        return Ok(order.take(key).unwrap());
+    }
+    shared.take_for(sub)
 }
 
-/// A message goes to a subscription, by that number of its delivery. Gives the MESSAGE. With `auto` the message is held no
-/// more.
+/// A message becomes unacknowledged at that key, under that number of its delivery.
+fn keep(order: &mut Order, key: Key, delivery: u64, message: &Message) -> Result<(), AllocError>
+    requires { StandsSo order.old.all key (λ sub. IsOver delivery sub.unacknowledged) }
+    ensures { OnOk result ((at : ℕ) (s : Standing) → slice_get order.old.all at ≡ Some (key, s)
+        → order.new ≡ record order.old { all = changed at (with_sub (λ sub. record sub { unacknowledged = sub.unacknowledged ++ (delivery, message.now) ∷ [] })) order.old.all }) }
+{
+    let copy = message.clone()?;
+    order.keep(key, delivery, copy)
+}
+
+/// A message goes to the subscription at that key, by that number of its delivery. Gives the MESSAGE. With `auto` the message
+/// is held no more.
 fn deliver(
     alloc: Global,
     number: u64,
-    sub: &mut Subscription,
+    order: &mut Order,
+    key: Key,
     delivery: u64,
     message: Message,
     held: &mut Held,
 ) -> Result<Out, AllocError>
-    requires over { IsOver delivery sub.old.unacknowledged }
+    requires over { StandsSo order.old.all key (λ sub. IsOver delivery sub.unacknowledged) }
     requires held { (1 ≤ held.old.messages) × (bytes message ≤ held.old.bytes) }
-    ensures out { IfOk result (λ out. out ≡ message_out number sub.old delivery message) }
-    ensures delivered { OnOk result (sub.new ≡ delivered sub.old delivery message) }
-    ensures messages { OnOk result (held.new.messages ≡ (if is_auto sub.old.mode then held.old.messages - 1 else held.old.messages)) }
-    ensures bytes { OnOk result (held.new.bytes ≡ (if is_auto sub.old.mode then held.old.bytes - bytes message else held.old.bytes)) }
+    ensures out { IfOk result (λ out. (at : ℕ) (s : Standing) → slice_get order.old.all at ≡ Some (key, s)
+        → out ≡ message_out number s.sub delivery message) }
+    ensures delivered { OnOk result ((at : ℕ) (s : Standing) → slice_get order.old.all at ≡ Some (key, s)
+        → order.new ≡ record order.old { all = changed at (with_sub (λ sub. delivered sub delivery message)) order.old.all }) }
+    ensures messages { OnOk result ((at : ℕ) (s : Standing) → slice_get order.old.all at ≡ Some (key, s)
+        → held.new.messages ≡ (if is_auto s.sub.mode then held.old.messages - 1 else held.old.messages)) }
+    ensures bytes { OnOk result ((at : ℕ) (s : Standing) → slice_get order.old.all at ≡ Some (key, s)
+        → held.new.bytes ≡ (if is_auto s.sub.mode then held.old.bytes - bytes message else held.old.bytes)) }
 {
-    match sub.mode {
+    match order.get(key).mode {
         AckMode::Auto => {
             held.messages -= 1;
             held.bytes -= size(&message.sending) as u64;
-            reply(alloc, number, sub, delivery, message)
         }
-        AckMode::Client | AckMode::ClientIndividual => {
-            keep(sub, delivery, &message)?;
-            reply(alloc, number, sub, delivery, message)
-        }
+        AckMode::Client | AckMode::ClientIndividual => keep(order, key, delivery, &message)?,
     }
+    reply(alloc, number, order.get(key), delivery, message)
 }
 
-/// The least message of a subscription's line, which has one, goes to the subscription, by that number of its delivery.
-/// Gives the MESSAGE. With `auto` the message is held no more.
-fn hand_to(
-    alloc: Global,
-    number: u64,
-    sub: &mut Subscription,
-    delivery: u64,
-    shared: &mut SharedLines,
-    held: &mut Held,
-) -> Result<Out, AllocError>
-    requires waits { is_none (line_for shared.old sub.old) ≡ false }
-    requires over { IsOver delivery sub.old.unacknowledged }
-    requires messages { weight_of_shared one shared.old + sum_by one sub.old.line ≤ held.old.messages }
-    requires bytes { weight_of_shared bytes shared.old + sum_by bytes sub.old.line ≤ held.old.bytes }
-    ensures handed { IfOk result (λ out. IsHanded number delivery shared.old sub.old held.old shared.new sub.new held.new out) }
-{
-    let message = shared.take_for(sub)?;
-    deliver(alloc, number, sub, delivery, message, held)
-}
+impl Stock {
+    /// The least message of the line of the subscription at that key, which has one, goes to the subscription, which then waits
+    /// last. Gives the MESSAGE. If memory is refused, part of it may be done.
+    fn serve(&mut self, alloc: Global, number: u64, key: Key) -> Result<Out, AllocError>
+        requires ready { IsReady self.old key }
+        requires stocked { IsStocked self.old }
+        ensures served { IfOk result (λ out. IsServed number self.old key self.new out) }
+    {
+        let delivery = self.next_delivery;
+        let message = take_for(&mut self.order, &mut self.shared, key)?;
+        let out = deliver(
+            alloc,
+            number,
+            &mut self.order,
+            key,
+            delivery,
+            message,
+            &mut self.held,
+        )?;
+        self.order.move_last(key);
+        self.next_delivery = delivery + 1;
+        Ok(out)
+    }
 
-/// Puts back a subscription that was served, which waits last then, and gives its MESSAGE.
-fn wait_last(
-    alloc: Global,
-    order: &mut Order,
-    sub: Subscription,
-    out: Out,
-) -> Result<Out, AllocError>
-    ensures waits { OnOk result (order.new ≡ order.old ++ sub ∷ []) }
-    ensures gives { IfOk result (λ given. given ≡ out) }
-{
-    match order.add(alloc, sub) {
-        Ok(()) => Ok(out),
-        Err(refused) => Err(refused),
+    /// Hands out what waits, one delivery after another, until nothing can be handed out, and adds the MESSAGEs in their
+    /// order. If memory is refused, part of it may be done.
+    fn hand_out(
+        &mut self,
+        alloc: Global,
+        number: u64,
+        cursors: &mut Vec<Cursor>,
+        outs: &mut Vec<Out>,
+    ) -> Result<(), AllocError>
+        requires awaited { AreAwaited cursors.old.items self.old }
+        requires stocked { IsStocked self.old }
+        ensures settled { OnOk result (HandsAll number self.old outs.old.items self.new outs.new.items) }
+        ensures stocked { OnOk result (IsStocked self.new) }
+        ensures none { OnOk result (NoneReady self.new) }
+    {
+        while let Some(key) = self.next_ready(cursors) {
+            let out = self.serve(alloc, number, key)?;
+            outs.push(out)?;
+        }
+        Ok(())
     }
 }
 
@@ -138,107 +176,11 @@ impl Tables {
         ensures outs { OnOk result (outs.new.items ≡ outs.old.items ++ (settled self.old.state).outs) }
         ensures whole { OnOk result (self.new.broken ≡ false) }
     {
-        let mut cursors = self.first_cursors(alloc)?;
-        self.settle_by(alloc, &mut cursors, outs)
-    }
-
-    /// Hands out what waits to the subscriptions that cursors await. They are gone through once, in waiting order: one that
-    /// could not be served before those behind it were can't be served afterwards.
-    fn settle_by(
-        &mut self,
-        alloc: Global,
-        cursors: &mut BTreeSet<Cursor>,
-        outs: &mut Vec<Out>,
-    ) -> Result<(), AllocError>
-        requires awaited { AreAwaited cursors.old.keys self.old.state 0 }
-        requires whole { self.old.broken ≡ false }
-        ensures state { OnOk result (self.new.state ≡ (settled self.old.state).state) }
-        ensures outs { OnOk result (outs.new.items ≡ outs.old.items ++ (settled self.old.state).outs) }
-        ensures whole { OnOk result (self.new.broken ≡ false) }
-    {
-        let mut at = self.next_ready(cursors, 0)?;
-        while at < self.order().len() {
-            let from = self.try_serve(alloc, at, outs)?;
-            at = self.next_ready(cursors, from)?;
-        }
-        self.due.clear();
-        Ok(())
-    }
-
-    /// Serves the subscription in that place, if it can be served, and adds the MESSAGE. It answers from where to go on:
-    /// from the next place if it was not served, and else from the same, where the next one stands then.
-    fn try_serve(
-        &mut self,
-        alloc: Global,
-        at: usize,
-        outs: &mut Vec<Out>,
-    ) -> Result<usize, AllocError>
-        requires place { at < length self.old.state.subscriptions }
-        requires whole { self.old.broken ≡ false }
-        ensures settles { IfOk result (λ from. GoesOn self.old.state outs.old.items at self.new.state outs.new.items from) }
-        ensures nearer { IfOk result (λ from. left_from self.new.state from < left_from self.old.state at) }
-        ensures within { IfOk result (λ from. from ≤ length self.new.state.subscriptions) }
-        ensures awaited { IfOk result (λ from. KeepsAwaiting self.old.state at self.new.state from) }
-        ensures whole { OnOk result (self.new.broken ≡ false) }
-    {
-        prove!(at < self.order().len());
-        if !self.can_serve(at) {
-            return Ok(at + 1);
-        }
-        let out = self.serve(alloc, at)?;
-        outs.push(out)?;
-        Ok(at)
-    }
-
-    /// Whether there is a number for one more delivery.
-    fn has_number(&self) -> bool
-        ensures { result ≡ nat_lt self.now.state.next_delivery (2 ^ 63) }
-    {
-        self.next_delivery < LAST_DELIVERY
-    }
-
-    /// Whether the subscription in that place can be served.
-    fn can_serve(&self, at: usize) -> bool
-        requires { at < length self.now.state.subscriptions }
-        ensures { (sub : Subscription) → slice_get self.now.state.subscriptions at ≡ Some sub → result ≡ can_take self.now.state sub }
-    {
-        let sub = self.order.get(at);
-        self.has_number() && sub.has_room() && self.shared.has_message(sub)
-    }
-
-    /// The subscription in that place, which can be served, gets the least message of its line, and then waits last. Gives
-    /// the MESSAGE.
-    fn serve(&mut self, alloc: Global, at: usize) -> Result<Out, AllocError>
-        requires place { at < length self.old.state.subscriptions }
-        requires ready { HoldsAt self.old.state.subscriptions at (λ sub. can_take self.old.state sub ≡ true) }
-        requires whole { self.old.broken ≡ false }
-        ensures handed { IfOk result (λ out. IsServedAt self.old.state at self.new.state out) }
-        ensures waiting { OnOk result (waiting self.new.state + 1 ≡ waiting self.old.state) }
-        ensures count { OnOk result (length self.new.state.subscriptions ≡ length self.old.state.subscriptions) }
-        ensures whole { OnOk result (self.new.broken ≡ false) }
-    {
         self.broken = true;
-        let mut sub = self.order.lift(at);
-        let delivery = self.next_delivery;
-        let handed = hand_to(
-            alloc,
-            self.count,
-            &mut sub,
-            delivery,
-            &mut self.shared,
-            &mut self.held,
-        );
-        match handed {
-            Ok(out) => {
-                self.next_delivery += 1;
-                let out = wait_last(alloc, &mut self.order, sub, out)?;
-                self.broken = false;
-                Ok(out)
-            }
-            Err(refused) => {
-                drop(sub);
-                Err(refused)
-            }
-        }
+        self.stock
+            .hand_out(alloc, self.count, &mut self.due, outs)?;
+        self.due.clear();
+        self.broken = false;
+        Ok(())
     }
 }

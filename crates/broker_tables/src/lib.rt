@@ -11,6 +11,7 @@ mod keyed_lines;
 mod refusing;
 mod sending;
 mod shared_lines;
+mod stock;
 mod subscribing;
 mod tables;
 

@@ -14,21 +14,24 @@ ghost use Rattle.broker_state.specs.States.{bytes, one};
 ghost use Rattle.broker_state.specs.Names.{text_cmp};
 ghost use Rattle.broker_state.specs.Waiting.{is_own, with_message};
 ghost use Rattle.broker_tables.specs.Dues.{AllDue, is_due};
-ghost use Rattle.broker_order.specs.Directories.{is_plain_at};
-ghost use Rattle.broker_tables.specs.Places.{HoldsAt};
+ghost use Rattle.waiting_order.specs.Directories.{is_plain_at};
+ghost use Rattle.waiting_order.specs.Keeping.{settled_at};
+ghost use Rattle.waiting_order.specs.declared.standing.Standing.{Standing};
+ghost use Rattle.broker_tables.specs.Places.{StandsSo};
 ghost use Rattle.broker_tables.specs.Refusals.{ArePart, MovesHeld, all_kept, all_kept_bytes, bytes_of, kept_bytes, kept_one, messages_of, with_all_refused};
 
 use crate::acknowledging::find_awaiting;
-use crate::due::{Key, mark};
+use crate::cursors::Cursor;
+use crate::due::{Due, mark};
 use crate::shared_lines::SharedLines;
 use crate::subscribing::let_deliveries_go;
 use crate::tables::Tables;
-use broker_order::Order;
 use broker_state::{Held, MOST_BYTES, NackRule, Subscription};
 use command_core::Fault;
 use line_core::{Message, MessageNumber, settles, size};
 use record_core::{AckMode, Dest, DestFault, Sending};
 use std::alloc::{AllocError, Global};
+use waiting_order::{Key, Order};
 
 /// The queue of the messages that were refused.
 const DEAD_QUEUE: &str = "/queue/dead";
@@ -179,28 +182,28 @@ fn keep(
     Ok(())
 }
 
-/// What the refusal of a delivery settles leaves the subscription in that place. Those of the session are due, and those of
-/// the queue of refused messages. If memory is refused, some of them may be.
+/// What the refusal of a delivery settles leaves the subscription at that key. Those of the session are due, and those of the
+/// queue of refused messages. If memory is refused, some of them may be.
 fn take_refused(
     alloc: Global,
-    due: &mut Vec<Key>,
+    marked: &mut Vec<Cursor>,
     order: &mut Order,
-    at: usize,
-    session: u64,
+    key: Key,
     delivery: u64,
 ) -> Result<Vec<(u64, Message)>, AllocError>
-    requires place { at < length order.old }
-    requires known { HoldsAt order.old at (λ sub. has_delivery delivery sub.unacknowledged ≡ true) }
-    ensures kept { OnOk result (AllDue (is_due due.old.items) due.new.items) }
-    ensures session { OnOk result (AllDue (is_of session) due.new.items) }
-    ensures dead { OnOk result (AllDue (is_plain_at dead_queue) due.new.items) }
-    ensures settled { IfOk result (λ out. HoldsAt order.old at (λ sub. out.items ≡ settled sub.mode delivery sub.unacknowledged)) }
-    ensures unsettled { OnOk result (order.new ≡ changed at (settled_by delivery) order.old) }
+    requires known { StandsSo order.old.all key (λ sub. has_delivery delivery sub.unacknowledged ≡ true) }
+    ensures kept { OnOk result (AllDue (is_due marked.old.items) marked.new.items) }
+    ensures session { OnOk result (AllDue (is_of key.session) marked.new.items) }
+    ensures dead { OnOk result (AllDue (is_plain_at dead_queue) marked.new.items) }
+    ensures settled { IfOk result (λ out. (at : ℕ) (s : Standing) → slice_get order.old.all at ≡ Some (key, s)
+        → out.items ≡ settled s.sub.mode delivery s.sub.unacknowledged) }
+    ensures unsettled { OnOk result ((at : ℕ) (s : Standing) → slice_get order.old.all at ≡ Some (key, s)
+        → order.new ≡ record order.old { all = changed at (settled_at delivery) order.old.all }) }
 {
-    mark(due, Key::Session(session))?;
+    mark(marked, Due::Session(key.session))?;
     let dead = dead_queue(alloc)?;
-    mark(due, Key::Destination(dead))?;
-    order.settle(at, delivery)
+    mark(marked, Due::Destination(dead))?;
+    order.settle(key, delivery)
 }
 
 /// Settled messages are held no more where they were, and those that are kept go to the queue of refused ones, from that
@@ -263,21 +266,28 @@ impl Tables {
         ensures same { IfOk result (λ r. IsErr r → self.new ≡ self.old) }
         ensures whole { OnOk result (self.new.broken ≡ false) }
     {
-        self.shared.stand_in_order();
-        let Some(at) = find_awaiting(&self.order, session, delivery) else {
+        self.stock.shared.stand_in_order();
+        let Some(key) = find_awaiting(&self.stock.order, session, delivery) else {
             return Ok(Err(Fault::UnknownAcknowledgement));
         };
-        if !finds_room(&self.held, self.order.get(at), delivery) {
+        if !finds_room(&self.stock.held, self.stock.order.get(key), delivery) {
             return Ok(Err(Fault::NoRoom));
         }
-        let own = self.order.get(at).has_own_line();
+        let own = self.stock.order.get(key).has_own_line();
         let first = MessageNumber {
             command: self.count,
             place: 64 + 16 * member,
         };
         self.broken = true;
-        let settled = take_refused(alloc, &mut self.due, &mut self.order, at, session, delivery)?;
-        move_refused(alloc, &mut self.shared, &mut self.held, own, first, settled)?;
+        let settled = take_refused(alloc, &mut self.due, &mut self.stock.order, key, delivery)?;
+        move_refused(
+            alloc,
+            &mut self.stock.shared,
+            &mut self.stock.held,
+            own,
+            first,
+            settled,
+        )?;
         self.broken = false;
         Ok(Ok(()))
     }

@@ -10,19 +10,21 @@ ghost use Rattle.broker_state.specs.Operations.{copied, copied_to_names, sent, u
 ghost use Rattle.broker_state.specs.Parts.{copies_to, find_room, leaving};
 ghost use Rattle.broker_tables.specs.Sendings.{IsFannedOut};
 ghost use Rattle.broker_state.specs.Waiting.{is_own, with_message};
-ghost use Rattle.broker_order.specs.Directories.{is_plain_at};
+ghost use Rattle.waiting_order.specs.Directories.{is_plain_at};
+ghost use Rattle.waiting_order.specs.Waiting.{subs_of};
 ghost use Rattle.broker_tables.specs.Dues.{AllDue, has_name_of, is_due};
 
-use crate::due::{Key, mark, mark_names};
+use crate::cursors::Cursor;
+use crate::due::{Due, mark, mark_names};
 use crate::durable_names::{DurableNames, Names};
 use crate::shared_lines::SharedLines;
 use crate::tables::Tables;
-use broker_order::Order;
 use broker_state::{Held, MOST_BYTES, MOST_MESSAGES};
 use command_core::Fault;
 use line_core::{Message, MessageNumber, size};
 use record_core::{Dest, Sending};
 use std::alloc::{AllocError, Global};
+use waiting_order::Order;
 
 /// How many durable names are bound to that topic.
 fn names_of(durables: &DurableNames, to: &Dest) -> u64
@@ -38,7 +40,7 @@ fn names_of(durables: &DurableNames, to: &Dest) -> u64
 /// How many subscriptions of that topic have a line of their own.
 fn listeners_of(order: &Order, to: &Dest) -> u64
     requires topic { is_queue to.now ≡ false }
-    ensures counted { result ≡ count_by (λ sub. is_own sub && bytes_eq sub.destination to.now) order.now }
+    ensures counted { result ≡ count_by (λ sub. is_own sub && bytes_eq sub.destination to.now) (subs_of order.now.all) }
     ensures few { result < 2 ^ 63 }
 {
     order.count_at(to) as u64
@@ -61,7 +63,7 @@ fn copies_to_topic(tables: &Tables, to: &Dest) -> u64
     ensures { result ≡ count_by (λ durable. bytes_eq durable.1 to.now) tables.now.state.durables
         + count_by (λ sub. is_own sub && bytes_eq sub.destination to.now) tables.now.state.subscriptions }
 {
-    names_of(&tables.durables, to) + listeners_of(&tables.order, to)
+    names_of(&tables.durables, to) + listeners_of(&tables.stock.order, to)
 }
 
 /// Whether so many copies of so many bytes find room beside what is held.
@@ -76,15 +78,10 @@ pub fn find_room(held: &Held, copies: u64, size: u64) -> bool
 /// Each subscription of the message's topic with a line of its own gets a copy into it.
 fn copy_to_listeners(order: &mut Order, message: &Message) -> Result<(), AllocError>
     requires topic { is_queue message.now.sending.destination ≡ false }
-    ensures { OnOk result (order.new ≡ map (copied message.now) order.old) }
+    ensures copied { OnOk result (subs_of order.new.all ≡ map (copied message.now) (subs_of order.old.all)) }
+    ensures number { OnOk result (order.new.next ≡ order.old.next) }
 {
-    let to = message.sending.destination();
-    let mut at = order.next_at(to, 0);
-    while at < order.len() {
-        order.put(at, message.clone()?)?;
-        at = order.next_at(to, at + 1);
-    }
-    Ok(())
+    order.put_each(message.sending.destination(), message)
 }
 
 /// Each of these names gets a copy of the message into its line.
@@ -128,7 +125,8 @@ fn copy_to_topic(
     message: &Message,
 ) -> Result<(), AllocError>
     requires topic { is_queue message.now.sending.destination ≡ false }
-    ensures { OnOk result (IsFannedOut message.now durables.now shared.old order.old shared.new order.new) }
+    ensures fanned { OnOk result (IsFannedOut message.now durables.now shared.old (subs_of order.old.all) shared.new (subs_of order.new.all)) }
+    ensures number { OnOk result (order.new.next ≡ order.old.next) }
 {
     copy_to_names(alloc, durables, shared, message)?;
     copy_to_listeners(order, message)
@@ -168,7 +166,8 @@ fn fan_out(
     order: &mut Order,
     message: Message,
 ) -> Result<(), AllocError>
-    ensures { OnOk result (IsFannedOut message durables.now shared.old order.old shared.new order.new) }
+    ensures fanned { OnOk result (IsFannedOut message durables.now shared.old (subs_of order.old.all) shared.new (subs_of order.new.all)) }
+    ensures number { OnOk result (order.new.next ≡ order.old.next) }
 {
     if message.sending.destination().is_queue() {
         shared.put_in_queue(alloc, message)
@@ -181,35 +180,36 @@ fn fan_out(
 /// The subscriptions are due that may be served once a message has gone to that destination. If memory is refused, some of
 /// them may be.
 fn mark_destination(
-    due: &mut Vec<Key>,
+    marked: &mut Vec<Cursor>,
     durables: &DurableNames,
     to: &Dest,
 ) -> Result<(), AllocError>
-    ensures kept { OnOk result (AllDue (is_due due.old.items) due.new.items) }
-    ensures plain { OnOk result (AllDue (is_plain_at to.now) due.new.items) }
-    ensures named { OnOk result (AllDue (has_name_of to.now durables.now) due.new.items) }
+    ensures kept { OnOk result (AllDue (is_due marked.old.items) marked.new.items) }
+    ensures plain { OnOk result (AllDue (is_plain_at to.now) marked.new.items) }
+    ensures named { OnOk result (AllDue (has_name_of to.now durables.now) marked.new.items) }
 {
     let own = to.clone()?;
-    mark_names(due, durables, to)?;
-    mark(due, Key::Destination(own))
+    mark_names(marked, durables, to)?;
+    mark(marked, Due::Destination(own))
 }
 
 /// A message goes into its lines, and the subscriptions that may be served from them are due. If memory is refused, part of
 /// it may be done.
 fn take_in(
     alloc: Global,
-    due: &mut Vec<Key>,
+    marked: &mut Vec<Cursor>,
     durables: &DurableNames,
     shared: &mut SharedLines,
     order: &mut Order,
     message: Message,
 ) -> Result<(), AllocError>
-    ensures kept { OnOk result (AllDue (is_due due.old.items) due.new.items) }
-    ensures plain { OnOk result (AllDue (is_plain_at message.sending.destination) due.new.items) }
-    ensures named { OnOk result (AllDue (has_name_of message.sending.destination durables.now) due.new.items) }
-    ensures fanned { OnOk result (IsFannedOut message durables.now shared.old order.old shared.new order.new) }
+    ensures kept { OnOk result (AllDue (is_due marked.old.items) marked.new.items) }
+    ensures plain { OnOk result (AllDue (is_plain_at message.sending.destination) marked.new.items) }
+    ensures named { OnOk result (AllDue (has_name_of message.sending.destination durables.now) marked.new.items) }
+    ensures fanned { OnOk result (IsFannedOut message durables.now shared.old (subs_of order.old.all) shared.new (subs_of order.new.all)) }
+    ensures number { OnOk result (order.new.next ≡ order.old.next) }
 {
-    match mark_destination(due, durables, message.sending.destination()) {
+    match mark_destination(marked, durables, message.sending.destination()) {
         Ok(()) => fan_out(alloc, durables, shared, order, message),
         Err(refused) => Err(refused),
     }
@@ -229,10 +229,10 @@ impl Tables {
         ensures same { IfOk result (λ r. IsErr r → self.new ≡ self.old) }
         ensures whole { OnOk result (self.new.broken ≡ false) }
     {
-        self.shared.stand_in_order();
+        self.stock.shared.stand_in_order();
         let copies = copies_to(self, sending.destination());
         let bytes = size(&sending) as u64;
-        if !find_room(&self.held, copies, bytes) {
+        if !find_room(&self.stock.held, copies, bytes) {
             drop(sending);
             return Ok(Err(Fault::NoRoom));
         }
@@ -248,12 +248,12 @@ impl Tables {
             alloc,
             &mut self.due,
             &self.durables,
-            &mut self.shared,
-            &mut self.order,
+            &mut self.stock.shared,
+            &mut self.stock.order,
             message,
         )?;
-        self.held.messages += copies;
-        self.held.bytes += copies * bytes;
+        self.stock.held.messages += copies;
+        self.stock.held.bytes += copies * bytes;
         self.broken = false;
         Ok(Ok(()))
     }

@@ -11,7 +11,7 @@ ghost use Rattle.broker_state.specs.Lists.{is_none};
 ghost use Rattle.broker_state.specs.Names.{name_cmp, text_cmp};
 ghost use Rattle.broker_state.specs.States.{weight_of_subscription};
 ghost use Rattle.broker_tables.specs.Returns.{HandFirst, KeepsWeight, LoseFirst, returned_to};
-ghost use Rattle.broker_state.specs.Waiting.{left_line, left_shared, line_at, line_for, returned, weight_of_shared, with_line, with_message};
+ghost use Rattle.broker_state.specs.Waiting.{is_own, left_shared, line_at, line_for, returned, weight_of_shared, with_line, with_message};
 
 use crate::keyed_lines::{self, Side};
 use broker_state::{DurableName, Subscription, has_waiting, stand_in_order};
@@ -109,22 +109,18 @@ impl SharedLines {
         has_waiting(&self.names, &self.queues, sub)
     }
 
-    /// Takes the least message for a subscription out of its line, which has one. If memory is refused, that line is gone,
-    /// and the others stand.
-    pub(crate) fn take_for(&mut self, sub: &mut Subscription) -> Result<Message, AllocError>
-        requires { is_none (line_for self.old sub.old) ≡ false }
-        ensures taken { IfOk result (λ m. first_of (line_for self.old sub.old) ≡ Some m) }
-        ensures shared { OnOk result (self.new ≡ left_shared self.old sub.old (drop 1 (line_for self.old sub.old))) }
-        ensures weight { OnOk result (HandFirst self.old sub.old self.new sub.new (line_for self.old sub.old)) }
-        ensures line { OnOk result (sub.new ≡ left_line sub.old (drop 1 (line_for self.old sub.old))) }
+    /// Takes the least message for a subscription with no line of its own out of its line, which has one. If memory is refused,
+    /// that line is gone, and the others stand.
+    pub(crate) fn take_for(&mut self, sub: &Subscription) -> Result<Message, AllocError>
+        requires shared { is_own sub.now ≡ false }
+        requires waits { is_none (line_for self.old sub.now) ≡ false }
+        ensures taken { IfOk result (λ m. first_of (line_for self.old sub.now) ≡ Some m) }
+        ensures shared { OnOk result (self.new ≡ left_shared self.old sub.now (drop 1 (line_for self.old sub.now))) }
+        ensures weight { OnOk result (HandFirst self.old sub.now self.new sub.now (line_for self.old sub.now)) }
     {
         let message = match &sub.durable {
             Some(name) => keyed_lines::take(&mut self.names, name)?,
-            None if sub.destination.is_queue() => take_from_queue(
-                &mut self.queues,
-                &sub.destination,
-            )?,
-            None => sub.line.take(),
+            None => take_from_queue(&mut self.queues, &sub.destination)?,
         };
         Ok(message.unwrap())
     }

@@ -1,26 +1,26 @@
 //! Subscriptions and sessions begin and end.
 
-ghost use Rattle.std.specs.Prelude.{◌≡◌, ◌+◌, ◌-◌, ◌<◌, ◌≤◌, ◌^◌, ◌&&◌, ◌++◌, ◌∷◌, [], ℕ, IfOk, IfSome, IsErr, MatchOption, OnOk, Some, count_by, drop, false, length, nat_le, not, remove, slice_get, take, true};
-ghost use Rattle.std.specs.BTreeMap.{insert_entry};
+ghost use Rattle.std.specs.Prelude.{◌≡◌, ◌+◌, ◌<◌, ◌≤◌, ◌^◌, ◌&&◌, ◌++◌, ◌∷◌, [], ℕ, IfOk, IsErr, IsOk, MatchOption, OnOk, Some, count_by, false, fold, length, nat_le, not, true};
 ghost use Rattle.std.specs.List.{list_any, sum_by};
 ghost use Rattle.std.specs.Str.{bytes_eq};
 ghost use Rattle.line_core.specs.declared.message.Message.{Message};
 ghost use Rattle.record_core.specs.Texts.{IsGiven};
 ghost use Rattle.record_core.specs.declared.ack_mode.AckMode.{AckMode};
-ghost use Rattle.broker_state.specs.Names.{name_cmp};
-ghost use Rattle.broker_state.specs.Operations.{begun, begun_for, client_in, ended, forgotten, given_up, given_up_for, is_named, is_of, name_for, restarted, subscribed, unsubscribed_by, uses, with_subscription, without};
-ghost use Rattle.broker_state.specs.Parts.{IsFirst, IsGivenAt, NonePass, but_at, leaving, without_at};
-ghost use Rattle.broker_state.specs.States.{bytes, one, weight_of_subscription};
-ghost use Rattle.broker_state.specs.Waiting.{Shared, line_for, returned, weight_of_shared};
+ghost use Rattle.broker_state.specs.Operations.{begun, begun_for, client_in, ended, forgotten, given_up, given_up_for, is_named, is_of, name_for, restarted, subscribed, unsubscribed_by, uses, with_subscription, without_named};
+ghost use Rattle.broker_state.specs.Parts.{NonePass, leaving};
+ghost use Rattle.broker_state.specs.States.{State, bytes, one};
+ghost use Rattle.broker_state.specs.Waiting.{Shared, returned};
 ghost use Rattle.broker_tables.specs.Dues.{AllDue, OthersStand, is_due};
-ghost use Rattle.broker_tables.specs.Returns.{HoldsBoth, LetsGo};
-ghost use Rattle.broker_tables.specs.Places.{HoldsAt, place_for};
+ghost use Rattle.broker_tables.specs.Returns.{HoldAll, HoldsBoth, LetsGo};
+ghost use Rattle.broker_tables.specs.Places.{EndsFirst, IsFirstAt, place_for};
+ghost use Rattle.waiting_order.specs.Soughts.{is_sought_of};
+ghost use Rattle.waiting_order.specs.Waiting.{subs_of};
 ghost use Rattle.broker_state.specs.declared.subscription.Subscription.{Subscription};
 
-use crate::due::{Key, mark, mark_line};
+use crate::cursors::Cursor;
+use crate::due::{Due, mark, mark_line};
 use crate::shared_lines::SharedLines;
 use crate::tables::Tables;
-use broker_order::Order;
 use broker_state::{DurableName, GivenName, Held, MOST_NAMES, MOST_SUBSCRIPTIONS, Subscription};
 use command_core::Fault;
 use line_core::{Flight, Line, Message, size};
@@ -28,35 +28,23 @@ use record_core::{AckMode, Dest, HeaderText};
 use std::alloc::{AllocError, Global};
 use std::collections::BTreeMap;
 use std::mem;
+use waiting_order::{Key, Order, Sought};
 
-/// Where the subscription of that session and id waits.
-fn find_named(order: &Order, session: u64, id: &HeaderText) -> Option<usize>
-    ensures { MatchOption result (NonePass (is_named session id.now) order.now)
-        (λ at. IsFirst (is_named session id.now) order.now at) }
+/// The key of the subscription of that session and id.
+fn find_named(order: &Order, session: u64, id: &HeaderText) -> Option<Key>
+    ensures { MatchOption result (NonePass (is_named session id.now) (subs_of order.now.all))
+        (IsFirstAt (is_named session id.now) order.now.all) }
 {
-    let mut at = order.next_of(session, 0);
-    while at < order.len() {
-        if *id == order.get(at).id {
-            return Some(at);
-        }
-        at = order.next_of(session, at + 1);
-    }
-    None
-}
-
-/// Where the subscription of that session and id waits, if an id is given.
-fn find_given(order: &Order, session: u64, id: &Option<HeaderText>) -> Option<usize>
-    ensures { IsGivenAt session id.now order.now result }
-{
-    match id {
-        Some(id) => find_named(order, session, id),
+    let sought = Sought::Id(id);
+    match order.next_of(session, sought, 0) {
+        Some(place) => Some(place.key),
         None => None,
     }
 }
 
 /// Whether a session may have one more subscription, of that id. It is refused if it has one of that id, or 16.
 fn find_place(order: &Order, session: u64, id: &HeaderText) -> Result<(), Fault>
-    ensures { result ≡ place_for order.now session id.now }
+    ensures { result ≡ place_for (subs_of order.now.all) session id.now }
 {
     if let Some(_taken) = find_named(order, session, id) {
         return Err(Fault::SubscriptionIdInUse);
@@ -67,34 +55,60 @@ fn find_place(order: &Order, session: u64, id: &HeaderText) -> Result<(), Fault>
     Ok(())
 }
 
-/// Whether a subscription in a place from `from` on and before `to` has the durable name.
-fn is_used_between(order: &Order, name: &DurableName, from: usize, to: usize) -> bool
-    requires { (from ≤ to) × (to ≤ length order.now) }
-    ensures { result ≡ list_any (uses name.now) (drop from (take to order.now)) }
+/// Whether a subscription has the durable name.
+fn is_used(order: &Order, name: &DurableName) -> bool
+    ensures { result ≡ list_any (uses name.now) (subs_of order.now.all) }
 {
-    order.next_under(name, from) < to
+    order.count_under(name) > 0
 }
 
-/// Whether a subscription has the durable name, other than the one in that place if a place is given.
-fn is_used(order: &Order, name: &DurableName, but: Option<usize>) -> bool
-    requires { IfSome but (λ at. at < length order.now) }
-    ensures { result ≡ list_any (uses name.now) (but_at order.now but) }
+/// Whether that is the durable name of a subscription.
+fn is_user(sub: &Subscription, name: &DurableName) -> bool
+    ensures { result ≡ uses name.now sub.now }
 {
-    let end = order.len();
-    match but {
-        None => is_used_between(order, name, 0, end),
-        Some(at) => {
-            is_used_between(order, name, 0, at) || is_used_between(order, name, at + 1, end)
-        }
+    match &sub.durable {
+        Some(other) => *name == *other,
+        None => false,
+    }
+}
+
+/// Whether a subscription has the durable name, other than the session's one of that id.
+fn is_used_beside(order: &Order, name: &DurableName, session: u64, id: &HeaderText) -> bool
+    ensures { (s : State) → s.subscriptions ≡ subs_of order.now.all
+        → result ≡ list_any (uses name.now) (without_named s session (Some id.now)).subscriptions }
+{
+    let Some(key) = find_named(order, session, id) else {
+        return is_used(order, name);
+    };
+    let users = order.count_under(name);
+    if is_user(order.get(key), name) {
+        return users > 1;
+    }
+    users > 0
+}
+
+/// Whether a subscription has the durable name, other than the session's one of that id if an id is given.
+fn is_used_by_others(
+    order: &Order,
+    name: &DurableName,
+    session: u64,
+    id: &Option<HeaderText>,
+) -> bool
+    ensures { (s : State) → s.subscriptions ≡ subs_of order.now.all
+        → result ≡ list_any (uses name.now) (without_named s session id.now).subscriptions }
+{
+    match id {
+        Some(id) => is_used_beside(order, name, session, id),
+        None => is_used(order, name),
     }
 }
 
 /// Whether a durable name that is bound to that topic may be used for a subscription of that destination. It has to be the
 /// same topic, and nobody else may use the name.
 fn may_be_used(order: &Order, name: &DurableName, topic: &Dest, destination: &Dest) -> bool
-    ensures { result ≡ (bytes_eq topic.now destination.now && not (list_any (uses name.now) order.now)) }
+    ensures { result ≡ (bytes_eq topic.now destination.now && not (list_any (uses name.now) (subs_of order.now.all))) }
 {
-    *topic == *destination && !is_used(order, name, None)
+    *topic == *destination && !is_used(order, name)
 }
 
 /// Whether as many durable names are bound as there may be.
@@ -172,15 +186,17 @@ fn with_shared_id(alloc: Global, sub: Subscription) -> Result<Subscription, Allo
 /// A subscription that begins waits last, and those of its session are due. If memory is refused, they may be.
 fn enter(
     alloc: Global,
-    due: &mut Vec<Key>,
+    marked: &mut Vec<Cursor>,
     order: &mut Order,
     sub: Subscription,
 ) -> Result<(), AllocError>
-    ensures kept { OnOk result (AllDue (is_due due.old.items) due.new.items) }
-    ensures marked { OnOk result (AllDue (is_of sub.session) due.new.items) }
-    ensures waits { OnOk result (order.new ≡ order.old ++ sub ∷ []) }
+    requires { count_by (is_of sub.session) (subs_of order.old.all) < 16 }
+    ensures kept { OnOk result (AllDue (is_due marked.old.items) marked.new.items) }
+    ensures marked { OnOk result (AllDue (is_of sub.session) marked.new.items) }
+    ensures waits { OnOk result (subs_of order.new.all ≡ subs_of order.old.all ++ sub ∷ []) }
+    ensures number { OnOk result (order.new.next < 2 ^ 63) }
 {
-    mark(due, Key::Session(sub.session))?;
+    mark(marked, Due::Session(sub.session))?;
     let sub = with_shared_id(alloc, sub)?;
     order.add(alloc, sub)
 }
@@ -189,21 +205,39 @@ fn enter(
 /// are due, unless the line was its own. What vanishes with it is held no more. If memory is refused, part of it may be done.
 fn let_go(
     alloc: Global,
-    due: &mut Vec<Key>,
+    marked: &mut Vec<Cursor>,
     shared: &mut SharedLines,
     held: &mut Held,
     sub: Subscription,
 ) -> Result<(), AllocError>
     requires held { HoldsBoth held.old shared.old sub }
-    ensures kept { OnOk result (AllDue (is_due due.old.items) due.new.items) }
-    ensures marked { OnOk result (OthersStand due.new.items sub) }
+    ensures kept { OnOk result (AllDue (is_due marked.old.items) marked.new.items) }
+    ensures marked { OnOk result (OthersStand marked.new.items sub) }
     ensures lines { OnOk result (shared.new ≡ returned shared.old sub) }
     ensures left { OnOk result (LetsGo held.old held.new shared.old shared.new sub) }
 {
-    mark_line(due, &sub)?;
+    mark_line(marked, &sub)?;
     let gone = shared.take_back(alloc, sub)?;
     let_line_go(held, gone.line);
     let_deliveries_go(held, gone.deliveries.as_slice());
+    Ok(())
+}
+
+/// Subscriptions have ended, one after another.
+fn let_all_go(
+    alloc: Global,
+    marked: &mut Vec<Cursor>,
+    shared: &mut SharedLines,
+    held: &mut Held,
+    subs: Vec<Subscription>,
+) -> Result<(), AllocError>
+    requires held { HoldAll held.old shared.old subs.items }
+    ensures lines { OnOk result (shared.new ≡ fold returned shared.old subs.items) }
+    ensures left { OnOk result (HoldAll held.new shared.new []) }
+{
+    for sub in subs {
+        let_go(alloc, marked, shared, held, sub)?;
+    }
     Ok(())
 }
 
@@ -248,10 +282,11 @@ impl Tables {
         durable: Option<HeaderText>,
     ) -> Result<Result<Option<DurableName>, Fault>, AllocError>
         requires form { IsGiven durable }
-        ensures { IfOk result (λ r. (mode : AckMode) → subscribed self.now.state session id.now destination.now mode durable
+        ensures begun { IfOk result (λ r. (mode : AckMode) → subscribed self.now.state session id.now destination.now mode durable
             ≡ begun_for self.now.state session id.now destination.now mode r) }
+        ensures few { IfOk result (λ r. IsOk r → count_by (is_of session) self.now.state.subscriptions < 16) }
     {
-        match find_place(&self.order, session, id) {
+        match find_place(&self.stock.order, session, id) {
             Ok(()) => self.name_for(session, destination, durable),
             Err(fault) => Ok(Err(fault)),
         }
@@ -302,6 +337,7 @@ impl Tables {
     /// topic's, or that would be the 257th. The tables are as they were then.
     fn begin(&mut self, alloc: Global, sub: Subscription) -> Result<Result<(), Fault>, AllocError>
         requires fresh { (sub.line ≡ []) × (sub.unacknowledged ≡ []) }
+        requires few { count_by (is_of sub.session) self.old.state.subscriptions < 16 }
         requires whole { self.old.broken ≡ false }
         ensures begun { IfOk result (λ r. begun self.old.state sub ≡ leaving r self.new.state) }
         ensures same { IfOk result (λ r. IsErr r → self.new ≡ self.old) }
@@ -311,7 +347,7 @@ impl Tables {
             return Ok(Err(fault));
         }
         self.broken = true;
-        enter(alloc, &mut self.due, &mut self.order, sub)?;
+        enter(alloc, &mut self.due, &mut self.stock.order, sub)?;
         self.broken = false;
         Ok(Ok(()))
     }
@@ -329,7 +365,7 @@ impl Tables {
         };
         match self.durables.topics().get(name) {
             Some(topic) => {
-                if !may_be_used(&self.order, name, topic, &sub.destination) {
+                if !may_be_used(&self.stock.order, name, topic, &sub.destination) {
                     return Ok(Err(Fault::DurableSubscription));
                 }
                 Ok(Ok(()))
@@ -361,39 +397,37 @@ impl Tables {
         ensures same { IfOk result (λ r. IsErr r → self.new ≡ self.old) }
         ensures whole { OnOk result (self.new.broken ≡ false) }
     {
-        let at = find_given(&self.order, session, &id);
         if let Some(name) = durable {
-            return self.give_up(alloc, session, at, GivenName::new(name));
+            return self.give_up(alloc, session, &id, GivenName::new(name));
         }
-        match at {
-            None => Ok(Err(Fault::UnknownSubscription)),
-            Some(at) => {
-                self.end_one(alloc, at)?;
-                Ok(Ok(()))
-            }
+        let Some(id) = id else {
+            return Ok(Err(Fault::UnknownSubscription));
+        };
+        if self.end_sought(alloc, session, Sought::Id(&id))? {
+            return Ok(Ok(()));
         }
+        Ok(Err(Fault::UnknownSubscription))
     }
 
-    /// The subscription in that place ends, if one is given, and then a durable name of the session's client is given up,
-    /// with its line. It is refused if the client has no name itself, if the durable name is unknown, or if another
-    /// subscription uses it. The tables are as they were then.
+    /// The subscription of that id ends, if one is given, and then a durable name of the session's client is given up, with
+    /// its line. It is refused if the client has no name itself, if the durable name is unknown, or if another subscription
+    /// uses it. The tables are as they were then.
     fn give_up(
         &mut self,
         alloc: Global,
         session: u64,
-        at: Option<usize>,
+        id: &Option<HeaderText>,
         name: GivenName,
     ) -> Result<Result<(), Fault>, AllocError>
-        requires place { IfSome at (λ i. i < length self.old.state.subscriptions) }
         requires whole { self.old.broken ≡ false }
-        ensures given_up { IfOk result (λ r. given_up_for (without_at self.old.state at) (client_in self.old.state.sessions session) name ≡ leaving r self.new.state) }
+        ensures given_up { IfOk result (λ r. given_up_for (without_named self.old.state session id.now) (client_in self.old.state.sessions session) name ≡ leaving r self.new.state) }
         ensures same { IfOk result (λ r. IsErr r → self.new ≡ self.old) }
         ensures whole { OnOk result (self.new.broken ≡ false) }
     {
         match self.client_of(session) {
             Ok(Some(client)) => {
                 let name = DurableName::new(client, name);
-                self.give_up_name(alloc, at, &name)
+                self.give_up_name(alloc, session, id, &name)
             }
             Ok(None) => {
                 drop(name);
@@ -403,40 +437,47 @@ impl Tables {
         }
     }
 
-    /// The subscription in that place ends, if one is given, and then a durable name is given up, with its line. It is
-    /// refused if the name is unknown or another subscription uses it. The tables are as they were then.
+    /// The subscription of that id ends, if one is given, and then a durable name is given up, with its line. It is refused if
+    /// the name is unknown or another subscription uses it. The tables are as they were then.
     fn give_up_name(
         &mut self,
         alloc: Global,
-        at: Option<usize>,
+        session: u64,
+        id: &Option<HeaderText>,
         name: &DurableName,
     ) -> Result<Result<(), Fault>, AllocError>
-        requires place { IfSome at (λ i. i < length self.old.state.subscriptions) }
         requires whole { self.old.broken ≡ false }
-        ensures given_up { IfOk result (λ r. given_up (without_at self.old.state at) name.now ≡ leaving r self.new.state) }
+        ensures given_up { IfOk result (λ r. given_up (without_named self.old.state session id.now) name.now ≡ leaving r self.new.state) }
         ensures same { IfOk result (λ r. IsErr r → self.new ≡ self.old) }
         ensures whole { OnOk result (self.new.broken ≡ false) }
     {
         if !self.durables.topics().contains_key(name) {
             return Ok(Err(Fault::DurableSubscription));
         }
-        if is_used(&self.order, name, at) {
+        if is_used_by_others(&self.stock.order, name, session, id) {
             return Ok(Err(Fault::DurableSubscription));
         }
-        self.end_given(alloc, at)?;
+        self.end_given(alloc, session, id)?;
         self.forget(alloc, name);
         Ok(Ok(()))
     }
 
-    /// The subscription in that place ends, if a place is given.
-    fn end_given(&mut self, alloc: Global, at: Option<usize>) -> Result<(), AllocError>
-        requires place { IfSome at (λ i. i < length self.old.state.subscriptions) }
+    /// The subscription of that id ends, if one is given and there is one.
+    fn end_given(
+        &mut self,
+        alloc: Global,
+        session: u64,
+        id: &Option<HeaderText>,
+    ) -> Result<(), AllocError>
         requires whole { self.old.broken ≡ false }
-        ensures ended { OnOk result (self.new.state ≡ without_at self.old.state at) }
+        ensures ended { OnOk result (self.new.state ≡ without_named self.old.state session id.now) }
         ensures whole { OnOk result (self.new.broken ≡ false) }
     {
-        match at {
-            Some(at) => self.end_one(alloc, at),
+        match id {
+            Some(id) => {
+                self.end_sought(alloc, session, Sought::Id(id))?;
+                Ok(())
+            }
             None => Ok(()),
         }
     }
@@ -447,23 +488,37 @@ impl Tables {
         ensures { self.new ≡ record self.old { state = forgotten self.old.state name.now } }
     {
         self.durables.forget(name);
-        let line = self.shared.forget(alloc, name);
-        let_line_go(&mut self.held, line);
+        let line = self.stock.shared.forget(alloc, name);
+        let_line_go(&mut self.stock.held, line);
     }
 
-    /// The subscription in that place ends: what it has not acknowledged stands in its line again, unless the line was its
-    /// own. What vanishes with it is held no more.
-    fn end_one(&mut self, alloc: Global, at: usize) -> Result<(), AllocError>
-        requires place { at < length self.old.state.subscriptions }
+    /// The first subscription of that session that is sought ends, if there is one, which is answered: what it has not
+    /// acknowledged stands in its line again, unless the line was its own. What vanishes with it is held no more.
+    fn end_sought(
+        &mut self,
+        alloc: Global,
+        session: u64,
+        sought: Sought<'_>,
+    ) -> Result<bool, AllocError>
         requires whole { self.old.broken ≡ false }
-        ensures ended { OnOk result (HoldsAt self.old.state.subscriptions at (λ sub. self.new.state ≡ without self.old.state sub (remove self.old.state.subscriptions at))) }
+        ensures ended { IfOk result (EndsFirst (is_sought_of session sought.entry) self.old.state self.new.state) }
+        ensures same { IfOk result (λ one. one ≡ false → self.new ≡ self.old) }
         ensures whole { OnOk result (self.new.broken ≡ false) }
     {
+        let Some(place) = self.stock.order.next_of(session, sought, 0) else {
+            return Ok(false);
+        };
         self.broken = true;
-        let sub = self.order.remove(at);
-        let_go(alloc, &mut self.due, &mut self.shared, &mut self.held, sub)?;
+        let sub = self.stock.order.remove(place.key);
+        let_go(
+            alloc,
+            &mut self.due,
+            &mut self.stock.shared,
+            &mut self.stock.held,
+            sub,
+        )?;
         self.broken = false;
-        Ok(())
+        Ok(true)
     }
 
     /// The session ends, with all its subscriptions. If memory is refused, the tables may be broken.
@@ -472,11 +527,7 @@ impl Tables {
         ensures ended { OnOk result (self.new.state ≡ ended self.old.state session) }
         ensures whole { OnOk result (self.new.broken ≡ false) }
     {
-        let mut at = self.order().next_of(session, 0);
-        while at < self.order().len() {
-            self.end_one(alloc, at)?;
-            at = self.order().next_of(session, at);
-        }
+        while self.end_sought(alloc, session, Sought::Any)? {}
         self.sessions.remove(&session);
         Ok(())
     }
@@ -487,11 +538,18 @@ impl Tables {
         ensures restarted { OnOk result (self.new.state ≡ restarted self.old.state) }
         ensures whole { OnOk result (self.new.broken ≡ false) }
     {
-        while self.order().len() > 0 {
-            self.end_one(alloc, 0)?;
-        }
+        self.broken = true;
+        let subs = self.stock.order.take_all(alloc)?;
+        let_all_go(
+            alloc,
+            &mut self.due,
+            &mut self.stock.shared,
+            &mut self.stock.held,
+            subs,
+        )?;
         drop(mem::replace(&mut self.sessions, BTreeMap::new(alloc)));
         self.due.clear();
+        self.broken = false;
         Ok(())
     }
 }

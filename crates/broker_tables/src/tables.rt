@@ -7,17 +7,19 @@ ghost use Rattle.broker_state.specs.States.{empty_state, held_bytes, held_messag
 ghost use Rattle.broker_state.specs.PartsOf.{state_of_parts};
 ghost use Rattle.broker_state.specs.Sound.{IsSound};
 ghost use Rattle.broker_tables.specs.Tables.{IsTallied};
+ghost use Rattle.waiting_order.specs.Waiting.{subs_of};
 
-use crate::due::Key;
+use crate::cursors::Cursor;
 use crate::durable_names::DurableNames;
 use crate::shared_lines::SharedLines;
-use broker_order::Order;
+use crate::stock::Stock;
 use broker_state::{DurableName, GivenName, Held, Parts};
 use record_core::{Dest, HeaderText};
 use std::alloc::{AllocError, Global};
 use std::collections::BTreeMap;
 use std::marker::Model;
 use std::mem;
+use waiting_order::Order;
 
 /// How many commands were carried out, the open sessions, the durable names, the lines that stay and the subscriptions.
 /// How much is held stands there too, so that nobody needs to count it. Contracts see the state that they show, and
@@ -26,16 +28,13 @@ use std::mem;
 #[derive(Drop)]
 pub struct Tables {
     pub(crate) count: u64,
-    pub(crate) next_delivery: u64,
     pub(crate) sessions: BTreeMap<u64, Option<GivenName>>,
     /// The durable names, each with its topic.
     pub(crate) durables: DurableNames,
-    pub(crate) shared: SharedLines,
-    pub(crate) order: Order,
-    pub(crate) held: Held,
-    /// A subscription that can be served is under one of these keys. They grow with what a command touches, and none is
-    /// left once all is handed out.
-    pub(crate) due: Vec<Key>,
+    pub(crate) stock: Stock,
+    /// A subscription that can be served is due by one of these. They grow with what a command touches, and none is left once
+    /// all is handed out.
+    pub(crate) due: Vec<Cursor>,
     // An operation is under way, or was refused memory.
     pub(crate) broken: bool,
 }
@@ -43,13 +42,14 @@ pub struct Tables {
 impl Model for Tables {
     ghost use Rattle.std.specs.Prelude.{◌≡◌, false};
     ghost use Rattle.broker_state.specs.States.{BrokerValue};
-    ghost use Rattle.broker_tables.specs.Tables.{IsKept, shown};
+    ghost use Rattle.broker_tables.specs.Stocks.{shown};
+    ghost use Rattle.broker_tables.specs.Tables.{IsKept};
 
     ghost Value = { BrokerValue };
 
-    ghost view = { λ a. record { state = shown a.count a.next_delivery a.sessions.entries a.durables a.shared a.order; broken = a.broken } };
+    ghost view = { λ a. record { state = shown a.count a.sessions.entries a.durables a.stock; broken = a.broken } };
 
-    ghost invariant = { λ a. a.broken ≡ false → IsKept (shown a.count a.next_delivery a.sessions.entries a.durables a.shared a.order) a.held a.due.items };
+    ghost invariant = { λ a. a.broken ≡ false → IsKept a.stock a.due.items };
 }
 
 impl Tables {
@@ -59,15 +59,9 @@ impl Tables {
     {
         Tables {
             count,
-            next_delivery: 0,
             sessions: BTreeMap::new(alloc),
             durables: DurableNames::new(alloc),
-            shared: SharedLines::new(alloc),
-            order: Order::new(alloc),
-            held: Held {
-                messages: 0,
-                bytes: 0,
-            },
+            stock: Stock::new(alloc),
             due: Vec::new(alloc),
             broken: false,
         }
@@ -84,12 +78,14 @@ impl Tables {
         let order = Order::of(alloc, parts.subscriptions)?;
         Ok(Tables {
             count: parts.count,
-            next_delivery: parts.next_delivery,
             sessions: parts.sessions,
             durables,
-            shared: SharedLines::of(parts.names, parts.queues),
-            order,
-            held,
+            stock: Stock {
+                order,
+                shared: SharedLines::of(parts.names, parts.queues),
+                held,
+                next_delivery: parts.next_delivery,
+            },
             due: Vec::new(alloc),
             broken: false,
         })
@@ -106,7 +102,7 @@ impl Tables {
     pub fn next_delivery(&self) -> u64
         ensures { result ≡ self.now.state.next_delivery }
     {
-        self.next_delivery
+        self.stock.next_delivery
     }
 
     /// The open sessions, each with the name of its client if it has one.
@@ -127,21 +123,21 @@ impl Tables {
     pub fn shared(&self) -> &SharedLines
         ensures { result.now ≡ self.now.state.shared }
     {
-        &self.shared
+        &self.stock.shared
     }
 
     /// The subscriptions in waiting order.
     pub fn order(&self) -> &Order
-        ensures { result.now ≡ self.now.state.subscriptions }
+        ensures { subs_of result.now.all ≡ self.now.state.subscriptions }
     {
-        &self.order
+        &self.stock.order
     }
 
     /// How much whole tables hold.
     pub fn held(&self) -> Held
         ensures tallied { self.now.broken ≡ false → IsTallied self.now.state result }
     {
-        self.held
+        self.stock.held
     }
 
     /// Whether memory was refused within an operation.

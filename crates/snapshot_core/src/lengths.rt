@@ -173,8 +173,8 @@ fn subscriptions_len(broker: &Broker) -> u64
     ensures { result ≡ counted_in_eight (length (listed spelled.subscription broker.now.state.subscriptions)) }
 {
     let mut total: u64 = 4;
-    for at in 0..broker.subscription_count() {
-        total = total.saturating_add(subscription_len(broker.subscription(at)));
+    for (_key, standing) in &broker.subscriptions_by_key() {
+        total = total.saturating_add(subscription_len(&standing.sub));
     }
     total
 }

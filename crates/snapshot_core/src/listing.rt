@@ -22,7 +22,7 @@ use broker_tables::SharedLines;
 use frame_core::Text;
 use line_core::{Line, Message};
 use record_core::{Dest, HeaderText, Sending, mode_byte};
-use std::alloc::AllocError;
+use std::alloc::{AllocError, Global};
 use std::collections::BTreeMap;
 
 #[tactic(auto, using(crate::proofs::Parts::one_more))]
@@ -355,7 +355,11 @@ fn list_subscription<'a>(parts: &mut Vec<Part<'a>>, sub: &'a Subscription) -> Re
 }
 
 // The subscriptions in waiting order.
-fn list_subscriptions<'a>(parts: &mut Vec<Part<'a>>, broker: &'a Broker) -> Result<(), AllocError>
+fn list_subscriptions<'a>(
+    alloc: Global,
+    parts: &mut Vec<Part<'a>>,
+    broker: &'a Broker,
+) -> Result<(), AllocError>
     requires sound { IsSound broker.now.state }
     requires few { length broker.now.state.subscriptions < 2 ^ 32 }
     ensures put { OnOk result (written parts.new.items
@@ -363,14 +367,15 @@ fn list_subscriptions<'a>(parts: &mut Vec<Part<'a>>, broker: &'a Broker) -> Resu
     ensures form { OnOk result (AllByRecursion IsSubscription broker.now.state.subscriptions) }
 {
     list_count(parts, broker.subscription_count())?;
-    for at in 0..broker.subscription_count() {
-        list_subscription(parts, broker.subscription(at))?;
+    for sub in broker.subscriptions(alloc)? {
+        list_subscription(parts, sub)?;
     }
     Ok(())
 }
 
 /// All parts of the snapshot of a broker that is not broken.
 pub(crate) fn list_state<'a>(
+    alloc: Global,
     parts: &mut Vec<Part<'a>>,
     broker: &'a Broker,
 ) -> Result<(), AllocError>
@@ -389,5 +394,5 @@ pub(crate) fn list_state<'a>(
     list_sessions(parts, broker.sessions())?;
     list_durables(parts, broker.durables(), shared)?;
     list_queues(parts, shared.queues())?;
-    list_subscriptions(parts, broker)
+    list_subscriptions(alloc, parts, broker)
 }

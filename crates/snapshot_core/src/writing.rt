@@ -46,7 +46,7 @@ impl<'a> StateWriter<'a> {
         ensures { IfOk result (λ writer. Spells writer broker.now.state) }
     {
         let mut parts = Vec::new(alloc);
-        list_state(&mut parts, broker)?;
+        list_state(alloc, &mut parts, broker)?;
         Ok(StateWriter {
             alloc,
             parts,

@@ -69,7 +69,7 @@ fn enter(
 }
 
 /// From this ticket on all get new ones before one more subscription is added. So a served one always finds a ticket.
-const TICKETS: u64 = 1 << 63;
+const TICKETS: u64 = (1 << 63) - 1;
 
 impl Order {
     /// No subscriptions. No memory is taken.
@@ -86,7 +86,8 @@ impl Order {
     pub fn of(alloc: Global, subscriptions: Vec<Subscription>) -> Result<Order, AllocError>
         requires { (session : ℕ) → count_by (is_of session) subscriptions.items ≤ 16 }
         ensures subs { IfOk result (λ order. subs_of order.all ≡ subscriptions.items) }
-        ensures number { IfOk result (λ order. order.next < 2 ^ 63) }
+        ensures number { IfOk result (λ order. order.next ≡ length order.all) }
+        ensures small { IfOk result (λ order. order.next < 2 ^ 63) }
     {
         let mut standings = Standings::new(alloc);
         let mut directory = Directory::new(alloc);
@@ -107,8 +108,9 @@ impl Order {
     }
 
     /// Takes all out in their order. If memory is refused, some may be gone.
-    fn take_all(&mut self, alloc: Global) -> Result<Vec<Subscription>, AllocError>
-        ensures { IfOk result (λ subs. subs.items ≡ subs_of self.old.all) }
+    pub fn take_all(&mut self, alloc: Global) -> Result<Vec<Subscription>, AllocError>
+        ensures subs { IfOk result (λ subs. subs.items ≡ subs_of self.old.all) }
+        ensures none { OnOk result (self.new ≡ record self.old { all = [] }) }
     {
         let keys = self.standings.in_order(alloc)?;
         let mut subs = Vec::new(alloc);
@@ -122,7 +124,8 @@ impl Order {
     /// An order of the same subscriptions, with new keys and tickets. If memory is refused, some of them may be gone.
     fn numbered_anew(&mut self, alloc: Global) -> Result<Order, AllocError>
         ensures subs { IfOk result (λ order. subs_of order.all ≡ subs_of self.old.all) }
-        ensures number { IfOk result (λ order. order.next < 2 ^ 63) }
+        ensures number { IfOk result (λ order. order.next ≡ length order.all) }
+        ensures small { IfOk result (λ order. order.next < 2 ^ 63) }
     {
         self.have_few();
         let subs = self.take_all(alloc)?;
@@ -132,7 +135,8 @@ impl Order {
     /// All get new keys and tickets. If memory is refused, none is left.
     fn number_anew(&mut self, alloc: Global) -> Result<(), AllocError>
         ensures subs { OnOk result (subs_of self.new.all ≡ subs_of self.old.all) }
-        ensures number { OnOk result (self.new.next < 2 ^ 63) }
+        ensures number { OnOk result (self.new.next ≡ length self.new.all) }
+        ensures small { OnOk result (self.new.next < 2 ^ 63) }
         ensures err { OnErr result (self.new.all ≡ []) }
     {
         match self.numbered_anew(alloc) {
@@ -152,11 +156,15 @@ impl Order {
         requires few { count_by (is_of sub.session) (subs_of self.old.all) < 16 }
         requires number { self.old.next < 2 ^ 63 }
         ensures ok { OnOk result (subs_of self.new.all ≡ subs_of self.old.all ++ sub ∷ []) }
-        ensures number { OnOk result (self.new.next ≤ 2 ^ 63) }
+        ensures number { OnOk result (self.new.next ≡ self.old.next + 1) }
+        ensures small { OnOk result (length self.new.all < 2 ^ 63) }
         ensures err { OnErr result (self.new.all ≡ []) }
     {
         match enter(alloc, &mut self.standings, &mut self.directory, sub) {
-            Ok(()) => Ok(()),
+            Ok(()) => {
+                let _count = self.standings.len();
+                Ok(())
+            }
             Err(refused) => {
                 *self = Order::new(alloc);
                 Err(refused)
@@ -168,7 +176,7 @@ impl Order {
     pub fn add(&mut self, alloc: Global, sub: Subscription) -> Result<(), AllocError>
         requires { count_by (is_of sub.session) (subs_of self.old.all) < 16 }
         ensures ok { OnOk result (subs_of self.new.all ≡ subs_of self.old.all ++ sub ∷ []) }
-        ensures number { OnOk result (self.new.next ≤ 2 ^ 63) }
+        ensures number { OnOk result (self.new.next < 2 ^ 63) }
         ensures err { OnErr result (self.new.all ≡ []) }
     {
         if self.standings.next() < TICKETS {
@@ -183,11 +191,16 @@ impl Order {
         }
     }
 
-    /// The keys in waiting order.
-    pub fn in_order(&self, alloc: Global) -> Result<Vec<Key>, AllocError>
-        ensures { IfOk result (λ keys. keys.items ≡ map (λ (w : Key × Standing). w.0) self.now.all) }
+    /// All of them, in waiting order.
+    pub fn in_order(&self, alloc: Global) -> Result<Vec<&Subscription>, AllocError>
+        ensures { IfOk result (λ subs. map (λ sub. sub.now) subs.items ≡ subs_of self.now.all) }
     {
-        self.standings.in_order(alloc)
+        let keys = self.standings.in_order(alloc)?;
+        let mut subs = Vec::new(alloc);
+        for key in keys {
+            subs.push(self.get(key))?;
+        }
+        Ok(subs)
     }
 
     /// All of them, in any order.
