@@ -1,4 +1,4 @@
-use Rattle.std.proofs.Common.{◌≡◌, ◌==◌, ◌<◌, ◌≤◌, ◌⊎◌, List, [], ◌∷◌, ℕ, suc, zero, Bool, true, false, cond, drop, map, Option, Some, None, inl, inr, refl, sym, ap, subst, ◌∙◌, arith, slice_get}
+use Rattle.std.proofs.Common.{◌≡◌, ◌==◌, ◌<◌, ◌≤◌, ◌⊎◌, List, [], ◌∷◌, ℕ, suc, zero, Bool, true, false, cond, drop, length, map, Option, Some, None, inl, inr, refl, sym, ap, subst, ◌∙◌, arith, slice_get}
 use Rattle.std.specs.BTreeMap.{is_at}
 use Rattle.std.specs.List.{AllByRecursion, sum_by}
 use Rattle.std.specs.List.Sorted.{IsStrictlySortedBy}
@@ -188,3 +188,15 @@ keys_listed (w ∷ ws) = ap (λ l. w.0 ∷ l) (keys_listed ws)
 pub first_of_keys : (key : Key) (keys : List Key) (ws : List W) → key ∷ keys ≡ map (λ (w : W). w.0) ws → (w : W) × (vs : List W) × (ws ≡ w ∷ vs) × (w.0 ≡ key) × (keys ≡ map (λ (v : W). v.0) vs)
 first_of_keys key keys [] is = absurd cc
 first_of_keys key keys (w ∷ ws) is = (w, ws, refl, cc, cc)
+
+-- where no key is left, no waiter is
+pub no_keys : (ws : List W) → length (map (λ (w : W). w.0) ws) ≡ 0 → ws ≡ []
+no_keys [] is = refl
+no_keys (w ∷ ws) is = absurd (omega (arith, is))
+
+-- the waiter at the front of what is left stands in the next place
+pub at_drop : (n : ℕ) (ws : List W) (w : W) (vs : List W) → drop n ws ≡ w ∷ vs → (slice_get ws n ≡ Some w) × (drop (suc n) ws ≡ vs)
+at_drop zero [] w vs is = absurd cc
+at_drop zero (x ∷ ws) w vs is = (cc, cc)
+at_drop (suc n) [] w vs is = absurd cc
+at_drop (suc n) (x ∷ ws) w vs is = at_drop n ws w vs is

@@ -5,4 +5,4 @@ use Rattle.waiting_order.proofs.order.Order.numbered_anew.Goals as goal
 
 pub of-requires : goal.of-requires
 of-requires c session =
-    subst (λ (l : List Subscription). count_by (is_of session) l ≤ 16) (sym c.in_ok-subs.ensures) (c.have_few.ensures session)
+    subst (λ (l : List Subscription). count_by (is_of session) l ≤ 16) (sym c.in_ok-subs.ensures.subs) (c.have_few.ensures session)
