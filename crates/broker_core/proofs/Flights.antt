@@ -29,7 +29,6 @@ use Rattle.broker_core.specs.Prechecks.{bytes_in, bytes_kept, deliveries_in, fli
 use Rattle.broker_tables.specs.Refusals.{all_kept, all_kept_bytes, refused_bytes, kept_bytes, kept_one}
 use Rattle.broker_state.proofs.Firsts.{found}
 use Rattle.broker_state.proofs.Weights.{ones, sum_by-part}
-use Rattle.broker_order.specs.Tickets.{IsNext}
 
 -- what a flight's deliveries before a place have is under the number there
 module _ {X Y : Type 0} (f : X → Y) where
@@ -50,42 +49,6 @@ pub with_first-none : {X : Type 0} (p : X → Bool) (f : X → X) (xs : List X) 
 with_first-none p f [] none = refl
 with_first-none p f (x ∷ xs) none =
     ap (λ b. cond b (f x ∷ xs) (x ∷ with_first p f xs)) none.0 ∙ ap (λ ys. x ∷ ys) (with_first-none p f xs none.1)
-
--- one subscription more
-module _ (session : ℕ) (subs : List Subscription) (at : ℕ) (sub : Subscription) (is : slice_get subs at ≡ Some sub) where
-  more_by : (b : Bool) → is_of session sub ≡ b → flights_of session (take (at + 1) subs) ≡ map flight_of (filter (is_of session) (take at subs) ++ cond b (sub ∷ []) [])
-  more_by b mine =
-      ap (map flight_of) (filter_more (is_of session) subs at sub (slice_get_within subs at sub is) ∙ ap (λ x. filter (is_of session) (take at subs) ++ cond (is_of session x) (x ∷ []) []) (get_or_from_slice_get subs at sub sub is) ∙ ap (λ c. filter (is_of session) (take at subs) ++ cond c (sub ∷ []) []) mine)
-
-  pushed : (xs : List Subscription) → map flight_of (xs ++ sub ∷ []) ≡ map flight_of xs ++ flight_of sub ∷ []
-  pushed [] = refl
-  pushed (x ∷ xs) = ap (λ l. flight_of x ∷ l) (pushed xs)
-
-  nothing : (xs : List Subscription) → map flight_of (xs ++ []) ≡ map flight_of xs
-  nothing [] = refl
-  nothing (x ∷ xs) = ap (λ l. flight_of x ∷ l) (nothing xs)
-
-  pub flights_more : is_of session sub ≡ true → flights_of session (take (at + 1) subs) ≡ flights_of session (take at subs) ++ flight_of sub ∷ []
-  flights_more mine = more_by true mine ∙ pushed (filter (is_of session) (take at subs))
-
-  pub flights_same : is_of session sub ≡ false → flights_of session (take (at + 1) subs) ≡ flights_of session (take at subs)
-  flights_same other = more_by false other ∙ nothing (filter (is_of session) (take at subs))
-
--- those of other sessions add no flight
-module _ (session : ℕ) (subs : List Subscription) where
-  none_added : (n from : ℕ) → from + n ≤ length subs → ((i : ℕ) (sub : Subscription) → slice_get subs i ≡ Some sub → from ≤ i → i < from + n → is_of session sub ≡ false) → flights_of session (take (from + n) subs) ≡ flights_of session (take from subs)
-  none_added zero from within each = ap (λ k. flights_of session (take k subs)) (omega arith)
-  none_added (suc n) from within each =
-      let sub = found subs from (omega (arith, within)) in
-      ap (λ k. flights_of session (take k subs)) (omega arith)
-      ∙ none_added n (from + 1) (omega (arith, within)) (λ i other there after less. each i other there (omega (arith, after)) (omega (arith, less)))
-      ∙ flights_same session subs from sub.0 sub.1 (each from sub.0 sub.1 (omega arith) (omega arith))
-
-  pub flights_until : (from at : ℕ) → IsNext (is_of session) subs from at → flights_of session (take at subs) ≡ flights_of session (take from subs)
-  flights_until from at next =
-      let sum : from + (at - from) ≡ at = omega (arith, next.after) in
-      ap (λ k. flights_of session (take k subs)) (sym sum)
-      ∙ none_added (at - from) from (omega (arith, sum, next.within)) (λ i sub there after less. next.none i sub there after (omega (arith, less, sum)))
 
 -- what is settled is in the flights no more
 pub settled_counts : (delivery : ℕ) (flights : List PrecheckFlight) (at : ℕ) (flight : PrecheckFlight) (out : List (ℕ × PrecheckSize)) → slice_get flights at ≡ Some flight → out ≡ settled flight.mode delivery flight.deliveries → (length out ≤ deliveries_in flights) × (sum_by (λ item. item.1.bytes) out ≤ bytes_in flights)

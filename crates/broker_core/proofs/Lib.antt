@@ -1,4 +1,5 @@
 pub mod Transactions
 pub mod Flights
+pub mod FlightsFrom
 pub mod PrecheckSteps
 pub mod Outcomes

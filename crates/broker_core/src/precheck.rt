@@ -90,6 +90,7 @@ fn flight_of(alloc: Global, sub: &Subscription) -> Result<PrecheckFlight, AllocE
 
 /// The subscriptions of the session, in waiting order.
 fn flights_of(alloc: Global, order: &Order, session: u64) -> Result<Vec<PrecheckFlight>, AllocError>
+    requires tickets { order.now.next < 2 ^ 64 }
     ensures { IfOk result (λ flights. flights.items ≡ flights_of session (subs_of order.now.all)) }
 {
     let mut flights = Vec::new(alloc);

@@ -1,13 +1,12 @@
-use Rattle.std.proofs.Common.{◌≡◌, ◌==◌, ◌<◌, ◌≤◌, ◌+◌, ◌^◌, ◌&&◌, ◌||◌, ◌⊎◌, ◌++◌, List, [], ◌∷◌, ℕ, suc, zero, Bool, true, false, Option, Some, None, cond, get_or, inl, inr, is_some, length, map, nat_lt, not, refl, remove, slice_get, sym, ap, subst, take, ◌∙◌, arith, if◌then◌else◌}
+use Rattle.std.proofs.Common.{◌≡◌, ◌==◌, ◌≤◌, ◌+◌, ◌^◌, ◌&&◌, ◌||◌, ◌++◌, List, [], ◌∷◌, ℕ, suc, zero, Bool, true, false, Option, Some, None, cond, is_some, length, map, nat_le, nat_lt, not, refl, remove, slice_get, sym, ap, subst, ◌∙◌, arith, if◌then◌else◌}
 use Rattle.std.specs.BTreeMap.{is_at}
-use Rattle.std.specs.List.{AllByRecursion, list_any}
+use Rattle.std.specs.List.{AllByRecursion, insert, list_any}
 use Rattle.std.specs.Map.{remove_entry}
 use Rattle.std.specs.Option.{option_map}
 use Rattle.std.specs.Ordering.{is_eq}
 use Rattle.std.specs.Str.{bytes_eq}
 use Rattle.std.specs.declared.cmp.Ordering.{Ordering}
-use Rattle.std.proofs.lemmas.Bool.{cases_lt, and_parts, lt-ltb, ltb-true}
-use Rattle.std.proofs.lemmas.List.Folds.{list_any-append, list_any_more}
+use Rattle.std.proofs.lemmas.Bool.{and_parts, lt-ltb, ltb-true}
 use Rattle.std.proofs.lemmas.Map.Text.{is_eq-slice_cmp}
 use Rattle.std.proofs.lemmas.Option.{none-some, same_Some}
 use Rattle.std.proofs.lemmas.Slice.Eq.{bytes_eq-Decides}
@@ -20,40 +19,39 @@ use Rattle.broker_state.specs.HandOut.{can_take, hand_out, handed_from, handed_t
 use Rattle.broker_state.specs.Lists.{changed, is_none, picked}
 use Rattle.broker_state.specs.Names.{AreSame, Name, name_cmp, text_cmp}
 use Rattle.broker_state.specs.Operations.{copied, copied_to_names, fanned_out, is_of, uses}
-use Rattle.broker_state.specs.declared.held.Held.{Held}
-use Rattle.broker_state.specs.Sound.{IsSound}
-use Rattle.broker_state.specs.States.{State, held_bytes, held_messages}
-use Rattle.broker_tables.specs.Tables.{IsKept}
+use Rattle.broker_state.specs.States.{State}
 use Rattle.std.proofs.lemmas.Bool.Decides.{nat_tests}
 use Rattle.broker_state.specs.Waiting.{Lines, Shared, is_own, left_from, line_at, line_for, line_from, left_shared, returned, returned_from, with_deliveries, with_line, with_message}
-use Rattle.command_core.specs.Outs.{OutValue}
-use Rattle.broker_state.specs.Settles.{SettlesSo}
-use Rattle.broker_state.proofs.Firsts.{none_to_end}
 use Rattle.broker_state.proofs.KeyedLines.{other_line}
 use Rattle.broker_state.proofs.Keys.{is_eq-name_cmp, same_names, same_texts}
 use Rattle.broker_state.proofs.Lookups.{is_equal, other_way}
 use Rattle.broker_state.proofs.Sendings.{copied_other, copied_own, fanned_out_by}
-use Rattle.broker_order.specs.Directories.{is_plain_at}
-use Rattle.broker_tables.specs.declared.due.Key.{Key}
-use Rattle.broker_tables.specs.declared.due.Key.TheVariants.{Session, Destination, Durable}
-use Rattle.broker_tables.proofs.Nexts.{fails_before, none_taken, plain_listens}
-use Rattle.broker_tables.specs.Dues.{AreDue, is_due, is_under, key_from, line_key}
+use Rattle.waiting_order.specs.Directories.{is_plain_at}
+use Rattle.broker_tables.specs.declared.cursors.Cursor.{Cursor}
+use Rattle.broker_tables.specs.declared.due.Due.{Due}
+use Rattle.broker_tables.specs.declared.due.Due.TheVariants.{Session, Destination, Durable}
+use Rattle.broker_tables.proofs.Nexts.{plain_listens}
+use Rattle.broker_tables.specs.Dues.{AreDue, awaits_at, due_from, is_awaited, is_due, is_under, line_due}
 
 -- what was due is due still
-abbrev pub Grows : List Key → List Key → Type 0
+abbrev pub Grows : List Cursor → List Cursor → Type 0
 Grows d e = (sub : Subscription) → is_due d sub ≡ true → is_due e sub ≡ true
 
 -- subscriptions of the same session, destination and durable name are under the same keys
-pub same_keys : (a b : Subscription) → a.session ≡ b.session → a.destination ≡ b.destination → a.durable ≡ b.durable → (key : Key) → is_under key a ≡ is_under key b
+pub same_keys : (a b : Subscription) → a.session ≡ b.session → a.destination ≡ b.destination → a.durable ≡ b.durable → (due : Due) → is_under due a ≡ is_under due b
 same_keys a b session destination durable (Session q) = ap (λ n. q == n) session
 same_keys a b session destination durable (Destination to) =
     ap (λ o. not (is_some o) && bytes_eq a.destination to) durable ∙ ap (λ (l : List ℕ). not (is_some b.durable) && bytes_eq l to) destination
 same_keys a b session destination durable (Durable name) =
     ap (λ o. elim o as (λ p. Bool) [ None ↦ false | Some other ↦ bytes_eq name.0 other.0 && bytes_eq name.1 other.1 ]) durable
 
-pub alike : (a b : Subscription) → ((key : Key) → is_under key a ≡ is_under key b) → (keys : List Key) → is_due keys a ≡ is_due keys b
-alike a b same [] = refl
-alike a b same (key ∷ keys) = ap (λ c. c || is_due keys a) (same key) ∙ ap (λ c. is_under key b || c) (alike a b same keys)
+pub alike_at : (n : ℕ) (a b : Subscription) → ((due : Due) → is_under due a ≡ is_under due b) → (cursors : List Cursor) → is_awaited cursors n a ≡ is_awaited cursors n b
+alike_at n a b same [] = refl
+alike_at n a b same (c ∷ cursors) =
+    ap (λ u. (nat_le c.from n && u) || is_awaited cursors n a) (same c.due) ∙ ap (λ r. awaits_at n b c || r) (alike_at n a b same cursors)
+
+pub alike : (a b : Subscription) → ((due : Due) → is_under due a ≡ is_under due b) → (cursors : List Cursor) → is_due cursors a ≡ is_due cursors b
+alike a b same cursors = alike_at 0 a b same cursors
 
 pub or_left : (a b : Bool) → a ≡ true → (a || b) ≡ true
 or_left true b is = refl
@@ -63,14 +61,26 @@ pub or_right : (a b : Bool) → b ≡ true → (a || b) ≡ true
 or_right true b is = refl
 or_right false b is = is
 
-module _ (due : List Key) (key : Key) where
-  pub grows : Grows due (due ++ key ∷ [])
-  grows sub is =
-      list_any-append (λ (k : Key). is_under k sub) due (key ∷ []) ∙ or_left (is_due due sub) (is_under key sub || false) is
+-- one more among others
+module _ {X : Type 0} (p : X → Bool) (x : X) where
+  pub any_kept : (xs : List X) (at : ℕ) → list_any p xs ≡ true → list_any p (insert xs at x) ≡ true
+  any_kept xs zero is = or_right (p x) (list_any p xs) is
+  any_kept [] (suc at) is = absurd cc
+  any_kept (y ∷ ys) (suc at) is = by (p y) is (λ rest. any_kept ys at rest)
+    where
+      by : (b : Bool) → (b || list_any p ys) ≡ true → (list_any p ys ≡ true → list_any p (insert ys at x) ≡ true) → (b || list_any p (insert ys at x)) ≡ true
+      by true so rest = refl
+      by false so rest = rest so
 
-  pub marked : (sub : Subscription) → is_under key sub ≡ true → is_due (due ++ key ∷ []) sub ≡ true
-  marked sub is =
-      list_any-append (λ (k : Key). is_under k sub) due (key ∷ []) ∙ or_right (is_due due sub) (is_under key sub || false) (or_left (is_under key sub) false is)
+  pub any_new : (xs : List X) (at : ℕ) → at ≤ length xs → p x ≡ true → list_any p (insert xs at x) ≡ true
+  any_new xs zero within is = or_left (p x) (list_any p xs) is
+  any_new [] (suc at) within is = absurd (omega (arith, within))
+  any_new (y ∷ ys) (suc at) within is = or_right (p y) (list_any p (insert ys at x)) (any_new ys at (omega (arith, within)) is)
+
+  pub any_there : (xs : List X) (at : ℕ) → slice_get xs at ≡ Some x → p x ≡ true → list_any p xs ≡ true
+  any_there [] at is passes = absurd (none-some x is)
+  any_there (y ∷ ys) zero is passes = or_left (p y) (list_any p ys) (ap p (same_Some y x is) ∙ passes)
+  any_there (y ∷ ys) (suc at) is passes = or_right (p y) (list_any p ys) (any_there ys at is passes)
 
 pub clash : (b : Bool) → b ≡ true → b ≡ false → ⊥
 clash true is fails = absurd cc
@@ -107,7 +117,7 @@ pub can_from : (s : State) (sub : Subscription) → CanTake s sub → can_take s
 can_from s sub can = rw (can.number, can.room, can.line) refl
 
 -- who is not due has the line that it had
-module _ (s t : State) (d e : List Key) (number : t.next_delivery ≡ s.next_delivery) (more : Grows d e) where
+module _ (s t : State) (d e : List Cursor) (number : t.next_delivery ≡ s.next_delivery) (more : Grows d e) where
   pub moved : (x : Subscription) → (is_due e x ≡ false → line_for t.shared x ≡ line_for s.shared x) → (can_take s x ≡ true → is_due d x ≡ true) → can_take t x ≡ true → is_due e x ≡ true
   moved x same was can = by (is_due e x) refl
     where
@@ -160,12 +170,12 @@ name_gets (d ∷ ds) shared x name other =
 
 -- What a subscription that has ended gives back comes into the line of its key, and into none where its line is its own.
 module _ (shared : Shared) (sub x : Subscription) where
-  back_from : (o : Option Name) → is_under (key_from sub o) x ≡ false → line_for (returned_from shared sub o) x ≡ line_for shared x
+  back_from : (o : Option Name) → is_under (due_from sub o) x ≡ false → line_for (returned_from shared sub o) x ≡ line_for shared x
   back_from (Some name) other = name_gets sub.unacknowledged shared x name other
   back_from None other =
       elim (is_queue sub.destination) as (λ b. line_for (cond b (record shared { queues = with_deliveries text_cmp sub.destination sub.unacknowledged shared.queues }) shared) x ≡ line_for shared x) [ true ↦ queue_gets sub.unacknowledged shared x sub.destination other | false ↦ refl ]
 
-  pub back_elsewhere : is_under (line_key sub) x ≡ false → line_for (returned shared sub) x ≡ line_for shared x
+  pub back_elsewhere : is_under (line_due sub) x ≡ false → line_for (returned shared sub) x ≡ line_for shared x
   back_elsewhere other = back_from sub.durable other
 
   own_from : (o : Option Name) → not (is_some o || is_queue sub.destination) ≡ true → returned_from shared sub o ≡ shared
@@ -259,9 +269,9 @@ module _ (shared : Shared) (sub : Subscription) where
   idle_name name none under = idle_under name sub.durable none under
 
 -- The operations: who can be served after them is due.
-module _ (d : List Key) (s : State) (due : AreDue d s) where
+module _ (d : List Cursor) (s : State) (due : AreDue d s) where
   -- one is served, which had a message waiting, and waits last
-  pub due_served : (t : State) (at : ℕ) (sub after : Subscription) (m : Message) (rest : List Message) → slice_get s.subscriptions at ≡ Some sub → can_take s sub ≡ true → line_for s.shared sub ≡ m ∷ rest → t.shared ≡ left_shared s.shared sub rest → t.next_delivery ≡ s.next_delivery + 1 → t.subscriptions ≡ remove s.subscriptions at ++ after ∷ [] → ((key : Key) → is_under key after ≡ is_under key sub) → AreDue d t
+  pub due_served : (t : State) (at : ℕ) (sub after : Subscription) (m : Message) (rest : List Message) → slice_get s.subscriptions at ≡ Some sub → can_take s sub ≡ true → line_for s.shared sub ≡ m ∷ rest → t.shared ≡ left_shared s.shared sub rest → t.next_delivery ≡ s.next_delivery + 1 → t.subscriptions ≡ remove s.subscriptions at ++ after ∷ [] → ((due : Due) → is_under due after ≡ is_under due sub) → AreDue d t
   due_served t at sub after m rest is ready line left next subs keys =
       let P = λ (x : Subscription). can_take s x ≡ true → is_due d x ≡ true in
       let Q = λ (x : Subscription). can_take t x ≡ true → is_due d x ≡ true in
@@ -269,7 +279,7 @@ module _ (d : List Key) (s : State) (due : AreDue d s) where
       (all_with Q (remove s.subscriptions at) after (each_weaker P Q (λ x was can. was (could_before s t sub x m rest line left next can)) (remove s.subscriptions at) (all_without P s.subscriptions at due)) (λ can. alike after sub keys d ∙ item_of P s.subscriptions at sub is due ready))
 
   -- Lines change of those alone that are due.
-  module _ (t : State) (e : List Key) (more : Grows d e) (number : t.next_delivery ≡ s.next_delivery) (same : (x : Subscription) → is_due e x ≡ false → line_for t.shared x ≡ line_for s.shared x) where
+  module _ (t : State) (e : List Cursor) (more : Grows d e) (number : t.next_delivery ≡ s.next_delivery) (same : (x : Subscription) → is_due e x ≡ false → line_for t.shared x ≡ line_for s.shared x) where
     abbrev WasDue : Subscription → Type 0
     WasDue x = can_take s x ≡ true → is_due d x ≡ true
 
@@ -332,7 +342,7 @@ module _ (m : Message) where
           ap (λ b. line_for (record shared { names = copied_to_names m ds (cond b (with_message name_cmp d.0 m shared.names) shared.names) }) x) is
           ∙ rest shared behind
 
-  module _ (d : List Key) (s : State) (due : AreDue d s) (e : List Key) (more : Grows d e) (plain : (x : Subscription) → is_plain_at m.sending.destination x ≡ true → is_due e x ≡ true) (names : (x : Subscription) → list_any (is_bound x) s.durables ≡ true → is_due e x ≡ true) where
+  module _ (d : List Cursor) (s : State) (due : AreDue d s) (e : List Cursor) (more : Grows d e) (plain : (x : Subscription) → is_plain_at m.sending.destination x ≡ true → is_due e x ≡ true) (names : (x : Subscription) → list_any (is_bound x) s.durables ≡ true → is_due e x ≡ true) where
     abbrev Was : Subscription → Type 0
     Was x = can_take s x ≡ true → is_due d x ≡ true
 
@@ -368,16 +378,6 @@ refused_elsewhere [] shared x other = refl
 refused_elsewhere (m ∷ ms) shared x other =
     refused_elsewhere ms (record shared { queues = with_message text_cmp dead_queue m shared.queues }) x other ∙ queue_elsewhere shared x dead_queue _ other
 
--- nobody who is not due can be served
-pub not_due : (d : List Key) (s : State) → AreDue d s → (i : ℕ) (x : Subscription) → slice_get s.subscriptions i ≡ Some x → (is_due d x ≡ true → is_none (line_for s.shared x) ≡ true) → can_take s x ≡ false
-not_due d s due i x is idle = by (can_take s x) refl
-  where
-    by : (b : Bool) → can_take s x ≡ b → can_take s x ≡ false
-    by true can =
-        let waits = (can_parts s x can).line in
-        absurd (clash (is_none (line_for s.shared x)) (idle (item_of (λ y. can_take s y ≡ true → is_due d y ≡ true) s.subscriptions i x is due can)) waits)
-    by false can = can
-
 -- where none can be served, none needs to be due
 pub none_due : (s : State) (xs : List Subscription) → AllByRecursion (λ x. can_take s x ≡ false) xs → AllByRecursion (λ x. can_take s x ≡ true → is_due [] x ≡ true) xs
 none_due s [] none = tt
@@ -388,17 +388,6 @@ none_waits true true is idle = refl
 none_waits true false is idle = absurd cc
 none_waits false true is idle = refl
 none_waits false false is idle = absurd cc
-
--- one key more
-pub due_more : (keys : List Key) (at : ℕ) (key : Key) (sub : Subscription) → at < length keys → key ≡ get_or keys at key → is_due (take (at + 1) keys) sub ≡ true → (is_due (take at keys) sub ≡ true) ⊎ (is_under key sub ≡ true)
-due_more keys at key sub within is due =
-    let more = list_any_more (λ (k : Key). is_under k sub) keys at key within in
-    let same = ap (λ (k : Key). is_under k sub) (sym is) in
-    either (is_due (take at keys) sub) (is_under key sub) (ap (λ b. is_due (take at keys) sub || b) (sym same) ∙ sym more ∙ due)
-  where
-    either : (a b : Bool) → (a || b) ≡ true → (a ≡ true) ⊎ (b ≡ true)
-    either true b is = inl refl
-    either false b is = inr is
 
 -- where nothing is handed out, none can be served
 module _ (s : State) where
@@ -439,32 +428,6 @@ module _ (s : State) where
           let waits = (can_parts s q.0 (picked_passes (can_take s) s.subscriptions q is)).line in
           absurd (hands q.0 q.1 (line_for s.shared q.0) waits (sym (ap (handed_to s) is) ∙ none))
 
--- all between two places are passed
-pub goes_on : (first : State) (before : List OutValue) (s : State) (outs : List OutValue) (from at : ℕ) → SettlesSo first before s outs from → ((i : ℕ) (sub : Subscription) → slice_get s.subscriptions i ≡ Some sub → from ≤ i → i < at → can_take s sub ≡ false) → SettlesSo first before s outs at
-goes_on first before s outs from at so each = record {
-  state = so.state;
-  all = so.all;
-  passed = none_taken (can_take s) s.subscriptions at (λ i x is less. elim (cases_lt i from) [ inl under ↦ fails_before (can_take s) s.subscriptions from i x so.passed is under | inr after ↦ each i x is after less ]);
-}
-
--- at the end none can be served
-pub none_at_end : (first : State) (before : List OutValue) (s : State) (outs : List OutValue) (at : ℕ) → length s.subscriptions ≤ at → SettlesSo first before s outs at → AreDue [] s
-none_at_end first before s outs at end so =
-    none_due s s.subscriptions (none_to_end (can_take s) s.subscriptions at end so.passed)
-
 -- a subscription is one of its own session
 pub of_itself : (sub : Subscription) → is_of sub.session sub ≡ true
 of_itself sub = grind (arith, nat_tests)
-
--- tables of a state that a broker can have need no keys
-pub kept_of : (s t : State) (held : Held) (due : List Key) → t ≡ s → due ≡ [] → IsSound s → held.messages ≡ held_messages s → held.bytes ≡ held_bytes s → IsKept t held due
-kept_of s t held due same none sound messages weight =
-    rw (same, none) (record {
-      messages = messages;
-      bytes = weight;
-      few = omega (arith, messages, sound.limits.messages);
-      small = omega (arith, weight, sound.limits.bytes);
-      next = sound.numbers.deliveries;
-      deliveries = sound.numbers.most;
-      ready = none_due s s.subscriptions (none_ready s sound.limits.settled);
-    })

@@ -1,11 +1,11 @@
-use Rattle.std.proofs.Common.{◌≡◌, ◌<◌, ◌≤◌, ◌+◌, ◌-◌, ◌&&◌, List, [], ◌∷◌, ℕ, suc, zero, Bool, true, false, IfSome, Option, Some, None, Result, Ok, Err, cond, count_by, filter, fold, is_some, length, nat_le, not, refl, remove, sym, ap, ◌∙◌, subst, arith, slice_get, take}
+use Rattle.std.proofs.Common.{◌≡◌, ◌<◌, ◌≤◌, ◌+◌, ◌-◌, ◌&&◌, List, [], ◌∷◌, ℕ, suc, zero, Bool, true, false, Option, Some, None, Result, Ok, Err, cond, count_by, filter, fold, is_some, length, nat_le, not, refl, remove, sym, ap, ◌∙◌, subst, arith, slice_get, take}
 use Rattle.std.specs.BTreeMap.{is_at}
 use Rattle.std.specs.List.{list_any, sum_by}
 use Rattle.std.specs.List.Sorted.{IsStrictlySortedBy}
 use Rattle.std.specs.Map.{keys_of, remove_entry}
 use Rattle.std.specs.Ordering.{nat_cmp}
 use Rattle.std.proofs.lemmas.Bool.{leb-true}
-use Rattle.std.proofs.lemmas.Option.{same_Some, slice_get_within}
+use Rattle.std.proofs.lemmas.Option.{slice_get_within}
 use Rattle.record_core.specs.declared.ack_mode.AckMode.{AckMode}
 use Rattle.command_core.specs.declared.fault.Fault.{Fault}
 use Rattle.command_core.specs.declared.fault.Fault.TheVariants.{DurableSubscription, NoRoom, SubscriptionIdInUse, UnknownSubscription, UnknownAcknowledgement, TooManyEntries}
@@ -16,11 +16,11 @@ use Rattle.broker_state.specs.declared.nack_rule.NackRule.TheVariants as rule
 use Rattle.broker_state.specs.Dead.{first_place, is_dropped, nacked, refused_from, with_refused}
 use Rattle.broker_state.specs.Lists.{changed, picked, with_first}
 use Rattle.broker_state.specs.Names.{Name, text_cmp}
-use Rattle.broker_state.specs.Operations.{acknowledged, awaits, begun_for, client_of, ended, ended_one, forgotten, given_up, is_named, is_of, name_for, or_same, settled_by, subscribed, topic_of, unsubscribed, unsubscribed_by, uses, without, without_named}
-use Rattle.broker_state.specs.Parts.{IsFirst, IsGivenAt, NonePass, but_at, without_at}
+use Rattle.broker_state.specs.Operations.{acknowledged, awaits, begun_for, client_of, ended, ended_one, forgotten, given_up, is_named, is_of, name_for, or_same, settled_by, subscribed, topic_of, unsubscribed, uses, without, without_named}
+use Rattle.broker_state.specs.Parts.{IsFirst, NonePass}
 use Rattle.broker_state.specs.States.{State, bytes, held_bytes, held_messages, one, weight_of}
 use Rattle.broker_state.specs.Waiting.{Shared, is_own, returned}
-use Rattle.broker_tables.specs.Places.{place_for}
+use Rattle.broker_tables.specs.Places.{EndsFirst, place_for}
 use Rattle.broker_tables.specs.Refusals.{all_kept, all_kept_bytes, refused_bytes}
 use Rattle.broker_state.proofs.Ending.{same_state, filter-all_others, filter-first, filter-none, filter-others, length-removed, take-removed}
 use Rattle.broker_state.proofs.Firsts.{any_first, any_none, changed_first, picked_first, picked_none}
@@ -92,41 +92,25 @@ module _ (s : State) (session : ℕ) (id : List ℕ) where
       let found = item_at s.subscriptions at first.within in
       ap (ended_one s) (picked_first (is_named session id) s.subscriptions at found.0 first found.1) ∙ ap (λ u. Ok u) (sym (ended found.0 found.1))
 
-  -- without the subscription of an id, wherever it was found
-  named_is_at : (place : Option ℕ) → IsGivenAt session (Some id) s.subscriptions place → or_same s (unsubscribed s session id) ≡ without_at s place
-  named_is_at None none = ap (or_same s) (unsubscribed_none none)
-  named_is_at (Some at) first =
-      let found = item_at s.subscriptions at first.within in
-      ap (or_same s) (unsubscribed_first (without s found.0 (remove s.subscriptions at)) at first (λ sub is. ap (λ x. without s x (remove s.subscriptions at)) (same_Some found.0 sub (sym found.1 ∙ is))))
-      ∙ sym (ap (λ o. elim o as (λ x. State) [ None ↦ s | Some sub ↦ without s sub (remove s.subscriptions at) ]) found.1)
+-- the end of the first of an id leaves what is left without it
+pub ended_named : (s t : State) (session : ℕ) (id : List ℕ) (one : Bool) → EndsFirst (is_named session id) s t one → t ≡ without_named s session (Some id)
+ended_named s t session id true ends = sym (ap (or_same s) (unsubscribed_first s session id t ends.0 ends.1 ends.2))
+ended_named s t session id false ends = ends.1 ∙ sym (ap (or_same s) (unsubscribed_none s session id ends.0))
 
-pub without_given : (s : State) (session : ℕ) (id : Option (List ℕ)) (place : Option ℕ) → IsGivenAt session id s.subscriptions place → without_named s session id ≡ without_at s place
-without_given s session None place given = sym (ap (without_at s) given)
-without_given s session (Some id) place given = named_is_at s session id place given
+pub ended_id : (s t : State) (session : ℕ) (id : List ℕ) → EndsFirst (is_named session id) s t true → unsubscribed s session id ≡ Ok t
+ended_id s t session id ends = unsubscribed_first s session id t ends.0 ends.1 ends.2
 
--- what is left without the subscription in a place
-pub left_at : (s : State) (place : Option ℕ) → IfSome place (λ at. at < length s.subscriptions) → ((without_at s place).subscriptions ≡ but_at s.subscriptions place) × ((without_at s place).durables ≡ s.durables)
-left_at s None within = (refl, refl)
-left_at s (Some at) within =
-    let found = item_at s.subscriptions at within in
-    let is = ap (λ o. elim o as (λ x. State) [ None ↦ s | Some sub ↦ without s sub (remove s.subscriptions at) ]) found.1 in
-    (ap (λ (t : State). t.subscriptions) is, ap (λ (t : State). t.durables) is)
+pub ended_no_id : (s t : State) (session : ℕ) (id : List ℕ) → EndsFirst (is_named session id) s t false → unsubscribed s session id ≡ Err UnknownSubscription
+ended_no_id s t session id ends = unsubscribed_none s session id ends.0
 
--- where a place is given, what is left is what the end of the subscription there leaves
-pub ended_at : (s t : State) (at : ℕ) → at < length s.subscriptions → ((sub : Subscription) → slice_get s.subscriptions at ≡ Some sub → t ≡ without s sub (remove s.subscriptions at)) → t ≡ without_at s (Some at)
-ended_at s t at within ended =
-    let found = item_at s.subscriptions at within in
-    ended found.0 found.1 ∙ sym (ap (λ o. elim o as (λ x. State) [ None ↦ s | Some sub ↦ without s sub (remove s.subscriptions at) ]) found.1)
-
--- the front of the waiting order has ended
-pub ended_front : (s t : State) → 0 < length s.subscriptions → ((sub : Subscription) → slice_get s.subscriptions 0 ≡ Some sub → t ≡ without s sub (remove s.subscriptions 0)) → (fold returned t.shared t.subscriptions ≡ fold returned s.shared s.subscriptions) × (length t.subscriptions + 1 ≡ length s.subscriptions) × (t.durables ≡ s.durables) × (t.next_delivery ≡ s.next_delivery) × (t.count ≡ s.count)
-ended_front s t some ended = by s.subscriptions some ended
+-- durable names stay
+pub durables_left : (s : State) (session : ℕ) (id : Option (List ℕ)) → (without_named s session id).durables ≡ s.durables
+durables_left s session None = refl
+durables_left s session (Some id) = by (picked (is_named session id) s.subscriptions)
   where
-    by : (subs : List Subscription) → 0 < length subs → ((sub : Subscription) → slice_get subs 0 ≡ Some sub → t ≡ without s sub (remove subs 0)) → (fold returned t.shared t.subscriptions ≡ fold returned s.shared subs) × (length t.subscriptions + 1 ≡ length subs) × (t.durables ≡ s.durables) × (t.next_delivery ≡ s.next_delivery) × (t.count ≡ s.count)
-    by [] some ended = absurd (omega (arith, some))
-    by (sub ∷ subs) some ended =
-        let is = ended sub refl in
-        (ap (λ (u : State). fold returned u.shared u.subscriptions) is, omega (arith, ap (λ (u : State). length u.subscriptions) is), ap (λ (u : State). u.durables) is, ap (λ (u : State). u.next_delivery) is, ap (λ (u : State). u.count) is)
+    by : (o : Option (Subscription × List Subscription)) → (or_same s (ended_one s o)).durables ≡ s.durables
+    by None = refl
+    by (Some p) = refl
 
 module _ (s : State) (name : Name) where
   abbrev given_by : Bool → Bool → Result State Fault
@@ -135,26 +119,6 @@ module _ (s : State) (name : Name) where
   pub given_up_is : (known used : Bool) → is_some (topic_of name s.durables) ≡ known → list_any (uses name) s.subscriptions ≡ used → given_up s name ≡ given_by known used
   given_up_is known used is in_use =
       ap (λ b. given_by b (list_any (uses name) s.subscriptions)) is ∙ ap (given_by known) in_use
-
--- a durable name is given up once the subscription in a place has ended, by whether it is known and used
-pub given_up_at : (s : State) (place : Option ℕ) → IfSome place (λ at. at < length s.subscriptions) → (known used : Bool) (name : Name) → is_some (topic_of name s.durables) ≡ known → list_any (uses name) (but_at s.subscriptions place) ≡ used → given_up (without_at s place) name ≡ given_by (without_at s place) name known used
-given_up_at s place within known used name found in_use =
-    given_up_is (without_at s place) name known used (ap (λ d. is_some (topic_of name d)) (left_at s place within).1 ∙ found) (ap (list_any (uses name)) (left_at s place within).0 ∙ in_use)
-
--- an UNSUBSCRIBE by id alone
-pub ended_nowhere : (s : State) (session : ℕ) (id : Option (List ℕ)) → IsGivenAt session id s.subscriptions None → unsubscribed_by s session id None ≡ Err UnknownSubscription
-ended_nowhere s session None given = refl
-ended_nowhere s session (Some id) none = unsubscribed_none s session id none
-
-pub ended_somewhere : (s t : State) (session : ℕ) (id : Option (List ℕ)) (at : ℕ) → IsGivenAt session id s.subscriptions (Some at) → ((sub : Subscription) → slice_get s.subscriptions at ≡ Some sub → t ≡ without s sub (remove s.subscriptions at)) → unsubscribed_by s session id None ≡ Ok t
-ended_somewhere s t session None at given ended = absurd cc
-ended_somewhere s t session (Some id) at first ended = unsubscribed_first s session id t at first ended
-
--- the place that is found lies within
-pub within_given : (s : State) (session : ℕ) (id : Option (List ℕ)) (place : Option ℕ) → IsGivenAt session id s.subscriptions place → IfSome place (λ at. at < length s.subscriptions)
-within_given s session id None given = tt
-within_given s session None (Some at) given = absurd cc
-within_given s session (Some id) (Some at) first = first.within
 
 module _ (s : State) (session delivery : ℕ) where
   pub acknowledged_none : NonePass (awaits session delivery) s.subscriptions → acknowledged s session delivery ≡ Err UnknownAcknowledgement
@@ -256,3 +220,42 @@ module _ (session : ℕ) where
   pub ended_none : (s t : State) → t.count ≡ s.count → t.next_delivery ≡ s.next_delivery → t.sessions ≡ remove_entry (is_at (nat_cmp session)) s.sessions → t.durables ≡ s.durables → fold returned t.shared (filter (is_of session) t.subscriptions) ≡ fold returned s.shared (filter (is_of session) s.subscriptions) → filter (λ sub. not (is_of session sub)) t.subscriptions ≡ filter (λ sub. not (is_of session sub)) s.subscriptions → NonePass (is_of session) t.subscriptions → t ≡ ended s session
   ended_none s t count next sessions durables shared others none =
       same_state t (ended s session) count next sessions durables (ap (fold returned t.shared) (sym (filter-none (is_of session) t.subscriptions none)) ∙ shared) (sym (filter-all_others (is_of session) t.subscriptions none) ∙ others)
+
+  -- what is left once the first of the session has ended
+  pub record EndedFirst (s t : State) : Type 0 where
+    pub count : t.count ≡ s.count
+    pub next : t.next_delivery ≡ s.next_delivery
+    pub sessions : t.sessions ≡ s.sessions
+    pub durables : t.durables ≡ s.durables
+    pub shared : fold returned t.shared (filter (is_of session) t.subscriptions) ≡ fold returned s.shared (filter (is_of session) s.subscriptions)
+    pub others : filter (λ sub. not (is_of session sub)) t.subscriptions ≡ filter (λ sub. not (is_of session sub)) s.subscriptions
+    pub fewer : length t.subscriptions + 1 ≡ length s.subscriptions
+
+  and_any : (b : Bool) → (b && true) ≡ b
+  and_any true = refl
+  and_any false = refl
+
+  none_of : (xs : List Subscription) → NonePass (λ x. is_of session x && true) xs → NonePass (is_of session) xs
+  none_of [] none = tt
+  none_of (x ∷ xs) none = (sym (and_any (is_of session x)) ∙ none.0, none_of xs none.1)
+
+  pub ended_one_of : (s t : State) (one : Bool) → EndsFirst (λ x. is_of session x && true) s t one → one ≡ true → EndedFirst s t
+  ended_one_of s t false ends is = absurd cc
+  ended_one_of s t true ends is =
+      let at = ends.0 in
+      let sub = item_at s.subscriptions at ends.1.within in
+      let ended = ends.2 sub.0 sub.1 in
+      let left = left_first s t at sub.0 sub.1 (sym (and_any (is_of session sub.0)) ∙ ends.1.passing sub.0 sub.1) (none_of (take at s.subscriptions) ends.1.before) ended in
+      record {
+        count = ap (λ (u : State). u.count) ended;
+        next = ap (λ (u : State). u.next_delivery) ended;
+        sessions = ap (λ (u : State). u.sessions) ended;
+        durables = ap (λ (u : State). u.durables) ended;
+        shared = left.shared;
+        others = left.others;
+        fewer = left.fewer;
+      }
+
+  pub none_ended : (s t : State) (one : Bool) → EndsFirst (λ x. is_of session x && true) s t one → one ≡ false → NonePass (is_of session) s.subscriptions
+  none_ended s t true ends is = absurd cc
+  none_ended s t false ends is = none_of s.subscriptions ends.0

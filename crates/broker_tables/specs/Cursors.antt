@@ -1,6 +1,5 @@
-use Rattle.std.specs.Prelude.{◌≡◌, ◌+◌, ◌-◌, ◌<◌, ◌≤◌, ◌^◌, ◌&&◌, List, ℕ, Bool, true, false, Some, nat_le, slice_get}
-use Rattle.std.specs.List.{AllByRecursion, list_any, sum_by}
-use Rattle.broker_state.specs.declared.subscription.Subscription.{Subscription}
+use Rattle.std.specs.Prelude.{◌≡◌, ◌-◌, ◌<◌, ◌≤◌, ◌^◌, List, ℕ, true, Some, slice_get}
+use Rattle.std.specs.List.{AllByRecursion, sum_by}
 use Rattle.broker_state.specs.HandOut.{can_take}
 use Rattle.broker_state.specs.Lists.{is_none}
 use Rattle.broker_state.specs.Parts.{NonePass}

@@ -1,14 +1,17 @@
-use Rattle.std.specs.Prelude.{◌≡◌, ◌+◌, ◌-◌, ◌++◌, ◌∷◌, [], List, ℕ, Some, drop, if◌then◌else◌, remove, slice_get}
+use Rattle.std.specs.Prelude.{◌≡◌, ◌+◌, ◌-◌, ◌++◌, ◌∷◌, [], ℕ, Some, drop, if◌then◌else◌, remove, slice_get}
 use Rattle.command_core.specs.Outs.{OutValue}
 use Rattle.line_core.specs.declared.message.Message.{Message}
 use Rattle.line_core.specs.Lines.{first_of}
 use Rattle.broker_state.specs.declared.held.Held.{Held}
 use Rattle.broker_state.specs.declared.subscription.Subscription.{Subscription}
-use Rattle.broker_state.specs.HandOut.{delivered, is_auto, message_out}
+use Rattle.broker_state.specs.HandOut.{can_take, delivered, is_auto, message_out}
 use Rattle.broker_state.specs.States.{bytes}
 use Rattle.broker_state.specs.Waiting.{Shared, left_line, left_shared, line_for}
 use Rattle.broker_tables.specs.declared.stock.Stock.{Stock}
 use Rattle.broker_tables.specs.Returns.{HandFirst}
+use Rattle.broker_tables.specs.Stocks.{stocked}
+use Rattle.broker_state.specs.Parts.{IsFirst}
+use Rattle.waiting_order.specs.Waiting.{subs_of}
 use Rattle.waiting_order.specs.declared.key.Key.{Key}
 use Rattle.waiting_order.specs.declared.standing.Standing.{Standing}
 
@@ -31,6 +34,7 @@ pub record IsServed (number : ℕ) (old : Stock) (key : Key) (new : Stock) (out 
   pub standing : Standing
   pub sub : Subscription
   pub there : slice_get old.order.all at ≡ Some (key, standing)
+  pub first : IsFirst (can_take (stocked old)) (subs_of old.order.all) at
   pub handed : IsHanded number old.next_delivery old.shared standing.sub old.held new.shared sub new.held out
   pub order : new.order ≡ record { all = remove old.order.all at ++ (key, record { ticket = old.order.next; sub = sub }) ∷ []; next = old.order.next + 1 }
   pub delivery : new.next_delivery ≡ old.next_delivery + 1

@@ -1,4 +1,4 @@
-use Rattle.std.specs.Prelude.{◌≡◌, ◌≤◌, ◌^◌, List, ℕ}
+use Rattle.std.specs.Prelude.{◌≡◌, ◌≤◌, ◌^◌, List}
 use Rattle.broker_state.specs.declared.held.Held.{Held}
 use Rattle.broker_state.specs.States.{IsNext, State, held_bytes, held_messages}
 use Rattle.broker_tables.specs.declared.cursors.Cursor.{Cursor}
@@ -8,7 +8,7 @@ use Rattle.broker_tables.specs.Stocks.{IsStocked, stocked}
 
 -- What tables keep: what a stock keeps, and a subscription that can be served is due to be.
 pub record IsKept (stock : Stock) (due : List Cursor) : Type 0 where
-  pub stock : IsStocked stock
+  pub whole : IsStocked stock
   pub ready : AreDue due (stocked stock)
 
 -- What is counted is what the state holds, which is within the limits. The next delivery has a number that no

@@ -5,10 +5,11 @@ ghost use Rattle.std.specs.List.{AllByRecursion};
 ghost use Rattle.broker_state.specs.Lists.{changed};
 ghost use Rattle.broker_tables.specs.Cursors.{AreAwaited, IsReady, NoneReady, at_ticket, tickets_left};
 ghost use Rattle.broker_tables.specs.declared.cursors.Cursor.{Cursor};
+ghost use Rattle.waiting_order.specs.declared.standing.Standing.{Standing};
 
 use crate::due::{Due, next_waiting};
 use crate::stock::Stock;
-use waiting_order::Key;
+use waiting_order::{Key, Place};
 
 /// Of those that are due no subscription with a lesser ticket can be served.
 #[derive(PartialEq, Eq, PartialOrd, Ord, Drop)]
@@ -23,8 +24,8 @@ const END: u64 = u64::MAX;
 /// The index of a cursor with the least ticket; none if all are at the end.
 fn least(cursors: &[Cursor]) -> Option<usize>
     ensures some { IfSome result (λ at. (c : Cursor) × (slice_get cursors.now at ≡ Some c) × (c.from < 2 ^ 64 - 1)
-        × AllByRecursion (λ d. c.from ≤ d.from) cursors.now) }
-    ensures none { IfNone result (AllByRecursion (λ c. 2 ^ 64 - 1 ≤ c.from) cursors.now) }
+        × AllByRecursion (λ (d : Cursor). c.from ≤ d.from) cursors.now) }
+    ensures none { IfNone result (AllByRecursion (λ (c : Cursor). 2 ^ 64 - 1 ≤ c.from) cursors.now) }
 {
     let mut least = None;
     let mut from = END;
@@ -39,7 +40,7 @@ fn least(cursors: &[Cursor]) -> Option<usize>
 
 /// Whether no cursor has a ticket under that one.
 fn are_from(cursors: &[Cursor], ticket: u64) -> bool
-    ensures { result ≡ true → AllByRecursion (λ c. ticket ≤ c.from) cursors.now }
+    ensures { result ≡ true → AllByRecursion (λ (c : Cursor). ticket ≤ c.from) cursors.now }
 {
     cursors.iter().all(|cursor| ticket <= cursor.from)
 }
@@ -56,10 +57,12 @@ fn move_on(cursors: &mut Vec<Cursor>, at: usize, ticket: u64)
 impl Stock {
     /// The key of the first subscription in waiting order that can be served, if there is one. Cursors move on meanwhile.
     pub fn next_ready(&self, cursors: &mut Vec<Cursor>) -> Option<Key>
-        requires { AreAwaited cursors.old.items self.now }
+        requires awaited { AreAwaited cursors.old.items self.now }
+        requires tickets { self.now.order.next < 2 ^ 64 }
         ensures ready { MatchOption result (NoneReady self.now) (IsReady self.now) }
         ensures awaited { AreAwaited cursors.new.items self.now }
     {
+        self.order.stand_in_order();
         while let Some(at) = least(cursors.as_slice()) {
             if let Some(key) = self.advance(cursors, at) {
                 return Some(key);
@@ -72,21 +75,45 @@ impl Stock {
     /// can be served and none can that waits before it.
     fn advance(&self, cursors: &mut Vec<Cursor>, at: usize) -> Option<Key>
         requires least { (c : Cursor) × (slice_get cursors.old.items at ≡ Some c) × (c.from < 2 ^ 64 - 1)
-            × AllByRecursion (λ d. c.from ≤ d.from) cursors.old.items }
+            × AllByRecursion (λ (d : Cursor). c.from ≤ d.from) cursors.old.items }
         requires awaited { AreAwaited cursors.old.items self.now }
+        requires tickets { self.now.order.next < 2 ^ 64 }
         ensures ready { IfSome result (IsReady self.now) }
         ensures awaited { AreAwaited cursors.new.items self.now }
         ensures nearer { IfNone result (tickets_left cursors.new.items < tickets_left cursors.old.items) }
     {
-        let from = cursors[at].from;
-        let Some(place) = next_waiting(&self.order, &self.shared, &cursors[at].due, from) else {
+        self.order.stand_in_order();
+        let cursor = &cursors[at];
+        let from = cursor.from;
+        let Some(place) = next_waiting(&self.order, &self.shared, &cursor.due, from) else {
             move_on(cursors, at, END);
             return None;
         };
+        if from == place.ticket {
+            return self.serve_or_pass(cursors, at, place);
+        }
         move_on(cursors, at, place.ticket);
-        if from < place.ticket && !are_from(cursors.as_slice(), place.ticket) {
+        if !are_from(cursors.as_slice(), place.ticket) {
             return None;
         }
+        if self.can_serve(place.key) {
+            return Some(place.key);
+        }
+        None
+    }
+
+    /// The key of a place that no cursor is before, if the subscription there can be served. Else the cursor goes by.
+    fn serve_or_pass(&self, cursors: &mut Vec<Cursor>, at: usize, place: Place) -> Option<Key>
+        requires cursor { (c : Cursor) × (slice_get cursors.old.items at ≡ Some c) × (c.from ≡ place.ticket) }
+        requires there { (k : ℕ) × (s : Standing) × (slice_get self.now.order.all k ≡ Some (place.key, s)) × (s.ticket ≡ place.ticket) }
+        requires least { AllByRecursion (λ (d : Cursor). place.ticket ≤ d.from) cursors.old.items }
+        requires awaited { AreAwaited cursors.old.items self.now }
+        requires tickets { self.now.order.next < 2 ^ 64 }
+        ensures ready { IfSome result (IsReady self.now) }
+        ensures awaited { AreAwaited cursors.new.items self.now }
+        ensures nearer { IfNone result (tickets_left cursors.new.items < tickets_left cursors.old.items) }
+    {
+        self.order.stand_in_order();
         if self.can_serve(place.key) {
             return Some(place.key);
         }

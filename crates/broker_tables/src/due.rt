@@ -126,6 +126,7 @@ pub fn next_waiting(order: &Order, shared: &SharedLines, due: &Due, from: u64) -
     ensures { MatchOption result ((until : ℕ) → IdleUntil due.now shared.now order.now.all from until)
         (WaitsUntil due.now shared.now order.now.all from) }
 {
+    order.stand_in_order();
     if is_idle(shared, due) {
         return None;
     }

@@ -39,6 +39,16 @@ fn ack_of(sub: &Subscription, delivery: u64) -> Option<u64>
     }
 }
 
+/// Whether a subscription's messages count as received once they are sent.
+fn is_auto(sub: &Subscription) -> bool
+    ensures { result ≡ is_auto sub.now.mode }
+{
+    match sub.mode {
+        AckMode::Auto => true,
+        AckMode::Client | AckMode::ClientIndividual => false,
+    }
+}
+
 /// The MESSAGE that the command of that number hands to a subscription.
 fn reply(
     alloc: Global,
@@ -78,16 +88,6 @@ fn take_for(order: &mut Order, shared: &mut SharedLines, key: Key) -> Result<Mes
     shared.take_for(sub)
 }
 
-/// A message becomes unacknowledged at that key, under that number of its delivery.
-fn keep(order: &mut Order, key: Key, delivery: u64, message: &Message) -> Result<(), AllocError>
-    requires { StandsSo order.old.all key (λ sub. IsOver delivery sub.unacknowledged) }
-    ensures { OnOk result ((at : ℕ) (s : Standing) → slice_get order.old.all at ≡ Some (key, s)
-        → order.new ≡ record order.old { all = changed at (with_sub (λ sub. record sub { unacknowledged = sub.unacknowledged ++ (delivery, message.now) ∷ [] })) order.old.all }) }
-{
-    let copy = message.clone()?;
-    order.keep(key, delivery, copy)
-}
-
 /// A message goes to the subscription at that key, by that number of its delivery. Gives the MESSAGE. With `auto` the message
 /// is held no more.
 fn deliver(
@@ -110,14 +110,15 @@ fn deliver(
     ensures bytes { OnOk result ((at : ℕ) (s : Standing) → slice_get order.old.all at ≡ Some (key, s)
         → held.new.bytes ≡ (if is_auto s.sub.mode then held.old.bytes - bytes message else held.old.bytes)) }
 {
-    match order.get(key).mode {
-        AckMode::Auto => {
-            held.messages -= 1;
-            held.bytes -= size(&message.sending) as u64;
-        }
-        AckMode::Client | AckMode::ClientIndividual => keep(order, key, delivery, &message)?,
+    if is_auto(order.get(key)) {
+        held.messages -= 1;
+        held.bytes -= size(&message.sending) as u64;
+        return reply(alloc, number, order.get(key), delivery, message);
     }
-    reply(alloc, number, order.get(key), delivery, message)
+    let copy = message.clone()?;
+    let out = reply(alloc, number, order.get(key), delivery, message)?;
+    order.keep(key, delivery, copy)?;
+    Ok(out)
 }
 
 impl Stock {
@@ -160,6 +161,7 @@ impl Stock {
         ensures none { OnOk result (NoneReady self.new) }
     {
         while let Some(key) = self.next_ready(cursors) {
+            self.order.stand_in_order();
             let out = self.serve(alloc, number, key)?;
             outs.push(out)?;
         }
@@ -177,8 +179,7 @@ impl Tables {
         ensures whole { OnOk result (self.new.broken ≡ false) }
     {
         self.broken = true;
-        self.stock
-            .hand_out(alloc, self.count, &mut self.due, outs)?;
+        self.stock.hand_out(alloc, self.count, &mut self.due, outs)?;
         self.due.clear();
         self.broken = false;
         Ok(())

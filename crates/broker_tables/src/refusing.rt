@@ -1,6 +1,6 @@
 //! Deliveries are refused.
 
-ghost use Rattle.std.specs.Prelude.{◌≡◌, ◌+◌, ◌-◌, ◌<◌, ◌≤◌, ◌^◌, IfOk, IsErr, OnOk, Some, false, if◌then◌else◌, length, nat_le, slice_get, true};
+ghost use Rattle.std.specs.Prelude.{◌≡◌, ◌+◌, ◌-◌, ◌<◌, ◌≤◌, ◌^◌, IfOk, IsErr, OnOk, Some, false, if◌then◌else◌, length, nat_le, slice_get, true, ℕ};
 ghost use Rattle.std.specs.List.{sum_by};
 ghost use Rattle.line_core.specs.Flights.{has_delivery, settled};
 ghost use Rattle.line_core.specs.Messages.{size_of};
@@ -189,18 +189,19 @@ fn take_refused(
     marked: &mut Vec<Cursor>,
     order: &mut Order,
     key: Key,
+    session: u64,
     delivery: u64,
 ) -> Result<Vec<(u64, Message)>, AllocError>
     requires known { StandsSo order.old.all key (λ sub. has_delivery delivery sub.unacknowledged ≡ true) }
     ensures kept { OnOk result (AllDue (is_due marked.old.items) marked.new.items) }
-    ensures session { OnOk result (AllDue (is_of key.session) marked.new.items) }
+    ensures session { OnOk result (AllDue (is_of session) marked.new.items) }
     ensures dead { OnOk result (AllDue (is_plain_at dead_queue) marked.new.items) }
     ensures settled { IfOk result (λ out. (at : ℕ) (s : Standing) → slice_get order.old.all at ≡ Some (key, s)
         → out.items ≡ settled s.sub.mode delivery s.sub.unacknowledged) }
     ensures unsettled { OnOk result ((at : ℕ) (s : Standing) → slice_get order.old.all at ≡ Some (key, s)
         → order.new ≡ record order.old { all = changed at (settled_at delivery) order.old.all }) }
 {
-    mark(marked, Due::Session(key.session))?;
+    mark(marked, Due::Session(session))?;
     let dead = dead_queue(alloc)?;
     mark(marked, Due::Destination(dead))?;
     order.settle(key, delivery)
@@ -279,7 +280,8 @@ impl Tables {
             place: 64 + 16 * member,
         };
         self.broken = true;
-        let settled = take_refused(alloc, &mut self.due, &mut self.stock.order, key, delivery)?;
+        let order = &mut self.stock.order;
+        let settled = take_refused(alloc, &mut self.due, order, key, session, delivery)?;
         move_refused(
             alloc,
             &mut self.stock.shared,

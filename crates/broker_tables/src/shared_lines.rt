@@ -118,10 +118,11 @@ impl SharedLines {
         ensures shared { OnOk result (self.new ≡ left_shared self.old sub.now (drop 1 (line_for self.old sub.now))) }
         ensures weight { OnOk result (HandFirst self.old sub.now self.new sub.now (line_for self.old sub.now)) }
     {
-        let message = match &sub.durable {
-            Some(name) => keyed_lines::take(&mut self.names, name)?,
-            None => take_from_queue(&mut self.queues, &sub.destination)?,
-        };
+        if let Some(name) = &sub.durable {
+            let message = keyed_lines::take(&mut self.names, name)?;
+            return Ok(message.unwrap());
+        }
+        let message = take_from_queue(&mut self.queues, &sub.destination)?;
         Ok(message.unwrap())
     }
 

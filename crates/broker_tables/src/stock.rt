@@ -51,7 +51,13 @@ impl Stock {
         requires { Stands self.now.order.all key }
         ensures { (at : ℕ) (s : Standing) → slice_get self.now.order.all at ≡ Some (key, s) → result ≡ can_take (stocked self.now) s.sub }
     {
+        if !self.has_number() {
+            return false;
+        }
         let sub = self.order.get(key);
-        self.has_number() && sub.has_room() && self.shared.has_message(sub)
+        if !sub.has_room() {
+            return false;
+        }
+        self.shared.has_message(sub)
     }
 }

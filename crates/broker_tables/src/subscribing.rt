@@ -359,6 +359,7 @@ impl Tables {
         ensures begun { IfOk result (λ r. begun self.old.state sub.now ≡ leaving r (with_subscription self.new.state sub.now)) }
         ensures same { IfOk result (λ r. IsErr r → self.new ≡ self.old) }
         ensures flag { self.new.broken ≡ self.old.broken }
+        ensures subscriptions { self.new.state.subscriptions ≡ self.old.state.subscriptions }
     {
         let Some(name) = &sub.durable else {
             return Ok(Ok(()));

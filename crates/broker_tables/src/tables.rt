@@ -1,6 +1,6 @@
 //! What the broker keeps: sessions, durable names, lines and subscriptions, and how much is held.
 
-ghost use Rattle.std.specs.Prelude.{◌≡◌, IfOk, OnOk, false, true};
+ghost use Rattle.std.specs.Prelude.{◌≡◌, ◌<◌, ◌^◌, IfOk, OnOk, false, true};
 ghost use Rattle.record_core.specs.Texts.{IsGiven};
 ghost use Rattle.broker_state.specs.Operations.{opened};
 ghost use Rattle.broker_state.specs.States.{empty_state, held_bytes, held_messages};
@@ -128,7 +128,8 @@ impl Tables {
 
     /// The subscriptions in waiting order.
     pub fn order(&self) -> &Order
-        ensures { subs_of result.now.all ≡ self.now.state.subscriptions }
+        ensures subscriptions { subs_of result.now.all ≡ self.now.state.subscriptions }
+        ensures tickets { self.now.broken ≡ false → result.now.next < 2 ^ 64 }
     {
         &self.stock.order
     }

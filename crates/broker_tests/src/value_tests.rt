@@ -167,11 +167,17 @@ fn shown(broker: &Broker) -> [u64; 7] {
     ]
 }
 
+// Whether there are three subscriptions, the last of that id.
+fn is_third(alloc: Global, broker: &Broker, id: &str) -> Result<bool, Fail> {
+    let subscriptions = broker.subscriptions(alloc)?;
+    Ok(subscriptions.len() == 3 && subscriptions[2].id.as_str() == id)
+}
+
 // What is shown before and after a restart.
 fn shown_twice(alloc: Global, broker: &mut Broker) -> Result<([u64; 7], [u64; 7]), Fail> {
     execute_all(alloc, broker, &THREE_DELIVERIES)?;
     let before = shown(broker);
-    if broker.subscription_count() != 3 || broker.subscription(2).id.as_str() != "q" {
+    if !is_third(alloc, broker, "q")? {
         return Err(Fail::from("the third subscription is another"));
     }
     broker.restart(alloc)?;

@@ -106,21 +106,20 @@ fn request_record(alloc: Global, opened: &[u64], chosen: u64) -> Result<Vec<u8>,
 
 // A session and one of its deliveries that wait to be acknowledged. The delivery is of the first subscription in waiting order that has
 // one.
-fn some_delivery(memory: &Broker, chosen: u64) -> Option<(u64, u64)> {
-    for at in 0..memory.subscription_count() {
-        let subscription = memory.subscription(at);
+fn some_delivery(alloc: Global, memory: &Broker, chosen: u64) -> Result<Option<(u64, u64)>, Fail> {
+    for subscription in memory.subscriptions(alloc)? {
         let waiting = subscription.unacknowledged.as_slice();
         if !waiting.is_empty() {
             let (delivery, _) = &waiting[chosen as usize % waiting.len()];
-            return Some((subscription.session, *delivery));
+            return Ok(Some((subscription.session, *delivery)));
         }
     }
-    None
+    Ok(None)
 }
 
 // A session settles a delivery.
 fn acknowledgement_record(alloc: Global, memory: &Broker, chosen: u64) -> Result<Vec<u8>, Fail> {
-    let (session, delivery) = some_delivery(memory, chosen / 32).unwrap_or((0, 0));
+    let (session, delivery) = some_delivery(alloc, memory, chosen / 32)?.unwrap_or((0, 0));
     let mut record = Vec::from_slice(alloc, &session.to_be_bytes())?;
     record.extend_from_slice(SETTLED[(chosen % 5) as usize])?;
     record.extend_from_slice(&delivery.to_be_bytes())?;
@@ -130,11 +129,12 @@ fn acknowledgement_record(alloc: Global, memory: &Broker, chosen: u64) -> Result
 // A session stops listening to one of its subscriptions, or also gives up a durable one. If there is none, it is a note of a session that
 // is not open.
 fn unsubscribe_record(alloc: Global, memory: &Broker, chosen: u64) -> Result<Vec<u8>, Fail> {
-    let count = memory.subscription_count() as u64;
+    let subscriptions = memory.subscriptions(alloc)?;
+    let count = subscriptions.len() as u64;
     if count == 0 {
         return Ok(Vec::from_slice(alloc, b"\0\0\0\0\0\0\0\0\0\x08")?);
     }
-    let subscription = memory.subscription((chosen / 32 % count) as usize);
+    let subscription = subscriptions[(chosen / 32 % count) as usize];
     let mut record = Vec::from_slice(alloc, &subscription.session.to_be_bytes())?;
     record.extend_from_slice(b"\0\x04\x01")?;
     put_text(&mut record, &subscription.id)?;

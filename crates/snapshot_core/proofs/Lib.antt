@@ -13,3 +13,4 @@ pub mod SnapshotStates
 pub mod SnapshotForms
 pub mod Parts
 pub mod Capped
+pub mod InOrder

@@ -173,7 +173,11 @@ fn subscriptions_len(broker: &Broker) -> u64
     ensures { result ≡ counted_in_eight (length (listed spelled.subscription broker.now.state.subscriptions)) }
 {
     let mut total: u64 = 4;
-    for (_key, standing) in &broker.subscriptions_by_key() {
+    let subs = broker.subscriptions_by_key();
+    for at in 0..subs.len() {
+        let Some((_key, standing)) = subs.get_index(at) else {
+            unreachable!()
+        };
         total = total.saturating_add(subscription_len(&standing.sub));
     }
     total

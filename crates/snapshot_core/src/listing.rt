@@ -367,7 +367,8 @@ fn list_subscriptions<'a>(
     ensures form { OnOk result (AllByRecursion IsSubscription broker.now.state.subscriptions) }
 {
     list_count(parts, broker.subscription_count())?;
-    for sub in broker.subscriptions(alloc)? {
+    let subs = broker.subscriptions(alloc)?;
+    for sub in subs {
         list_subscription(parts, sub)?;
     }
     Ok(())

@@ -1,15 +1,11 @@
-use Rattle.std.proofs.Common.{◌≡◌, ◌-◌, ◌≤◌, Some, length, slice_get, take, true}
-use Rattle.broker_state.specs.declared.subscription.Subscription.{Subscription}
-use Rattle.broker_state.specs.Operations.{is_of}
+use Rattle.std.proofs.Common.{◌≡◌, ◌++◌, ◌-◌}
+use Rattle.waiting_order.specs.Waiting.{subs_of}
 use Rattle.broker_core.specs.Prechecks.{flights_of}
+use Rattle.broker_core.proofs.FlightsFrom.{flights_from}
 use Rattle.broker_core.proofs.precheck.flights_of.Given as goal
 
-abbrev pub invariant-loop-at : goal.invariant-loop-at
-invariant-loop-at l = record {
-  within : l.at ≤ length l.order;
-  passing : (sub : Subscription) → slice_get l.order l.at ≡ Some sub → is_of l.session sub ≡ true;
-  flights : l.flights.items ≡ flights_of l.session (take l.at l.order);
-}
+abbrev pub invariant-loop-place : goal.invariant-loop-place
+invariant-loop-place l = l.flights.items ++ flights_from l.session l.from l.order.all ≡ flights_of l.session (subs_of l.order.all)
 
-abbrev pub decreases-loop-at : goal.decreases-loop-at
-decreases-loop-at l = length l.order - l.at
+abbrev pub decreases-loop-place : goal.decreases-loop-place
+decreases-loop-place l = l.order.next - l.from

@@ -2,7 +2,7 @@ use Rattle.std.proofs.Common.{◌≡◌, Some, ap, arith, slice_get}
 use Rattle.std.proofs.lemmas.Grind.{common_steps}
 use Rattle.std.proofs.lemmas.Option.{gets}
 use Rattle.broker_core.specs.Prechecks.{left_by}
-use Rattle.broker_order.proofs.Waiting.{set_changed}
+use Rattle.broker_tables.proofs.Waiters.{set_changed}
 use Rattle.broker_core.proofs.precheck.settle_at.Goals as goal
 
 pub returns-in-Ok-clause-left : goal.returns-in-Ok-clause-left

@@ -7,7 +7,7 @@ use Rattle.broker_tables.proofs.due.mark_all.Given as goal
 
 abbrev pub invariant-loop-name : goal.invariant-loop-name
 invariant-loop-name l = record {
-  kept : (sub : Subscription) → is_due l.fn.due.items sub ≡ true → is_due l.due.items sub ≡ true;
+  kept : (sub : Subscription) → is_due l.fn.marked.items sub ≡ true → is_due l.marked.items sub ≡ true;
   marked : (sub : Subscription) → list_any (λ name. uses name sub) l.names ≡ true
-      → (is_due l.due.items sub ≡ true) ⊎ (list_any (λ name. uses name sub) l.name-iterator ≡ true);
+      → (is_due l.marked.items sub ≡ true) ⊎ (list_any (λ name. uses name sub) l.name-iterator ≡ true);
 }

@@ -1,0 +1,14 @@
+use Rattle.std.proofs.Common.{◌∙◌, ap}
+use Rattle.std.specs.List.{list_any}
+use Rattle.broker_tables.specs.Dues.{awaits_at}
+use Rattle.broker_tables.proofs.Dues.{any_kept}
+use Rattle.broker_tables.proofs.Marks.{marked_already}
+use Rattle.broker_tables.proofs.due.mark.Goals as goal
+
+pub returns-in-Ok-clause-marked : goal.returns-in-Ok-clause-marked
+returns-in-Ok-clause-marked c =
+    marked_already c.args.marked.now.items c.deref.result.now c.in-Ok._there c.args.due c.deref.ensures.value c.in-Ok.ensures.bound c.in-Ok.ensures.ok
+
+pub returns-in_ok-insert-in-Err-clause-kept : goal.returns-in_ok-insert-in-Err-clause-kept
+returns-in_ok-insert-in-Err-clause-kept c sub is =
+    ap (list_any (awaits_at 0 sub)) c.in_ok-insert-in-Err.ensures.items ∙ any_kept (awaits_at 0 sub) (record { from = 0; due = c.args.due }) c.args.marked.now.items c.in-Err.at is

@@ -1,0 +1,38 @@
+use Rattle.std.proofs.Common.{rules, ◌≡◌, ◌-◌, ◌++◌, ◌∷◌, ◌∙◌, [], true, false, Some, ap, cond, slice_get, sym, ℕ}
+use Rattle.line_core.specs.declared.message.Message.{Message}
+use Rattle.broker_state.specs.declared.subscription.Subscription.{Subscription}
+use Rattle.broker_state.specs.HandOut.{delivered, is_auto, message_out}
+use Rattle.broker_state.specs.States.{bytes}
+use Rattle.waiting_order.specs.declared.standing.Standing.{Standing}
+use Rattle.waiting_order.specs.Keeping.{kept_by, with_sub}
+use Rattle.broker_tables.proofs.Waiters.{changed_alike, changed_none, on_ok}
+use Rattle.broker_tables.proofs.hand_out.deliver.Goals as goal
+
+pub returns-then-is_auto-clause-delivered : goal.returns-then-is_auto-clause-delivered
+returns-then-is_auto-clause-delivered c =
+    on_ok c.reply.result _ (λ at s there.
+    let o = c.args.order.now in
+    let f : Subscription → Subscription = λ x. delivered x c.args.delivery c.args.message in
+    let auto : is_auto s.sub.mode ≡ true = ap (λ (x : Subscription). is_auto x.mode) (sym (c.get.ensures.sub at s there)) ∙ sym c.is_auto.ensures ∙ c.if-is_auto.true in
+    let same : f s.sub ≡ s.sub = ap (λ b. record s.sub { unacknowledged = cond b s.sub.unacknowledged (s.sub.unacknowledged ++ (c.args.delivery, c.args.message) ∷ []) }) auto in
+    ap (λ l. record o { all = l }) (changed_none (with_sub f) o.all at (c.args.key, s) there (ap (λ (x : Subscription). (c.args.key, record s { sub = x })) same)))
+
+pub returns : goal.returns
+returns c =
+    let o = c.args.order.now in
+    let m = c.args.message in
+    let d = c.args.delivery in
+    let held = c.args.held.now in
+    let auto : (at : ℕ) (s : Standing) → slice_get o.all at ≡ Some (c.args.key, s) → is_auto s.sub.mode ≡ false = λ at s there. ap (λ (x : Subscription). is_auto x.mode) (sym (c.get.ensures.sub at s there)) ∙ sym c.is_auto.ensures ∙ c.if-is_auto.false in
+    let same_copy : c.in_ok-copy.copy ≡ m = search rules in
+    record {
+      out = λ at s there. c.in_ok-out.ensures ∙ ap (λ (x : Subscription). message_out c.args.number x d m) (c.get-2.ensures.sub at s there);
+      delivered = λ at s there.
+          let g : Subscription → Subscription = λ x. delivered x d m in
+          let same : record s.sub { unacknowledged = s.sub.unacknowledged ++ (d, c.in_ok-copy.copy) ∷ [] } ≡ g s.sub =
+          ap (λ (n : Message). record s.sub { unacknowledged = s.sub.unacknowledged ++ (d, n) ∷ [] }) same_copy
+          ∙ sym (ap (λ b. record s.sub { unacknowledged = cond b s.sub.unacknowledged (s.sub.unacknowledged ++ (d, m) ∷ []) }) (auto at s there)) in
+          c.in_ok-keep.ensures.ok at s there ∙ ap (λ l. record o { all = l }) (changed_alike (kept_by d c.in_ok-copy.copy) (with_sub g) o.all at (c.args.key, s) there (ap (λ (x : Subscription). (c.args.key, record s { sub = x })) same));
+      messages = λ at s there. sym (ap (λ b. cond b (held.messages - 1) held.messages) (auto at s there));
+      bytes = λ at s there. sym (ap (λ b. cond b (held.bytes - bytes m) held.bytes) (auto at s there));
+    }

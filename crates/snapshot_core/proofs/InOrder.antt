@@ -1,0 +1,49 @@
+use Rattle.std.proofs.Common.{◌≡◌, ◌<◌, ◌+◌, ◌^◌, ◌&&◌, List, [], ◌∷◌, ℕ, Bool, false, true, cond, length, not, refl, sym, ap, subst, ◌∙◌, arith, length-append, slice_get}
+use Rattle.std.specs.List.{AllByRecursion, flat_map, sum_by}
+use Rattle.std.proofs.lemmas.List.Sums.{sum_by-cons}
+use Rattle.line_core.specs.declared.message.Message.{Message}
+use Rattle.broker_state.specs.declared.subscription.Subscription.{Subscription}
+use Rattle.broker_state.specs.Lists.{is_none}
+use Rattle.broker_state.specs.Sound.{IsSound}
+use Rattle.broker_state.specs.States.{State}
+use Rattle.broker_state.specs.Waiting.{is_own}
+use Rattle.waiting_order.proofs.Rising.{all_places}
+use Rattle.snapshot_core.proofs.Counted.{holds_few, waits_in_own}
+
+-- four bytes count what a subscription has, and its line is empty unless it is its own
+pub record Fits (sub : Subscription) : Type 0 where
+  pub short : length sub.line < 2 ^ 32
+  pub few : length sub.unacknowledged < 2 ^ 32
+  pub own : is_own sub ≡ false → sub.line ≡ []
+
+pub all_fit : (s : State) → IsSound s → AllByRecursion Fits s.subscriptions
+all_fit s sound =
+    all_places Fits s.subscriptions (λ i x is. record { short = (holds_few s sound i x is).0; few = (holds_few s sound i x is).1; own = waits_in_own s sound i x is })
+
+-- How many have something in a line that isn't theirs.
+abbrev pub strays : Subscription → ℕ
+strays sub = cond (not (is_own sub) && not (is_none sub.line)) 1 0
+
+one_fits : (sub : Subscription) → (is_own sub ≡ false → sub.line ≡ []) → strays sub ≡ 0
+one_fits sub own = by (is_own sub) refl
+  where
+    by : (b : Bool) → is_own sub ≡ b → cond (not b && not (is_none sub.line)) 1 0 ≡ 0
+    by true is = refl
+    by false is = ap (λ (l : List Message). cond (not (is_none l)) 1 0) (own is)
+
+pub none_strays : (xs : List Subscription) → AllByRecursion Fits xs → sum_by strays xs ≡ 0
+none_strays [] all = refl
+none_strays (x ∷ xs) all = omega (arith, sum_by-cons strays x xs, one_fits x all.0.own, none_strays xs all.1)
+
+line_none : {X : Type 0} (own : Bool) (line : List X) → cond (not own && not (is_none line)) 1 0 ≡ 0 → own ≡ false → line ≡ []
+line_none true line is other = absurd cc
+line_none false [] is other = refl
+line_none false (x ∷ line) is other = absurd cc
+
+pub no_stray : (sub : Subscription) → strays sub ≡ 0 → is_own sub ≡ false → sub.line ≡ []
+no_stray sub none = line_none (is_own sub) sub.line none
+
+-- what a list's items are spelled in, in any order
+pub length_spelled : {X : Type 0} (f : X → List ℕ) (xs : List X) → length (flat_map f xs) ≡ sum_by (λ x. length (f x)) xs
+length_spelled f [] = refl
+length_spelled {X} f (x ∷ xs) = omega (arith, length-append (f x) (flat_map f xs), sum_by-cons (λ (y : X). length (f y)) x xs, length_spelled f xs)
