@@ -270,14 +270,6 @@ module _ (shared : Shared) (sub : Subscription) where
 
 -- The operations: who can be served after them is due.
 module _ (d : List Cursor) (s : State) (due : AreDue d s) where
-  -- one is served, which had a message waiting, and waits last
-  pub due_served : (t : State) (at : ℕ) (sub after : Subscription) (m : Message) (rest : List Message) → slice_get s.subscriptions at ≡ Some sub → can_take s sub ≡ true → line_for s.shared sub ≡ m ∷ rest → t.shared ≡ left_shared s.shared sub rest → t.next_delivery ≡ s.next_delivery + 1 → t.subscriptions ≡ remove s.subscriptions at ++ after ∷ [] → ((due : Due) → is_under due after ≡ is_under due sub) → AreDue d t
-  due_served t at sub after m rest is ready line left next subs keys =
-      let P = λ (x : Subscription). can_take s x ≡ true → is_due d x ≡ true in
-      let Q = λ (x : Subscription). can_take t x ≡ true → is_due d x ≡ true in
-      subst (AllByRecursion Q) (sym subs)
-      (all_with Q (remove s.subscriptions at) after (each_weaker P Q (λ x was can. was (could_before s t sub x m rest line left next can)) (remove s.subscriptions at) (all_without P s.subscriptions at due)) (λ can. alike after sub keys d ∙ item_of P s.subscriptions at sub is due ready))
-
   -- Lines change of those alone that are due.
   module _ (t : State) (e : List Cursor) (more : Grows d e) (number : t.next_delivery ≡ s.next_delivery) (same : (x : Subscription) → is_due e x ≡ false → line_for t.shared x ≡ line_for s.shared x) where
     abbrev WasDue : Subscription → Type 0

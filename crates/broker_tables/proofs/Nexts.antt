@@ -1,7 +1,6 @@
-use Rattle.std.proofs.Common.{◌≡◌, ◌<◌, cond, ◌&&◌, ◌||◌, List, [], ◌∷◌, ℕ, suc, zero, Bool, true, false, Some, count_by, is_some, not, refl, sym, ap, subst, ◌∙◌, arith, slice_get, take}
+use Rattle.std.proofs.Common.{◌≡◌, ◌<◌, cond, ◌&&◌, ◌||◌, List, [], ◌∷◌, ℕ, suc, zero, Bool, true, false, Some, count_by, is_some, not, refl, sym, ap, ◌∙◌, arith, slice_get, take}
 use Rattle.std.specs.Str.{bytes_eq}
 use Rattle.std.proofs.lemmas.List.Sums.{sum_by-cons}
-use Rattle.std.proofs.lemmas.Option.{none-some}
 use Rattle.std.proofs.lemmas.Slice.Eq.{bytes_eq-Decides}
 use Rattle.record_core.specs.Destinations.{is_queue}
 use Rattle.broker_state.specs.declared.subscription.Subscription.{Subscription}
@@ -10,23 +9,13 @@ use Rattle.broker_state.specs.Waiting.{is_own}
 use Rattle.waiting_order.specs.Directories.{is_plain_at}
 
 module _ {X : Type 0} (q : X → Bool) where
-  -- none in a place before one passes, and the other way round
+  -- none in a place before one passes
   pub none_taken : (xs : List X) (at : ℕ) → ((i : ℕ) (x : X) → slice_get xs i ≡ Some x → i < at → q x ≡ false) → NonePass q (take at xs)
   none_taken [] zero each = tt
   none_taken [] (suc at) each = tt
   none_taken (x ∷ xs) zero each = tt
   none_taken (x ∷ xs) (suc at) each =
       (each 0 x refl (omega arith), none_taken xs at (λ i y is less. each (suc i) y is (omega (arith, less))))
-
-  pub fails_before : (xs : List X) (at i : ℕ) (x : X) → NonePass q (take at xs) → slice_get xs i ≡ Some x → i < at → q x ≡ false
-  fails_before [] at i x none is less = absurd (none-some x is)
-  fails_before (y ∷ xs) zero i x none is less = absurd (omega (arith, less))
-  fails_before (y ∷ xs) (suc at) zero x none is less =
-      subst (λ (z : X). q z ≡ false) (same y x is) none.0
-    where
-      same : (a b : X) → Some a ≡ Some b → a ≡ b
-      same a b is = cc
-  fails_before (y ∷ xs) (suc at) (suc i) x none is less = fails_before xs at i x none.1 is (omega (arith, less))
 
 -- a subscription without a durable name listens to its topic
 pub plain_listens : (to : List ℕ) → is_queue to ≡ false → (sub : Subscription) → is_plain_at to sub ≡ (is_own sub && bytes_eq sub.destination to)

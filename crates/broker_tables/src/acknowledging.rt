@@ -7,7 +7,7 @@ ghost use Rattle.broker_tables.specs.Places.{IsFirstAt};
 ghost use Rattle.waiting_order.specs.Waiting.{subs_of};
 
 use crate::due::{Due, mark};
-use crate::subscribing::let_deliveries_go;
+use crate::ending::let_deliveries_go;
 use crate::tables::Tables;
 use command_core::Fault;
 use std::alloc::AllocError;

@@ -6,6 +6,7 @@ mod acknowledging;
 mod cursors;
 mod due;
 mod durable_names;
+mod ending;
 mod hand_out;
 mod keyed_lines;
 mod refusing;

@@ -23,8 +23,8 @@ ghost use Rattle.broker_tables.specs.Refusals.{ArePart, MovesHeld, all_kept, all
 use crate::acknowledging::find_awaiting;
 use crate::cursors::Cursor;
 use crate::due::{Due, mark};
+use crate::ending::let_deliveries_go;
 use crate::shared_lines::SharedLines;
-use crate::subscribing::let_deliveries_go;
 use crate::tables::Tables;
 use broker_state::{Held, MOST_BYTES, NackRule, Subscription};
 use command_core::Fault;

@@ -1,7 +1,7 @@
 use Rattle.std.proofs.Common.{arith}
 use Rattle.broker_state.specs.States.{bytes, one}
 use Rattle.broker_state.proofs.Places.{sum_by-first}
-use Rattle.broker_tables.proofs.subscribing.let_line_go.Goals as goal
+use Rattle.broker_tables.proofs.ending.let_line_go.Goals as goal
 
 pub overflow_sub-held : goal.overflow_sub-held
 overflow_sub-held c =

@@ -2,7 +2,7 @@ use Rattle.std.proofs.Common.{◌∙◌, ap, sym}
 use Rattle.std.specs.List.{list_any}
 use Rattle.broker_state.specs.Operations.{uses}
 use Rattle.broker_tables.proofs.Users.{all_left, beside_other, beside_user}
-use Rattle.broker_tables.proofs.subscribing.is_used_beside.Goals as goal
+use Rattle.broker_tables.proofs.ending.is_used_beside.Goals as goal
 
 pub returns-in_default : goal.returns-in_default
 returns-in_default c s same =

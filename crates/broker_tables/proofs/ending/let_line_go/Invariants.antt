@@ -1,7 +1,7 @@
 use Rattle.std.proofs.Common.{◌≡◌, ◌+◌, length}
 use Rattle.std.specs.List.{sum_by}
 use Rattle.broker_state.specs.States.{bytes, one}
-use Rattle.broker_tables.proofs.subscribing.let_line_go.Given as goal
+use Rattle.broker_tables.proofs.ending.let_line_go.Given as goal
 
 abbrev pub invariant-loop-message : goal.invariant-loop-message
 invariant-loop-message l = record {

@@ -2,7 +2,7 @@ use Rattle.std.proofs.Common.{ℕ, ap, arith}
 use Rattle.std.specs.List.{sum_by}
 use Rattle.line_core.specs.declared.message.Message.{Message}
 use Rattle.broker_state.specs.States.{bytes, one}
-use Rattle.broker_tables.proofs.subscribing.let_go.Goals as goal
+use Rattle.broker_tables.proofs.ending.let_go.Goals as goal
 
 pub let_line_go-requires-clause-messages : goal.let_line_go-requires-clause-messages
 let_line_go-requires-clause-messages c =

@@ -4,7 +4,7 @@ use Rattle.std.proofs.lemmas.List.Sums.{sum_by-cons}
 use Rattle.line_core.specs.declared.message.Message.{Message}
 use Rattle.broker_state.specs.States.{bytes, one, weight_of_subscription}
 use Rattle.broker_state.specs.Waiting.{Shared, returned}
-use Rattle.broker_tables.proofs.subscribing.let_all_go.Goals as goal
+use Rattle.broker_tables.proofs.ending.let_all_go.Goals as goal
 
 pub let_go-requires : goal.let_go-requires
 let_go-requires c =

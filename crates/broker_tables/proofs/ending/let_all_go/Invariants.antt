@@ -1,7 +1,7 @@
 use Rattle.std.proofs.Common.{◌≡◌, fold}
 use Rattle.broker_state.specs.Waiting.{returned}
 use Rattle.broker_tables.specs.Returns.{HoldAll}
-use Rattle.broker_tables.proofs.subscribing.let_all_go.Given as goal
+use Rattle.broker_tables.proofs.ending.let_all_go.Given as goal
 
 abbrev pub invariant-loop-sub : goal.invariant-loop-sub
 invariant-loop-sub l = record {
