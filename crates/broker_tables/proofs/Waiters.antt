@@ -134,3 +134,7 @@ module _ {X : Type 0} (f : X → X) where
 pub on_ok : {X E : Type 0} (r : Result X E) (A : Type 0) → A → OnOk r A
 on_ok (Ok x) A a = a
 on_ok (Err e) A a = tt
+
+pub both_ok : {X E : Type 0} (r : Result X E) (A B C : Type 0) → (A → B → C) → OnOk r A → OnOk r B → OnOk r C
+both_ok (Ok x) A B C so a b = so a b
+both_ok (Err e) A B C so a b = tt

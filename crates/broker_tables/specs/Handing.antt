@@ -15,6 +15,16 @@ use Rattle.waiting_order.specs.Waiting.{subs_of}
 use Rattle.waiting_order.specs.declared.key.Key.{Key}
 use Rattle.waiting_order.specs.declared.standing.Standing.{Standing}
 
+-- A subscription's least message has left the lines that stay, or its own.
+pub record LeavesLine (shared : Shared) (sub : Subscription) (shared_after : Shared) : Type 0 where
+  pub rest : shared_after ≡ left_shared shared sub (drop 1 (line_for shared sub))
+  pub weight : HandFirst shared sub shared_after (left_line sub (drop 1 (line_for shared sub))) (line_for shared sub)
+
+-- With `auto` a message that was handed out is held no more.
+pub record LetsGoIfAuto (sub : Subscription) (message : Message) (held held_after : Held) : Type 0 where
+  pub messages : held_after.messages ≡ (if is_auto sub.mode then held.messages - 1 else held.messages)
+  pub lighter : held_after.bytes ≡ (if is_auto sub.mode then held.bytes - bytes message else held.bytes)
+
 -- A subscription got the least message of its line, which left the line first; what is counted as held follows its mode.
 pub record IsHanded (number delivery : ℕ) (shared : Shared) (sub : Subscription) (held : Held) (shared_after : Shared) (sub_after : Subscription) (held_after : Held) (reply : OutValue) : Type 0 where
   pub message : Message

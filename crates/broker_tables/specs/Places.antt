@@ -3,12 +3,15 @@ use Rattle.std.specs.List.{list_any}
 use Rattle.command_core.specs.declared.fault.Fault.{Fault}
 use Rattle.command_core.specs.declared.fault.Fault.TheVariants.{SubscriptionIdInUse, TooManyEntries}
 use Rattle.broker_state.specs.declared.subscription.Subscription.{Subscription}
+use Rattle.broker_state.specs.Lists.{changed}
 use Rattle.broker_state.specs.Operations.{is_named, is_of, without}
 use Rattle.broker_state.specs.Parts.{IsFirst, NonePass}
 use Rattle.broker_state.specs.States.{State}
 use Rattle.waiting_order.specs.declared.key.Key.{Key}
 use Rattle.waiting_order.specs.declared.standing.Standing.{Standing}
-use Rattle.waiting_order.specs.Waiting.{subs_of}
+use Rattle.waiting_order.specs.declared.places.Place.{Place}
+use Rattle.waiting_order.specs.Keeping.{with_sub}
+use Rattle.waiting_order.specs.Waiting.{Waiting, subs_of}
 
 -- the subscription in that place has P
 abbrev pub HoldsAt : List Subscription → ℕ → (Subscription → Type 0) → Type 0
@@ -17,6 +20,21 @@ HoldsAt subs at P = (sub : Subscription) → slice_get subs at ≡ Some sub → 
 -- somebody stands at that key, and the subscription has P
 abbrev pub StandsSo : List (Key × Standing) → Key → (Subscription → Type 0) → Type 0
 StandsSo ws key P = (at : ℕ) × (s : Standing) × (slice_get ws at ≡ Some (key, s)) × P s.sub
+
+-- what holds of who stands at that key, in each place
+abbrev pub HoldsAtKey : List (Key × Standing) → Key → (ℕ → Standing → Type 0) → Type 0
+HoldsAtKey ws key P = (at : ℕ) (s : Standing) → slice_get ws at ≡ Some (key, s) → P at s
+
+-- the order with another subscription in that place
+abbrev pub with_changed : ℕ → (Subscription → Subscription) → Waiting → Waiting
+with_changed at f o = record o { all = changed at (with_sub f) o.all }
+
+-- Somebody has that place.
+pub record IsPlaceOf (ws : List (Key × Standing)) (place : Place) : Type 0 where
+  pub at : ℕ
+  pub standing : Standing
+  pub there : slice_get ws at ≡ Some (place.key, standing)
+  pub ticket : standing.ticket ≡ place.ticket
 
 -- the first subscription that passes stands at that key
 pub record IsFirstAt (passes : Subscription → Bool) (ws : List (Key × Standing)) (key : Key) : Type 0 where

@@ -1,11 +1,11 @@
 //! From which ticket on a subscription may be served, of those that are due.
 
-ghost use Rattle.std.specs.Prelude.{◌≡◌, ◌<◌, ◌≤◌, ◌^◌, ◌-◌, ℕ, IfNone, IfSome, MatchOption, Some, length, slice_get, true};
+ghost use Rattle.std.specs.Prelude.{◌≡◌, ◌<◌, ◌≤◌, ◌^◌, ◌-◌, IfNone, IfSome, MatchOption, Some, length, slice_get, true};
 ghost use Rattle.std.specs.List.{AllByRecursion};
 ghost use Rattle.broker_state.specs.Lists.{changed};
 ghost use Rattle.broker_tables.specs.Cursors.{AreAwaited, IsReady, NoneReady, at_ticket, tickets_left};
 ghost use Rattle.broker_tables.specs.declared.cursors.Cursor.{Cursor};
-ghost use Rattle.waiting_order.specs.declared.standing.Standing.{Standing};
+ghost use Rattle.broker_tables.specs.Places.{IsPlaceOf};
 
 use crate::due::{Due, next_waiting};
 use crate::stock::Stock;
@@ -105,7 +105,7 @@ impl Stock {
     /// The key of a place that no cursor is before, if the subscription there can be served. Else the cursor goes by.
     fn serve_or_pass(&self, cursors: &mut Vec<Cursor>, at: usize, place: Place) -> Option<Key>
         requires cursor { (c : Cursor) × (slice_get cursors.old.items at ≡ Some c) × (c.from ≡ place.ticket) }
-        requires there { (k : ℕ) × (s : Standing) × (slice_get self.now.order.all k ≡ Some (place.key, s)) × (s.ticket ≡ place.ticket) }
+        requires there { IsPlaceOf self.now.order.all place }
         requires least { AllByRecursion (λ (d : Cursor). place.ticket ≤ d.from) cursors.old.items }
         requires awaited { AreAwaited cursors.old.items self.now }
         requires tickets { self.now.order.next < 2 ^ 64 }

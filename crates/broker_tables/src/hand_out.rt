@@ -1,21 +1,16 @@
 //! What waits is handed out.
 
-ghost use Rattle.std.specs.Prelude.{◌≡◌, ◌+◌, ◌-◌, ◌++◌, ◌∷◌, ◌<◌, ◌≤◌, ◌^◌, [], ℕ, IfOk, OnOk, Some, drop, false, if◌then◌else◌, length, nat_lt, not, remove, slice_get, true};
+ghost use Rattle.std.specs.Prelude.{◌≡◌, ◌+◌, ◌++◌, ◌≤◌, IfOk, OnOk, Some, drop, false, if◌then◌else◌, true};
 ghost use Rattle.line_core.specs.Flights.{IsOver};
 ghost use Rattle.line_core.specs.Lines.{first_of};
 ghost use Rattle.broker_state.specs.HandOut.{ack_of, delivered, is_auto, message_out, settled};
-ghost use Rattle.broker_state.specs.Lists.{changed, is_none};
+ghost use Rattle.broker_state.specs.Lists.{is_none};
 ghost use Rattle.broker_state.specs.States.{bytes, one};
-ghost use Rattle.broker_state.specs.Waiting.{left_line, left_shared, line_for, weight_of_shared};
+ghost use Rattle.broker_state.specs.Waiting.{left_line, line_for};
 ghost use Rattle.broker_tables.specs.Cursors.{AreAwaited, IsReady, NoneReady};
-ghost use Rattle.broker_tables.specs.Handing.{IsServed};
-ghost use Rattle.broker_tables.specs.Places.{StandsSo};
-ghost use Rattle.broker_tables.specs.Returns.{HandFirst};
+ghost use Rattle.broker_tables.specs.Handing.{IsServed, LeavesLine, LetsGoIfAuto};
+ghost use Rattle.broker_tables.specs.Places.{HoldsAtKey, StandsSo, with_changed};
 ghost use Rattle.broker_tables.specs.Stocks.{HandsAll, IsStocked};
-ghost use Rattle.std.specs.List.{sum_by};
-ghost use Rattle.waiting_order.specs.Keeping.{with_sub};
-ghost use Rattle.waiting_order.specs.Waiting.{Stands};
-ghost use Rattle.waiting_order.specs.declared.standing.Standing.{Standing};
 ghost use Rattle.broker_state.specs.declared.subscription.Subscription.{Subscription};
 
 use crate::cursors::Cursor;
@@ -72,14 +67,10 @@ fn reply(
 /// is gone, and the others stand.
 fn take_for(order: &mut Order, shared: &mut SharedLines, key: Key) -> Result<Message, AllocError>
     requires { StandsSo order.old.all key (λ sub. is_none (line_for shared.old sub) ≡ false) }
-    ensures taken { IfOk result (λ m. (at : ℕ) (s : Standing) → slice_get order.old.all at ≡ Some (key, s)
-        → first_of (line_for shared.old s.sub) ≡ Some m) }
-    ensures shared { OnOk result ((at : ℕ) (s : Standing) → slice_get order.old.all at ≡ Some (key, s)
-        → shared.new ≡ left_shared shared.old s.sub (drop 1 (line_for shared.old s.sub))) }
-    ensures weight { OnOk result ((at : ℕ) (s : Standing) → slice_get order.old.all at ≡ Some (key, s)
-        → HandFirst shared.old s.sub shared.new (left_line s.sub (drop 1 (line_for shared.old s.sub))) (line_for shared.old s.sub)) }
-    ensures order { OnOk result ((at : ℕ) (s : Standing) → slice_get order.old.all at ≡ Some (key, s)
-        → order.new ≡ record order.old { all = changed at (with_sub (λ sub. left_line sub (drop 1 (line_for shared.old s.sub)))) order.old.all }) }
+    ensures taken { IfOk result (λ m. HoldsAtKey order.old.all key (λ at s. first_of (line_for shared.old s.sub) ≡ Some m)) }
+    ensures left { OnOk result (HoldsAtKey order.old.all key (λ at s. LeavesLine shared.old s.sub shared.new)) }
+    ensures order { OnOk result (HoldsAtKey order.old.all key (λ at s.
+        order.new ≡ with_changed at (λ sub. left_line sub (drop 1 (line_for shared.old s.sub))) order.old)) }
 {
     let sub = order.get(key);
     if sub.has_own_line() {
@@ -101,14 +92,9 @@ fn deliver(
 ) -> Result<Out, AllocError>
     requires over { StandsSo order.old.all key (λ sub. IsOver delivery sub.unacknowledged) }
     requires held { (1 ≤ held.old.messages) × (bytes message ≤ held.old.bytes) }
-    ensures out { IfOk result (λ out. (at : ℕ) (s : Standing) → slice_get order.old.all at ≡ Some (key, s)
-        → out ≡ message_out number s.sub delivery message) }
-    ensures delivered { OnOk result ((at : ℕ) (s : Standing) → slice_get order.old.all at ≡ Some (key, s)
-        → order.new ≡ record order.old { all = changed at (with_sub (λ sub. delivered sub delivery message)) order.old.all }) }
-    ensures messages { OnOk result ((at : ℕ) (s : Standing) → slice_get order.old.all at ≡ Some (key, s)
-        → held.new.messages ≡ (if is_auto s.sub.mode then held.old.messages - 1 else held.old.messages)) }
-    ensures bytes { OnOk result ((at : ℕ) (s : Standing) → slice_get order.old.all at ≡ Some (key, s)
-        → held.new.bytes ≡ (if is_auto s.sub.mode then held.old.bytes - bytes message else held.old.bytes)) }
+    ensures out { IfOk result (λ out. HoldsAtKey order.old.all key (λ at s. out ≡ message_out number s.sub delivery message)) }
+    ensures delivered { OnOk result (HoldsAtKey order.old.all key (λ at s. order.new ≡ with_changed at (λ sub. delivered sub delivery message) order.old)) }
+    ensures held { OnOk result (HoldsAtKey order.old.all key (λ at s. LetsGoIfAuto s.sub message held.old held.new)) }
 {
     if is_auto(order.get(key)) {
         held.messages -= 1;

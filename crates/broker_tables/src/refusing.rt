@@ -1,24 +1,20 @@
 //! Deliveries are refused.
 
-ghost use Rattle.std.specs.Prelude.{◌≡◌, ◌+◌, ◌-◌, ◌<◌, ◌≤◌, ◌^◌, IfOk, IsErr, OnOk, Some, false, if◌then◌else◌, length, nat_le, slice_get, true, ℕ};
-ghost use Rattle.std.specs.List.{sum_by};
+ghost use Rattle.std.specs.Prelude.{◌≡◌, ◌+◌, ◌-◌, ◌<◌, ◌≤◌, ◌^◌, IfOk, IsErr, OnOk, Some, false, if◌then◌else◌, length, nat_le, true};
 ghost use Rattle.line_core.specs.Flights.{has_delivery, settled};
 ghost use Rattle.line_core.specs.Messages.{size_of};
 ghost use Rattle.broker_state.specs.declared.nack_rule.NackRule.TheVariants.{Keeps};
-ghost use Rattle.broker_state.specs.Dead.{dead_queue, is_dropped, nacked, refused, refused_from, with_refused};
+ghost use Rattle.broker_state.specs.Dead.{dead_queue, is_dropped, nacked, refused};
 ghost use Rattle.broker_state.specs.Parts.{leaving};
 ghost use Rattle.broker_state.specs.declared.subscription.Subscription.{Subscription};
-ghost use Rattle.broker_state.specs.Lists.{changed};
 ghost use Rattle.broker_state.specs.Operations.{is_of, settled_by};
 ghost use Rattle.broker_state.specs.States.{bytes, one};
 ghost use Rattle.broker_state.specs.Names.{text_cmp};
 ghost use Rattle.broker_state.specs.Waiting.{is_own, with_message};
 ghost use Rattle.broker_tables.specs.Dues.{AllDue, is_due};
 ghost use Rattle.waiting_order.specs.Directories.{is_plain_at};
-ghost use Rattle.waiting_order.specs.Keeping.{settled_at};
-ghost use Rattle.waiting_order.specs.declared.standing.Standing.{Standing};
-ghost use Rattle.broker_tables.specs.Places.{StandsSo};
-ghost use Rattle.broker_tables.specs.Refusals.{ArePart, MovesHeld, all_kept, all_kept_bytes, bytes_of, kept_bytes, kept_one, messages_of, with_all_refused};
+ghost use Rattle.broker_tables.specs.Places.{HoldsAtKey, StandsSo, with_changed};
+ghost use Rattle.broker_tables.specs.Refusals.{ArePart, MovesHeld, all_kept, all_kept_bytes, bytes_of, kept_bytes, kept_one, with_all_refused};
 
 use crate::acknowledging::find_awaiting;
 use crate::cursors::Cursor;
@@ -192,14 +188,12 @@ fn take_refused(
     session: u64,
     delivery: u64,
 ) -> Result<Vec<(u64, Message)>, AllocError>
-    requires known { StandsSo order.old.all key (λ sub. has_delivery delivery sub.unacknowledged ≡ true) }
+    requires known { StandsSo order.old.all key (λ x. has_delivery delivery x.unacknowledged ≡ true) }
     ensures kept { OnOk result (AllDue (is_due marked.old.items) marked.new.items) }
     ensures session { OnOk result (AllDue (is_of session) marked.new.items) }
     ensures dead { OnOk result (AllDue (is_plain_at dead_queue) marked.new.items) }
-    ensures settled { IfOk result (λ out. (at : ℕ) (s : Standing) → slice_get order.old.all at ≡ Some (key, s)
-        → out.items ≡ settled s.sub.mode delivery s.sub.unacknowledged) }
-    ensures unsettled { OnOk result ((at : ℕ) (s : Standing) → slice_get order.old.all at ≡ Some (key, s)
-        → order.new ≡ record order.old { all = changed at (settled_at delivery) order.old.all }) }
+    ensures settled { IfOk result (λ o. HoldsAtKey order.old.all key (λ at s. o.items ≡ settled s.sub.mode delivery s.sub.unacknowledged)) }
+    ensures unsettled { OnOk result (HoldsAtKey order.old.all key (λ at s. order.new ≡ with_changed at (settled_by delivery) order.old)) }
 {
     mark(marked, Due::Session(session))?;
     let dead = dead_queue(alloc)?;

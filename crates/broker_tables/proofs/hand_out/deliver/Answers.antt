@@ -33,6 +33,19 @@ returns c =
           ap (λ (n : Message). record s.sub { unacknowledged = s.sub.unacknowledged ++ (d, n) ∷ [] }) same_copy
           ∙ sym (ap (λ b. record s.sub { unacknowledged = cond b s.sub.unacknowledged (s.sub.unacknowledged ++ (d, m) ∷ []) }) (auto at s there)) in
           c.in_ok-keep.ensures.ok at s there ∙ ap (λ l. record o { all = l }) (changed_alike (kept_by d c.in_ok-copy.copy) (with_sub g) o.all at (c.args.key, s) there (ap (λ (x : Subscription). (c.args.key, record s { sub = x })) same));
-      messages = λ at s there. sym (ap (λ b. cond b (held.messages - 1) held.messages) (auto at s there));
-      bytes = λ at s there. sym (ap (λ b. cond b (held.bytes - bytes m) held.bytes) (auto at s there));
+      held = λ at s there. record {
+        messages = sym (ap (λ b. cond b (held.messages - 1) held.messages) (auto at s there));
+        lighter = sym (ap (λ b. cond b (held.bytes - bytes m) held.bytes) (auto at s there));
+      };
     }
+
+pub returns-then-is_auto-clause-held : goal.returns-then-is_auto-clause-held
+returns-then-is_auto-clause-held c =
+    on_ok c.reply.result _ (λ at s there.
+    let held = c.args.held.now in
+    let m = c.args.message in
+    let auto : is_auto s.sub.mode ≡ true = ap (λ (x : Subscription). is_auto x.mode) (sym (c.get.ensures.sub at s there)) ∙ sym c.is_auto.ensures ∙ c.if-is_auto.true in
+    record {
+      messages = sym (ap (λ b. cond b (held.messages - 1) held.messages) auto);
+      lighter = ap (λ n. held.bytes - n) c.size.ensures.size ∙ sym (ap (λ b. cond b (held.bytes - bytes m) held.bytes) auto);
+    })

@@ -1,5 +1,5 @@
 use Rattle.std.proofs.Common.{◌≡◌, ◌∙◌, Some, true, false, ap, cond, drop, subst, sym}
-use Rattle.std.proofs.lemmas.Result.{IfOk-weaker, on_ok_weaker}
+use Rattle.std.proofs.lemmas.Result.{IfOk-weaker}
 use Rattle.line_core.specs.Lines.{first_of}
 use Rattle.broker_state.specs.declared.subscription.Subscription.{Subscription}
 use Rattle.broker_state.specs.Lists.{is_none}
@@ -7,7 +7,7 @@ use Rattle.broker_state.specs.Waiting.{is_own, left_line, left_shared, line_for}
 use Rattle.waiting_order.specs.Keeping.{taken_from, with_sub}
 use Rattle.broker_tables.specs.Returns.{HandFirst}
 use Rattle.broker_tables.proofs.Handing.{other_left, own_line, own_shared, own_weight, some_first}
-use Rattle.broker_tables.proofs.Waiters.{changed_alike, changed_none, on_ok}
+use Rattle.broker_tables.proofs.Waiters.{both_ok, changed_alike, changed_none, on_ok}
 use Rattle.broker_tables.proofs.hand_out.take_for.Goals as goal
 
 pub unwrap-requires : goal.unwrap-requires
@@ -23,15 +23,13 @@ returns-then-has_own_line-clause-taken c at s there =
     let own : is_own s.sub ≡ true = ap is_own (sym (c.get-sub.ensures.sub at s there)) ∙ sym c.has_own_line.ensures ∙ c.if-has_own_line.true in
     ap first_of (own_line c.args.shared.now s.sub own) ∙ sym (c.take.ensures at s there).0 ∙ c.unwrap.ensures
 
-pub returns-then-has_own_line-clause-shared : goal.returns-then-has_own_line-clause-shared
-returns-then-has_own_line-clause-shared c at s there =
+pub returns-then-has_own_line-clause-left : goal.returns-then-has_own_line-clause-left
+returns-then-has_own_line-clause-left c at s there =
     let own : is_own s.sub ≡ true = ap is_own (sym (c.get-sub.ensures.sub at s there)) ∙ sym c.has_own_line.ensures ∙ c.if-has_own_line.true in
-    sym (own_shared c.args.shared.now s.sub own (drop 1 (line_for c.args.shared.now s.sub)))
-
-pub returns-then-has_own_line-clause-weight : goal.returns-then-has_own_line-clause-weight
-returns-then-has_own_line-clause-weight c at s there =
-    let own : is_own s.sub ≡ true = ap is_own (sym (c.get-sub.ensures.sub at s there)) ∙ sym c.has_own_line.ensures ∙ c.if-has_own_line.true in
-    own_weight c.args.shared.now s.sub own
+    record {
+      rest = sym (own_shared c.args.shared.now s.sub own (drop 1 (line_for c.args.shared.now s.sub)));
+      weight = own_weight c.args.shared.now s.sub own;
+    }
 
 pub returns-then-has_own_line-clause-order : goal.returns-then-has_own_line-clause-order
 returns-then-has_own_line-clause-order c at s there =
@@ -47,17 +45,17 @@ pub returns-clause-taken : goal.returns-clause-taken
 returns-clause-taken c =
     IfOk-weaker c.take_for.result _ _ (λ m is at s there. subst (λ (x : Subscription). first_of (line_for c.args.shared.now x) ≡ Some m) (c.get-sub.ensures.sub at s there) is) c.take_for.ensures.taken
 
-pub returns-clause-shared : goal.returns-clause-shared
-returns-clause-shared c =
-    on_ok_weaker c.take_for.result (λ is at s there. subst (λ (x : Subscription). c.take_for.new.self ≡ left_shared c.args.shared.now x (drop 1 (line_for c.args.shared.now x))) (c.get-sub.ensures.sub at s there) is) c.take_for.ensures.shared
-
-pub returns-clause-weight : goal.returns-clause-weight
-returns-clause-weight c =
-    on_ok_weaker c.take_for.result (λ is at s there.
+pub returns-clause-left : goal.returns-clause-left
+returns-clause-left c =
+    both_ok c.take_for.result _ _ _ (λ rest weight at s there.
     let shared = c.args.shared.now in
-    let other : is_own s.sub ≡ false = ap is_own (sym (c.get-sub.ensures.sub at s there)) ∙ sym c.has_own_line.ensures ∙ c.if-has_own_line.false in
-    subst (λ (x : Subscription). HandFirst shared s.sub c.take_for.new.self x (line_for shared s.sub)) (sym (other_left s.sub other (drop 1 (line_for shared s.sub))))
-    (subst (λ (x : Subscription). HandFirst shared x c.take_for.new.self x (line_for shared x)) (c.get-sub.ensures.sub at s there) is)) c.take_for.ensures.weight
+    let same = c.get-sub.ensures.sub at s there in
+    let other : is_own s.sub ≡ false = ap is_own (sym same) ∙ sym c.has_own_line.ensures ∙ c.if-has_own_line.false in
+    record {
+      rest = subst (λ (x : Subscription). c.take_for.new.self ≡ left_shared shared x (drop 1 (line_for shared x))) same rest;
+      weight = subst (λ (x : Subscription). HandFirst shared s.sub c.take_for.new.self x (line_for shared s.sub)) (sym (other_left s.sub other (drop 1 (line_for shared s.sub))))
+          (subst (λ (x : Subscription). HandFirst shared x c.take_for.new.self x (line_for shared x)) same weight);
+    }) c.take_for.ensures.shared c.take_for.ensures.weight
 
 pub returns-clause-order : goal.returns-clause-order
 returns-clause-order c =

@@ -39,6 +39,11 @@ serve_or_pass-requires-clause-cursor c =
     let is : cursor.from ≡ c.in-Some.place.ticket = grind (arith, nat_tests) in
     (cursor, found, is)
 
+pub serve_or_pass-requires-clause-there : goal.serve_or_pass-requires-clause-there
+serve_or_pass-requires-clause-there c =
+    let w = c.in-Some.ensures in
+    record { at = w.at; standing = w.standing; there = w.there; ticket = w.ticket }
+
 pub serve_or_pass-requires-clause-least : goal.serve_or_pass-requires-clause-least
 serve_or_pass-requires-clause-least c =
     let cursors = c.args.cursors.now.items in

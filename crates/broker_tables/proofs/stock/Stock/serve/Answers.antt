@@ -36,7 +36,7 @@ deliver-requires-clause-held c =
     let line = line_for stock.shared s.sub in
     let m = c.in_ok-message.message in
     let taken = c.in_ok-message.ensures.taken at s ready.there in
-    let weight = c.in_ok-message.ensures.weight at s ready.there in (
+    let weight = (c.in_ok-message.ensures.left at s ready.there).weight in (
       was_waiting one line m _ _ _ taken (weight one) (omega (arith, kept.messages, sum_by-part (weight_of_subscription one) (subs_of stock.order.all) at s.sub there)),
       was_waiting bytes line m _ _ _ taken (weight bytes) (omega (arith, kept.bytes, sum_by-part (weight_of_subscription bytes) (subs_of stock.order.all) at s.sub there)),
     )
@@ -97,13 +97,13 @@ returns c =
           message = m;
           left = f s.sub;
           taken = c.in_ok-message.ensures.taken at s ready.there;
-          rest = c.in_ok-message.ensures.shared at s ready.there;
+          rest = (c.in_ok-message.ensures.left at s ready.there).rest;
           line = refl;
-          weight = c.in_ok-message.ensures.weight at s ready.there;
+          weight = (c.in_ok-message.ensures.left at s ready.there).weight;
           handed = refl;
           out = c.in_ok-out.ensures.out at s1 there;
-          messages = c.in_ok-out.ensures.messages at s1 there;
-          lighter = c.in_ok-out.ensures.bytes at s1 there;
+          messages = (c.in_ok-out.ensures.held at s1 there).messages;
+          lighter = (c.in_ok-out.ensures.held at s1 there).lighter;
         };
         order = c.move_last.ensures at s2 there2 ∙ ap (λ (l : List W). last l c.deliver.new.order.next) left ∙ ap (last (remove stock.order.all at)) next;
         delivery = refl;

@@ -1,4 +1,0 @@
-pub mod Directories
-pub mod Members
-pub mod Rising
-pub mod Waiting

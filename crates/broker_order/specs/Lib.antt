@@ -1,3 +1,0 @@
-pub mod Directories
-pub mod Keys
-pub mod Tickets
