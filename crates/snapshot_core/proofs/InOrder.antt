@@ -1,6 +1,7 @@
-use Rattle.std.proofs.Common.{◌≡◌, ◌<◌, ◌+◌, ◌^◌, ◌&&◌, List, [], ◌∷◌, ℕ, Bool, false, true, cond, length, not, refl, sym, ap, subst, ◌∙◌, arith, length-append, slice_get}
+use Rattle.std.proofs.Common.{◌≡◌, ◌<◌, ◌+◌, ◌^◌, ◌&&◌, List, [], ◌∷◌, ℕ, Bool, false, true, Some, cond, length, map, not, suc, zero, refl, sym, ap, subst, ◌∙◌, arith, length-append, slice_get}
 use Rattle.std.specs.List.{AllByRecursion, flat_map, sum_by}
 use Rattle.std.proofs.lemmas.List.Sums.{sum_by-cons}
+use Rattle.std.proofs.lemmas.Option.{none-some, same_Some}
 use Rattle.line_core.specs.declared.message.Message.{Message}
 use Rattle.broker_state.specs.declared.subscription.Subscription.{Subscription}
 use Rattle.broker_state.specs.Lists.{is_none}
@@ -47,3 +48,13 @@ no_stray sub none = line_none (is_own sub) sub.line none
 pub length_spelled : {X : Type 0} (f : X → List ℕ) (xs : List X) → length (flat_map f xs) ≡ sum_by (λ x. length (f x)) xs
 length_spelled f [] = refl
 length_spelled {X} f (x ∷ xs) = omega (arith, length-append (f x) (flat_map f xs), sum_by-cons (λ (y : X). length (f y)) x xs, length_spelled f xs)
+
+-- what stands in a place of a list of what items are
+pub mapped_at : {X Y : Type 0} (f : X → Y) (xs : List X) (at : ℕ) (x : X) → slice_get xs at ≡ Some x → slice_get (map f xs) at ≡ Some (f x)
+mapped_at f [] at x is = absurd (none-some x is)
+mapped_at f (y ∷ xs) zero x is = ap (λ z. Some (f z)) (same_Some y x is)
+mapped_at f (y ∷ xs) (suc at) x is = mapped_at f xs at x is
+
+pub length_mapped : {X Y : Type 0} (f : X → Y) (xs : List X) → length (map f xs) ≡ length xs
+length_mapped f [] = refl
+length_mapped f (x ∷ xs) = ap suc (length_mapped f xs)

@@ -366,10 +366,10 @@ fn list_subscriptions<'a>(
         ≡ written parts.old.items ++ listed spelled.subscription broker.now.state.subscriptions) }
     ensures form { OnOk result (AllByRecursion IsSubscription broker.now.state.subscriptions) }
 {
-    list_count(parts, broker.subscription_count())?;
     let subs = broker.subscriptions(alloc)?;
-    for sub in subs {
-        list_subscription(parts, sub)?;
+    list_count(parts, subs.len())?;
+    for at in 0..subs.len() {
+        list_subscription(parts, subs[at])?;
     }
     Ok(())
 }
