@@ -1,4 +1,4 @@
-use Rattle.std.proofs.Common.{◌≡◌, ◌≤◌, ◌+◌, ◌-◌, ◌<◌, ◌++◌, ◌&&◌, ◌||◌, List, [], ◌∷◌, ℕ, suc, zero, Bool, true, false, cond, Option, Some, None, if◌then◌else◌, count_by, filter, length, map, refl, slice_get, sym, ap, ◌∙◌, subst, arith, take}
+use Rattle.std.proofs.Common.{◌≡◌, ◌≤◌, ◌+◌, ◌&&◌, ◌||◌, List, [], ◌∷◌, ℕ, suc, zero, Bool, true, false, cond, Option, Some, None, if◌then◌else◌, count_by, filter, length, map, refl, slice_get, sym, ap, ◌∙◌, subst, arith, take}
 use Rattle.std.specs.List.{AllByRecursion, list_any, sum_by}
 use Rattle.std.specs.List.Sorted.{IsStrictlySortedBy}
 use Rattle.std.specs.Map.{keys_of}
@@ -7,9 +7,8 @@ use Rattle.std.specs.Ordering.{nat_cmp}
 use Rattle.std.specs.Str.{bytes_eq}
 use Rattle.std.specs.declared.cmp.Ordering.TheVariants.{Less}
 use Rattle.std.proofs.lemmas.Cmp.{ranked}
-use Rattle.std.proofs.lemmas.List.Elements.{filter_more}
 use Rattle.std.proofs.lemmas.List.Sums.{sum_by-cons}
-use Rattle.std.proofs.lemmas.Option.{get_or_from_slice_get, none-some, same_Some, slice_get_within}
+use Rattle.std.proofs.lemmas.Option.{none-some, same_Some}
 use Rattle.record_core.specs.Destinations.{is_queue}
 use Rattle.line_core.proofs.Flights.{has_delivery-mapped, length-settled, sum_by-settled, unsettled-mapped}
 use Rattle.line_core.specs.declared.message.Message.{Message}

@@ -1,9 +1,8 @@
-use Rattle.std.proofs.Common.{◌≡◌, ◌<◌, ◌≤◌, ◌+◌, ◌&&◌, ◌⊎◌, List, [], ◌∷◌, ℕ, suc, zero, Bool, true, false, Some, cond, filter, inl, inr, map, nat_le, refl, sym, ap, subst, ◌∙◌, arith, slice_get}
+use Rattle.std.proofs.Common.{◌≡◌, ◌<◌, ◌≤◌, ◌+◌, ◌&&◌, ◌⊎◌, List, [], ◌∷◌, ℕ, suc, zero, Bool, true, false, Some, cond, filter, inl, inr, map, nat_le, refl, sym, ap, subst, ◌∙◌, arith, slice_get, if◌then◌else◌}
 use Rattle.std.specs.List.{AllByRecursion}
 use Rattle.std.proofs.lemmas.Bool.{cases_lt}
 use Rattle.std.proofs.lemmas.Bool.Decides.{nat_tests}
 use Rattle.std.proofs.lemmas.Option.{none-some, same_Some}
-use Rattle.broker_state.specs.declared.subscription.Subscription.{Subscription}
 use Rattle.broker_state.specs.Operations.{is_of}
 use Rattle.broker_state.proofs.Weights.{all_at}
 use Rattle.waiting_order.specs.declared.key.Key.{Key}
@@ -29,28 +28,24 @@ module _ (session : ℕ) where
   -- from the first ticket on these are all
   pub from_first : (ws : List W) → flights_from session 0 ws ≡ flights_of session (subs_of ws)
   from_first [] = refl
-  from_first (w ∷ ws) = by (is_of session w.1.sub)
+  from_first (w ∷ ws) =
+      let yes : nat_le 0 w.1.ticket ≡ true = grind (arith, nat_tests) in
+      ap (λ b. cond (b && is_of session w.1.sub) (flight_of w.1.sub ∷ flights_from session 0 ws) (flights_from session 0 ws)) yes ∙ by (is_of session w.1.sub) (from_first ws)
     where
-      rest : flights_from session 0 ws ≡ flights_of session (subs_of ws)
-      rest = from_first ws
-
-      by : (b : Bool) → cond b (flight_of w.1.sub ∷ flights_from session 0 ws) (flights_from session 0 ws) ≡ map flight_of (cond b (w.1.sub ∷ filter (is_of session) (subs_of ws)) (filter (is_of session) (subs_of ws)))
-      by true = ap (λ l. flight_of w.1.sub ∷ l) rest
-      by false = rest
+      by : (b : Bool) → flights_from session 0 ws ≡ flights_of session (subs_of ws) → cond b (flight_of w.1.sub ∷ flights_from session 0 ws) (flights_from session 0 ws) ≡ map flight_of (cond b (w.1.sub ∷ filter (is_of session) (subs_of ws)) (filter (is_of session) (subs_of ws)))
+      by true rest = ap (λ l. flight_of w.1.sub ∷ l) rest
+      by false rest = rest
 
   -- and none where no such subscription stands there
   pub none_from : (from : ℕ) (ws : List W) → ((i : ℕ) (w : W) → slice_get ws i ≡ Some w → from ≤ w.1.ticket → is_of session w.1.sub ≡ false) → flights_from session from ws ≡ []
   none_from from [] none = refl
-  none_from from (w ∷ ws) none = by (cases_lt w.1.ticket from)
+  none_from from (w ∷ ws) none = by (cases_lt w.1.ticket from) (none_from from ws (λ i v is. none (suc i) v is))
     where
-      rest : flights_from session from ws ≡ []
-      rest = none_from from ws (λ i v is. none (suc i) v is)
-
-      by : (w.1.ticket < from) ⊎ (from ≤ w.1.ticket) → flights_from session from (w ∷ ws) ≡ []
-      by (inl less) =
+      by : (w.1.ticket < from) ⊎ (from ≤ w.1.ticket) → flights_from session from ws ≡ [] → flights_from session from (w ∷ ws) ≡ []
+      by (inl less) rest =
           let no : nat_le from w.1.ticket ≡ false = grind (arith, nat_tests) in
           rw no rest
-      by (inr after) =
+      by (inr after) rest =
           let yes : nat_le from w.1.ticket ≡ true = grind (arith, nat_tests) in
           rw (yes, none 0 w refl after) rest
 
@@ -84,21 +79,18 @@ module _ (session : ℕ) where
       let rest : flights_from session from ws ≡ flights_from session (w.1.ticket + 1) ws =
       subst (λ (x : W). flights_from session from ws ≡ flights_from session (x.1.ticket + 1) ws) same (later from (v.1.ticket + 1) ws (omega (arith, here)) (behind v.1.ticket ws rising.0)) in
       rw (yes, own, none) (ap (λ l. flight_of v.1.sub ∷ l) rest ∙ ap (λ (x : W). flight_of x.1.sub ∷ flights_from session (w.1.ticket + 1) ws) same)
-  first_from from (v ∷ ws) (suc at) w rising is after mine before = by (cases_lt v.1.ticket from)
+  first_from from (v ∷ ws) (suc at) w rising is after mine before = by (cases_lt v.1.ticket from) (first_from from ws at w rising.1 is after mine (λ i x there here less. before (suc i) x there here (omega (arith, less))))
     where
-      rest : flights_from session from ws ≡ flight_of w.1.sub ∷ flights_from session (w.1.ticket + 1) ws
-      rest = first_from from ws at w rising.1 is after mine (λ i x there from less. before (suc i) x there from (omega (arith, less)))
-
       earlier : v.1.ticket < w.1.ticket
       earlier = all_at (λ (x : W). v.1.ticket < x.1.ticket) ws at w is rising.0
 
       gone : nat_le (w.1.ticket + 1) v.1.ticket ≡ false
       gone = let less : v.1.ticket < w.1.ticket = earlier in grind (arith, nat_tests)
 
-      by : (v.1.ticket < from) ⊎ (from ≤ v.1.ticket) → flights_from session from (v ∷ ws) ≡ flight_of w.1.sub ∷ flights_from session (w.1.ticket + 1) (v ∷ ws)
-      by (inl less) =
+      by : (v.1.ticket < from) ⊎ (from ≤ v.1.ticket) → flights_from session from ws ≡ flight_of w.1.sub ∷ flights_from session (w.1.ticket + 1) ws → flights_from session from (v ∷ ws) ≡ flight_of w.1.sub ∷ flights_from session (w.1.ticket + 1) (v ∷ ws)
+      by (inl less) rest =
           let no : nat_le from v.1.ticket ≡ false = grind (arith, nat_tests) in
           rw (no, gone) rest
-      by (inr here) =
+      by (inr here) rest =
           let yes : nat_le from v.1.ticket ≡ true = grind (arith, nat_tests) in
           rw (yes, before 0 v refl here (omega arith), gone) rest

@@ -1,6 +1,5 @@
-use Rattle.std.proofs.Common.{◌≡◌, ◌<◌, ◌≤◌, ◌+◌, ◌&&◌, ◌++◌, ◌∷◌, ◌∙◌, [], Bool, List, ℕ, Some, true, false, ap, append_assoc, arith, refl, slice_get, subst, sym}
+use Rattle.std.proofs.Common.{◌≡◌, ◌<◌, ◌+◌, ◌&&◌, ◌++◌, ◌∷◌, ◌∙◌, [], Bool, List, ℕ, true, false, ap, append_assoc, arith, refl, sym}
 use Rattle.std.proofs.lemmas.List.{append-nil}
-use Rattle.broker_state.specs.declared.subscription.Subscription.{Subscription}
 use Rattle.broker_state.specs.Operations.{is_of}
 use Rattle.broker_state.proofs.Weights.{all_at}
 use Rattle.broker_core.specs.declared.precheck.PrecheckFlight.{PrecheckFlight}
@@ -21,8 +20,8 @@ get-requires c =
     let next = c.in-Some.ensures.next in
     (next.at, next.standing, next.there)
 
-pub overflow_add-place : goal.overflow_add-place
-overflow_add-place c =
+pub overflow_add-from : goal.overflow_add-from
+overflow_add-from c =
     let next = c.in-Some.ensures.next in
     omega (arith, next.ticket, c.requires.tickets, all_at (λ (w : W). w.1.ticket < c.args.order.now.next) c.args.order.now.all next.at (c.in-Some.place.key, next.standing) next.there c.in-Some.ensures.order.under)
 
@@ -51,5 +50,5 @@ loop-place-preserved c =
 
 pub returns : goal.returns
 returns c =
-    let none = none_from c.args.session c.loop-place.from c.args.order.now.all (λ i w is after. sym (and_any (is_of c.args.session w.1.sub)) ∙ c.in-None.ensures.next i w is after) in
+    let none = none_from c.args.session c.loop-place.from c.args.order.now.all (λ i w is after. sym (and_any (is_of c.args.session w.1.sub)) ∙ c.in_default.ensures.next i w is after) in
     sym (append-nil c.loop-place.flights.items) ∙ ap (λ (l : List PrecheckFlight). c.loop-place.flights.items ++ l) (sym none) ∙ c.loop-place.invariant
