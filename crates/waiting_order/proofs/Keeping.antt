@@ -84,6 +84,8 @@ found_kept d ws vs kept found = record {
   directory = record {
     destinations = λ q. found.directory.destinations q ∙ sym (members_kept (is_plain_at q) (alike_plain q) ws vs kept);
     names = λ q. found.directory.names q ∙ sym (members_kept (uses q) (alike_uses q) ws vs kept);
+    filled_destinations = found.directory.filled_destinations;
+    filled_names = found.directory.filled_names;
   };
 }
 

@@ -1,4 +1,5 @@
 pub mod Directories
+pub mod Filled
 pub mod Keeping
 pub mod Listing
 pub mod Members

@@ -9,7 +9,7 @@ use Rattle.waiting_order.specs.declared.directory.Directory.{Directory}
 use Rattle.waiting_order.specs.declared.key.Key.{Key}
 use Rattle.waiting_order.specs.declared.places.Place.{Place}
 use Rattle.waiting_order.specs.declared.standing.Standing.{Standing}
-use Rattle.waiting_order.specs.Tickets.{group_of}
+use Rattle.waiting_order.specs.Tickets.{AreFilled, group_of}
 
 -- the subscription is one of that destination, and has no durable name
 abbrev pub is_plain_at : List ℕ → Subscription → Bool
@@ -28,10 +28,12 @@ members passes (w ∷ ws) = if passes w.1.sub then place_of w ∷ members passes
 abbrev pub IsIndex : {K : Type 0} → (K → K → Ordering) → (K → Subscription → Bool) → List (K × List Place) → List (Key × Standing) → Type 0
 IsIndex {K} cmp has groups ws = (key : K) → group_of cmp groups key ≡ members (has key) ws
 
--- A directory of waiters.
+-- A directory of waiters. No group of it is empty.
 pub record IsDirectory (d : Directory) (ws : List (Key × Standing)) : Type 0 where
   pub destinations : IsIndex text_cmp is_plain_at d.destinations.entries ws
   pub names : IsIndex name_cmp uses d.names.entries ws
+  pub filled_destinations : AreFilled d.destinations.entries
+  pub filled_names : AreFilled d.names.entries
 
 -- a waiter's key is of its session, and has one of the 16 slots
 abbrev pub IsSlotted : Key × Standing → Type 0

@@ -1,11 +1,12 @@
 //! Groups of places under keys.
 
-ghost use Rattle.std.specs.Prelude.{◌≡◌, ◌++◌, ◌∷◌, ◌<◌, ◌^◌, [], Bool, List, OnOk, length, map, true, unwrap_or, if◌then◌else◌};
+ghost use Rattle.std.specs.Prelude.{◌≡◌, ◌++◌, ◌∷◌, ◌<◌, ◌^◌, [], Bool, List, OnOk, false, length, map, true, unwrap_or, if◌then◌else◌};
 ghost use Rattle.std.specs.Option.{option_copied};
 ghost use Rattle.std.specs.BTreeMap.{is_at};
 ghost use Rattle.std.specs.List.{AllByRecursion};
+ghost use Rattle.std.specs.Map.{remove_entry};
 ghost use Rattle.broker_state.specs.Names.{AreSame};
-ghost use Rattle.waiting_order.specs.Tickets.{HasTicket, group_of, without};
+ghost use Rattle.waiting_order.specs.Tickets.{AreFilled, HasTicket, group_of, without};
 ghost use Rattle.waiting_order.specs.Directories.{IsNext, KeepsPlaces, members};
 ghost use Rattle.waiting_order.specs.Keeping.{put_where};
 ghost use Rattle.waiting_order.specs.Tickets.{IsRising};
@@ -30,8 +31,9 @@ fn begin<K: Ord + Clone + Drop>(
     requires clone { (old copy : K) → K.is_clone old copy → copy ≡ old }
     requires same { AreSame K.cmp }
     requires none { group_of K.cmp groups.old.entries key.now ≡ [] }
-    ensures { OnOk result ((q : K) → group_of K.cmp groups.new.entries q
+    ensures grown { OnOk result ((q : K) → group_of K.cmp groups.new.entries q
         ≡ group_of K.cmp groups.old.entries q ++ (if is_at (K.cmp key.now) q then place ∷ [] else [])) }
+    ensures filled { OnOk result (AreFilled groups.old.entries → AreFilled groups.new.entries) }
 {
     let mut group = Places::new(alloc);
     group.add(place)?;
@@ -49,8 +51,9 @@ pub fn join<K: Ord + Clone + Drop>(
     requires clone { (old copy : K) → K.is_clone old copy → copy ≡ old }
     requires same { AreSame K.cmp }
     requires last { AllByRecursion (λ (p : Place). p.ticket < place.ticket) (group_of K.cmp groups.old.entries key.now) }
-    ensures { OnOk result ((q : K) → group_of K.cmp groups.new.entries q
+    ensures grown { OnOk result ((q : K) → group_of K.cmp groups.new.entries q
         ≡ group_of K.cmp groups.old.entries q ++ (if is_at (K.cmp key.now) q then place ∷ [] else [])) }
+    ensures filled { OnOk result (AreFilled groups.old.entries → AreFilled groups.new.entries) }
 {
     if let Some(group) = groups.get_mut(key) {
         return group.add(place);
@@ -63,6 +66,8 @@ fn take_from<K: Ord + Drop>(groups: &mut BTreeMap<K, Places>, key: &K, ticket: u
     ensures left { (q : K) → group_of K.cmp groups.new.entries q
         ≡ (if is_at (K.cmp key.now) q then without ticket (group_of K.cmp groups.old.entries q) else group_of K.cmp groups.old.entries q) }
     ensures empty { result ≡ true → group_of K.cmp groups.new.entries key.now ≡ [] }
+    ensures filled { result ≡ false → AreFilled groups.old.entries → AreFilled groups.new.entries }
+    ensures others { remove_entry (is_at (K.cmp key.now)) groups.new.entries ≡ remove_entry (is_at (K.cmp key.now)) groups.old.entries }
 {
     match groups.get_mut(key) {
         Some(group) => {
@@ -76,8 +81,9 @@ fn take_from<K: Ord + Drop>(groups: &mut BTreeMap<K, Places>, key: &K, ticket: u
 /// The place of a ticket leaves the group under that key. A group without places is let go.
 pub fn leave<K: Ord + Drop>(groups: &mut BTreeMap<K, Places>, key: &K, ticket: u64)
     requires { AreSame K.cmp }
-    ensures { (q : K) → group_of K.cmp groups.new.entries q
+    ensures left { (q : K) → group_of K.cmp groups.new.entries q
         ≡ (if is_at (K.cmp key.now) q then without ticket (group_of K.cmp groups.old.entries q) else group_of K.cmp groups.old.entries q) }
+    ensures filled { AreFilled groups.old.entries → AreFilled groups.new.entries }
 {
     if take_from(groups, key, ticket) {
         groups.remove(key);
@@ -93,8 +99,9 @@ pub fn move_last<K: Ord + Drop>(
 )
     requires there { HasTicket ticket (group_of K.cmp groups.old.entries key.now) }
     requires last { AllByRecursion (λ (p : Place). p.ticket < place.ticket) (group_of K.cmp groups.old.entries key.now) }
-    ensures { (q : K) → group_of K.cmp groups.new.entries q
+    ensures moved { (q : K) → group_of K.cmp groups.new.entries q
         ≡ (if is_at (K.cmp key.now) q then without ticket (group_of K.cmp groups.old.entries q) ++ place ∷ [] else group_of K.cmp groups.old.entries q) }
+    ensures filled { AreFilled groups.old.entries → AreFilled groups.new.entries }
 {
     if let Some(group) = groups.get_mut(key) {
         group.move_last(ticket, place);

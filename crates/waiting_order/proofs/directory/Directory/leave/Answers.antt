@@ -20,7 +20,9 @@ returns-in-Some c ws at w rising there ticket same dir =
     let durable = ap (λ (x : Subscription). x.durable) same ∙ c.in-Some.is in
     record {
       destinations = index_stays text_cmp is_plain_at old.destinations.entries ws dir.destinations at c.args.ticket w rising there ticket (named_elsewhere w.1.sub name durable);
-      names = index_left name_cmp uses old.names.entries ws dir.names at c.args.ticket w rising there ticket c.leave.new.groups.entries name c.leave.ensures (name_key w.1.sub name durable);
+      names = index_left name_cmp uses old.names.entries ws dir.names at c.args.ticket w rising there ticket c.leave.new.groups.entries name c.leave.ensures.left (name_key w.1.sub name durable);
+      filled_destinations = dir.filled_destinations;
+      filled_names = c.leave.ensures.filled dir.filled_names;
     }
 
 pub returns-in-None : goal.returns-in-None
@@ -28,6 +30,8 @@ returns-in-None c ws at w rising there ticket same dir =
     let old = c.args.self.now in
     let durable = ap (λ (x : Subscription). x.durable) same ∙ c.in-None.is in
     record {
-      destinations = index_left text_cmp is_plain_at old.destinations.entries ws dir.destinations at c.args.ticket w rising there ticket c.leave-in-None.new.groups.entries w.1.sub.destination (rw (← ap (λ (x : Subscription). x.destination) same) at c.leave-in-None.ensures) (plain_key w.1.sub durable);
+      destinations = index_left text_cmp is_plain_at old.destinations.entries ws dir.destinations at c.args.ticket w rising there ticket c.leave-in-None.new.groups.entries w.1.sub.destination (rw (← ap (λ (x : Subscription). x.destination) same) at c.leave-in-None.ensures.left) (plain_key w.1.sub durable);
       names = index_stays name_cmp uses old.names.entries ws dir.names at c.args.ticket w rising there ticket (uses_none w.1.sub durable);
+      filled_destinations = c.leave-in-None.ensures.filled dir.filled_destinations;
+      filled_names = dir.filled_names;
     }

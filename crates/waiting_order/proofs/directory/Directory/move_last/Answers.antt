@@ -46,7 +46,9 @@ returns-in-Some c ws at w rising there t same dir =
     let v : W = (c.args.place.key, record { ticket = c.args.place.ticket; sub = c.args.sub.now }) in
     record {
       destinations = index_rests text_cmp is_plain_at old.destinations.entries ws dir.destinations at c.args.ticket w rising there t v (named_elsewhere w.1.sub name durable) (sym same);
-      names = index_moved name_cmp uses old.names.entries ws dir.names at c.args.ticket w rising there t c.move_last.new.groups.entries name v c.move_last.ensures (name_key w.1.sub name durable) (sym same);
+      names = index_moved name_cmp uses old.names.entries ws dir.names at c.args.ticket w rising there t c.move_last.new.groups.entries name v c.move_last.ensures.moved (name_key w.1.sub name durable) (sym same);
+      filled_destinations = dir.filled_destinations;
+      filled_names = c.move_last.ensures.filled dir.filled_names;
     }
 
 pub returns-in-None : goal.returns-in-None
@@ -55,6 +57,8 @@ returns-in-None c ws at w rising there t same dir =
     let durable = ap (λ (x : Subscription). x.durable) same ∙ c.in-None.is in
     let v : W = (c.args.place.key, record { ticket = c.args.place.ticket; sub = c.args.sub.now }) in
     record {
-      destinations = index_moved text_cmp is_plain_at old.destinations.entries ws dir.destinations at c.args.ticket w rising there t c.move_last-in-None.new.groups.entries w.1.sub.destination v (rw (← ap (λ (x : Subscription). x.destination) same) at c.move_last-in-None.ensures) (plain_key w.1.sub durable) (sym same);
+      destinations = index_moved text_cmp is_plain_at old.destinations.entries ws dir.destinations at c.args.ticket w rising there t c.move_last-in-None.new.groups.entries w.1.sub.destination v (rw (← ap (λ (x : Subscription). x.destination) same) at c.move_last-in-None.ensures.moved) (plain_key w.1.sub durable) (sym same);
       names = index_rests name_cmp uses old.names.entries ws dir.names at c.args.ticket w rising there t v (uses_none w.1.sub durable) (sym same);
+      filled_destinations = c.move_last-in-None.ensures.filled dir.filled_destinations;
+      filled_names = dir.filled_names;
     }

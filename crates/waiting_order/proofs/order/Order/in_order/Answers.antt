@@ -1,4 +1,4 @@
-use Rattle.std.proofs.Common.{◌≡◌, ◌+◌, ◌++◌, ◌∷◌, ◌∙◌, [], Bor, List, Some, ap, append_assoc, arith, drop, length, length-append, map, slice_get, suc, sym}
+use Rattle.std.proofs.Common.{◌≡◌, ◌++◌, ◌∷◌, ◌∙◌, [], Bor, List, Some, ap, append_assoc, arith, drop, length, length-append, map, suc, sym}
 use Rattle.std.proofs.lemmas.List.{map-append}
 use Rattle.broker_state.specs.declared.subscription.Subscription.{Subscription}
 use Rattle.waiting_order.specs.declared.key.Key.{Key}

@@ -1,5 +1,4 @@
-use Rattle.std.proofs.Common.{◌≡◌, ◌+◌, ◌++◌, length, map, drop}
-use Rattle.broker_state.specs.declared.subscription.Subscription.{Subscription}
+use Rattle.std.proofs.Common.{◌≡◌, ◌++◌, length, map, drop}
 use Rattle.waiting_order.specs.declared.key.Key.{Key}
 use Rattle.waiting_order.specs.declared.standing.Standing.{Standing}
 use Rattle.waiting_order.specs.Waiting.{subs_of}
