@@ -1,10 +1,16 @@
-use Rattle.std.specs.Prelude.{◌≡◌, ◌≤◌, ◌^◌, List}
+use Rattle.std.specs.Prelude.{◌≡◌, ◌≤◌, ◌^◌, List, ℕ, Bool}
 use Rattle.broker_state.specs.declared.held.Held.{Held}
 use Rattle.broker_state.specs.States.{IsNext, State, held_bytes, held_messages}
 use Rattle.broker_tables.specs.declared.cursors.Cursor.{Cursor}
 use Rattle.broker_tables.specs.declared.stock.Stock.{Stock}
 use Rattle.broker_tables.specs.Dues.{AreDue}
 use Rattle.broker_tables.specs.Stocks.{IsStocked, stocked}
+
+-- What tables show: the state, whether they are broken, and how many marks there are of what is due.
+pub record TablesValue : Type 0 where
+  pub state : State
+  pub broken : Bool
+  pub due : ℕ
 
 -- What tables keep: what a stock keeps, and a subscription that can be served is due to be.
 pub record IsKept (stock : Stock) (due : List Cursor) : Type 0 where

@@ -1,6 +1,6 @@
 //! Deliveries are acknowledged.
 
-ghost use Rattle.std.specs.Prelude.{◌≡◌, IfOk, IsErr, MatchOption, OnOk, false};
+ghost use Rattle.std.specs.Prelude.{◌≡◌, IfOk, IsErr, MatchOption, OnErr, OnOk, false, true};
 ghost use Rattle.broker_state.specs.Operations.{acknowledged, awaits};
 ghost use Rattle.broker_state.specs.Parts.{NonePass, leaving};
 ghost use Rattle.broker_tables.specs.Places.{IsFirstAt};
@@ -37,6 +37,7 @@ impl Tables {
         ensures acknowledged { IfOk result (λ r. acknowledged self.old.state session delivery ≡ leaving r self.new.state) }
         ensures same { IfOk result (λ r. IsErr r → self.new ≡ self.old) }
         ensures whole { OnOk result (self.new.broken ≡ false) }
+        ensures broken { OnErr result (self.new.broken ≡ true) }
     {
         let Some(key) = find_awaiting(&self.stock.order, session, delivery) else {
             return Ok(Err(Fault::UnknownAcknowledgement));

@@ -301,10 +301,11 @@ impl Tables {
         Ok(())
     }
 
-    /// Every session ends, with all subscriptions. If memory is refused, the tables may be broken.
+    /// Every session ends, with all subscriptions. Nothing is due then. If memory is refused, the tables may be broken.
     pub fn restart(&mut self, alloc: Global) -> Result<(), AllocError>
         requires whole { self.old.broken ≡ false }
         ensures restarted { OnOk result (self.new.state ≡ restarted self.old.state) }
+        ensures due { OnOk result (self.new.due ≡ 0) }
         ensures whole { OnOk result (self.new.broken ≡ false) }
     {
         self.broken = true;

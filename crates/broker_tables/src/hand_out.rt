@@ -157,11 +157,12 @@ impl Stock {
 
 impl Tables {
     /// Hands out what waits, one delivery after another, until nothing can be handed out, and adds the MESSAGEs in their
-    /// order. If memory is refused, the tables may be broken.
+    /// order. Nothing is due then. If memory is refused, the tables may be broken.
     pub fn settle(&mut self, alloc: Global, outs: &mut Vec<Out>) -> Result<(), AllocError>
         requires whole { self.old.broken ≡ false }
         ensures state { OnOk result (self.new.state ≡ (settled self.old.state).state) }
         ensures outs { OnOk result (outs.new.items ≡ outs.old.items ++ (settled self.old.state).outs) }
+        ensures due { OnOk result (self.new.due ≡ 0) }
         ensures whole { OnOk result (self.new.broken ≡ false) }
     {
         self.broken = true;

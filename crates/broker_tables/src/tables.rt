@@ -1,6 +1,6 @@
 //! What the broker keeps: sessions, durable names, lines and subscriptions, and how much is held.
 
-ghost use Rattle.std.specs.Prelude.{◌≡◌, ◌<◌, ◌^◌, IfOk, OnOk, false, true};
+ghost use Rattle.std.specs.Prelude.{◌≡◌, ◌<◌, ◌^◌, IfOk, OnErr, OnOk, false, true};
 ghost use Rattle.record_core.specs.Texts.{IsGiven};
 ghost use Rattle.broker_state.specs.Operations.{opened};
 ghost use Rattle.broker_state.specs.States.{empty_state, held_bytes, held_messages};
@@ -22,9 +22,9 @@ use std::mem;
 use waiting_order::Order;
 
 /// How many commands were carried out, the open sessions, the durable names, the lines that stay and the subscriptions.
-/// How much is held stands there too, so that nobody needs to count it. Contracts see the state that they show, and
-/// whether they are broken. They are if memory was refused within an operation, which has then done a part of its work.
-/// What is counted as held is what the state of whole tables holds.
+/// How much is held stands there too, so that nobody needs to count it. Contracts see the state that they show, whether
+/// they are broken, and how many marks there are of what is due. They are broken if memory was refused within an operation,
+/// which has then done a part of its work. What is counted as held is what the state of whole tables holds.
 #[derive(Drop)]
 pub struct Tables {
     pub(crate) count: u64,
@@ -32,22 +32,20 @@ pub struct Tables {
     /// The durable names, each with its topic.
     pub(crate) durables: DurableNames,
     pub(crate) stock: Stock,
-    /// A subscription that can be served is due by one of these. They grow with what a command touches, and none is left once
-    /// all is handed out.
+    /// A subscription that can be served is due by one of these. They grow with what a command touches.
     pub(crate) due: Vec<Cursor>,
     // An operation is under way, or was refused memory.
     pub(crate) broken: bool,
 }
 
 impl Model for Tables {
-    ghost use Rattle.std.specs.Prelude.{◌≡◌, false};
-    ghost use Rattle.broker_state.specs.States.{BrokerValue};
+    ghost use Rattle.std.specs.Prelude.{◌≡◌, false, length};
     ghost use Rattle.broker_tables.specs.Stocks.{shown};
-    ghost use Rattle.broker_tables.specs.Tables.{IsKept};
+    ghost use Rattle.broker_tables.specs.Tables.{IsKept, TablesValue};
 
-    ghost Value = { BrokerValue };
+    ghost Value = { TablesValue };
 
-    ghost view = { λ a. record { state = shown a.count a.sessions.entries a.durables a.stock; broken = a.broken } };
+    ghost view = { λ a. record { state = shown a.count a.sessions.entries a.durables a.stock; broken = a.broken; due = length a.due.items } };
 
     ghost invariant = { λ a. a.broken ≡ false → IsKept a.stock a.due.items };
 }
@@ -55,7 +53,7 @@ impl Model for Tables {
 impl Tables {
     /// Empty tables, once so many commands were carried out. No memory is taken.
     pub fn new(alloc: Global, count: u64) -> Tables
-        ensures { result ≡ record { state = record empty_state { count = count }; broken = false } }
+        ensures { result ≡ record { state = record empty_state { count = count }; broken = false; due = 0 } }
     {
         Tables {
             count,
@@ -72,7 +70,7 @@ impl Tables {
         requires sound { IsSound (state_of_parts parts) }
         requires messages { held.messages ≡ held_messages (state_of_parts parts) }
         requires bytes { held.bytes ≡ held_bytes (state_of_parts parts) }
-        ensures { IfOk result (λ tables. tables ≡ record { state = state_of_parts parts; broken = false }) }
+        ensures { IfOk result (λ tables. tables ≡ record { state = state_of_parts parts; broken = false; due = 0 }) }
     {
         let durables = DurableNames::of(alloc, parts.durables)?;
         let order = Order::of(alloc, parts.subscriptions)?;
@@ -150,7 +148,7 @@ impl Tables {
 
     /// Lets all go: the tables are broken then, after so many commands, and hold nothing.
     pub fn let_go(&mut self, alloc: Global, count: u64)
-        ensures { self.new ≡ record { state = record empty_state { count = count }; broken = true } }
+        ensures { self.new ≡ record { state = record empty_state { count = count }; broken = true; due = 0 } }
     {
         drop(mem::replace(self, Tables::new(alloc, count)));
         self.broken = true;
@@ -163,11 +161,12 @@ impl Tables {
         self.count = count;
     }
 
-    /// The session opens whose number is that of the command that is being carried out. If memory is refused, the sessions
-    /// may have changed, and what is held has not.
+    /// The session opens whose number is that of the command that is being carried out. If memory is refused, nothing
+    /// changes.
     pub fn open(&mut self, client_id: Option<HeaderText>) -> Result<(), AllocError>
         requires { IsGiven client_id }
-        ensures { OnOk result (self.new ≡ record self.old { state = opened self.old.state client_id }) }
+        ensures ok { OnOk result (self.new ≡ record self.old { state = opened self.old.state client_id }) }
+        ensures same { OnErr result (self.new ≡ self.old) }
     {
         self.sessions
             .insert(self.count, GivenName::optional(client_id))?;

@@ -4,7 +4,8 @@ use Rattle.std.proofs.lemmas.Bool.{and_parts}
 use Rattle.line_core.specs.Flights.{IsOver, has_delivery}
 use Rattle.broker_state.specs.declared.subscription.Subscription.{Subscription}
 use Rattle.broker_state.specs.Operations.{is_of, settled_by}
-use Rattle.broker_state.specs.States.{BrokerValue, bytes, one, weight_of_subscription}
+use Rattle.broker_state.specs.States.{bytes, one, weight_of_subscription}
+use Rattle.broker_tables.specs.Tables.{TablesValue}
 use Rattle.broker_tables.proofs.Operating.{acknowledged_first, acknowledged_none}
 use Rattle.broker_state.proofs.Weights.{all_changed, over_settled_by, sum_by-changed, sum_by-part, weight-settled_by}
 use Rattle.waiting_order.specs.Waiting.{Waiting, subs_of}
@@ -27,7 +28,7 @@ settle-requires c =
 
 pub let_deliveries_go-requires-clause-messages : goal.let_deliveries_go-requires-clause-messages
 let_deliveries_go-requires-clause-messages c =
-    let kept = (c.self.invariant (ap (λ (b : BrokerValue). b.broken) c.self.view_is ∙ c.requires.whole)).whole in
+    let kept = (c.self.invariant (ap (λ (b : TablesValue). b.broken) c.self.view_is ∙ c.requires.whole)).whole in
     let first = c.in-Some.ensures in
     let ws = c.self.inside.stock.order.all in
     let there = sub_at ws first.at (c.in-Some.key, first.standing) first.there in
@@ -36,7 +37,7 @@ let_deliveries_go-requires-clause-messages c =
 
 pub let_deliveries_go-requires-clause-bytes : goal.let_deliveries_go-requires-clause-bytes
 let_deliveries_go-requires-clause-bytes c =
-    let kept = (c.self.invariant (ap (λ (b : BrokerValue). b.broken) c.self.view_is ∙ c.requires.whole)).whole in
+    let kept = (c.self.invariant (ap (λ (b : TablesValue). b.broken) c.self.view_is ∙ c.requires.whole)).whole in
     let first = c.in-Some.ensures in
     let ws = c.self.inside.stock.order.all in
     let there = sub_at ws first.at (c.in-Some.key, first.standing) first.there in
@@ -45,7 +46,7 @@ let_deliveries_go-requires-clause-bytes c =
 
 pub invariant_of-self-2 : goal.invariant_of-self-2
 invariant_of-self-2 c _ =
-    let kept = c.self.invariant (ap (λ (b : BrokerValue). b.broken) c.self.view_is ∙ c.requires.whole) in
+    let kept = c.self.invariant (ap (λ (b : TablesValue). b.broken) c.self.view_is ∙ c.requires.whole) in
     let tallied = kept.whole in
     let a = c.self.inside in
     let first = c.in-Some.ensures in

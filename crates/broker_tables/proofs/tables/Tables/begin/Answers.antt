@@ -5,9 +5,10 @@ use Rattle.line_core.specs.declared.message.Message.{Message}
 use Rattle.line_core.specs.Flights.{IsOver}
 use Rattle.broker_state.specs.declared.subscription.Subscription.{Subscription}
 use Rattle.broker_state.specs.Operations.{is_of}
-use Rattle.broker_state.specs.States.{BrokerValue, bytes, one, weight_of_subscription}
+use Rattle.broker_state.specs.States.{bytes, one, weight_of_subscription}
 use Rattle.broker_tables.specs.Stocks.{stocked}
 use Rattle.waiting_order.specs.Waiting.{subs_of}
+use Rattle.broker_tables.specs.Tables.{TablesValue}
 use Rattle.broker_tables.proofs.Dues.{all_with, due_begun, of_itself}
 use Rattle.broker_tables.proofs.tables.Tables.begin.Goals as goal
 
@@ -15,7 +16,7 @@ pub invariant_of-self-2 : goal.invariant_of-self-2
 invariant_of-self-2 c =
     let a = c.self.inside in
     let sub = c.args.sub in
-    let kept = c.self.invariant (ap (λ (b : BrokerValue). b.broken) c.self.view_is ∙ c.bind.ensures.flag ∙ c.requires.whole) in
+    let kept = c.self.invariant (ap (λ (b : TablesValue). b.broken) c.self.view_is ∙ c.bind.ensures.flag ∙ c.requires.whole) in
     let tallied = kept.whole in
     let subs = subs_of a.stock.order.all in
     let s = stocked a.stock in
@@ -37,5 +38,5 @@ invariant_of-self-2 c =
 
 pub enter-requires : goal.enter-requires
 enter-requires c =
-    let same = ap (λ (b : BrokerValue). b.state.subscriptions) c.self.view_is ∙ c.bind.ensures.subscriptions in
+    let same = ap (λ (b : TablesValue). b.state.subscriptions) c.self.view_is ∙ c.bind.ensures.subscriptions in
     subst (λ (l : List Subscription). count_by (is_of c.args.sub.session) l < 16) (sym same) c.requires.few

@@ -4,12 +4,13 @@ use Rattle.std.proofs.lemmas.Option.{same_Some}
 use Rattle.line_core.specs.declared.message.Message.{Message}
 use Rattle.line_core.specs.Flights.{IsOver}
 use Rattle.broker_state.specs.declared.subscription.Subscription.{Subscription}
-use Rattle.broker_state.specs.States.{BrokerValue, bytes, one, weight_of_subscription}
+use Rattle.broker_state.specs.States.{bytes, one, weight_of_subscription}
 use Rattle.broker_state.specs.Waiting.{Shared, line_for}
 use Rattle.broker_state.proofs.Weights.{all_removed, sum_by-removed}
 use Rattle.waiting_order.specs.Soughts.{is_sought_of}
 use Rattle.waiting_order.specs.Waiting.{Waiting, subs_of}
 use Rattle.broker_tables.specs.Stocks.{shown, stocked}
+use Rattle.broker_tables.specs.Tables.{TablesValue}
 use Rattle.broker_tables.proofs.Dues.{due_left}
 use Rattle.broker_tables.proofs.Operating.{without_one}
 use Rattle.broker_tables.proofs.Waiters.{first_from, none_first, sub_at, subs_removed}
@@ -31,7 +32,7 @@ let_go-requires c =
     let removed = c.remove-sub.ensures next.at next.standing next.there in
     let there = sub_at ws next.at (c.in-Some.place.key, next.standing) next.there ∙ ap (λ (x : Subscription). Some x) (sym removed.0) in
     let part = λ (weight : Message → ℕ). sum_by-removed (weight_of_subscription weight) (subs_of ws) next.at c.remove-sub.result there in
-    let kept = (c.self.invariant (ap (λ (b : BrokerValue). b.broken) c.self.view_is ∙ c.requires.whole)).whole in
+    let kept = (c.self.invariant (ap (λ (b : TablesValue). b.broken) c.self.view_is ∙ c.requires.whole)).whole in
     record {
       held = record {
         within = kept.small;
@@ -50,7 +51,7 @@ invariant_of-self-2 c _ =
     let there = sub_at ws next.at (c.in-Some.place.key, next.standing) next.there ∙ ap (λ (x : Subscription). Some x) (sym removed.0) in
     let part = λ (weight : Message → ℕ). sum_by-removed (weight_of_subscription weight) subs next.at c.remove-sub.result there in
     let others = ap (λ (o : Waiting). subs_of o.all) removed.1 ∙ subs_removed ws next.at in
-    let kept = c.self.invariant (ap (λ (b : BrokerValue). b.broken) c.self.view_is ∙ c.requires.whole) in
+    let kept = c.self.invariant (ap (λ (b : TablesValue). b.broken) c.self.view_is ∙ c.requires.whole) in
     let tallied = kept.whole in
     let done = c.in_ok-let_go.ensures in
     let IsUnder = λ (x : Subscription). IsOver a.stock.next_delivery x.unacknowledged in

@@ -8,12 +8,13 @@ use Rattle.broker_state.specs.Dead.{dead_queue}
 use Rattle.broker_state.proofs.Refusals.{kept_from}
 use Rattle.broker_state.specs.declared.subscription.Subscription.{Subscription}
 use Rattle.broker_state.specs.Operations.{is_of, settled_by}
-use Rattle.broker_state.specs.States.{BrokerValue, bytes, held_bytes, held_messages, one, weight_of_subscription}
+use Rattle.broker_state.specs.States.{bytes, held_bytes, held_messages, one, weight_of_subscription}
 use Rattle.broker_state.specs.Waiting.{Shared, is_own, line_for}
 use Rattle.broker_state.proofs.Weights.{all_changed, ones, over_settled_by, sum_by-part}
 use Rattle.broker_tables.specs.Refusals.{all_kept_bytes}
 use Rattle.broker_tables.specs.Stocks.{shown, stocked}
 use Rattle.waiting_order.specs.Waiting.{Waiting, subs_of}
+use Rattle.broker_tables.specs.Tables.{TablesValue}
 use Rattle.broker_tables.proofs.Waiters.{sub_at, subs_changed}
 use Rattle.broker_tables.proofs.Operating.{gone_of, nack_by, nack_counts, nack_fewer, nack_lines, nack_none, nack_small, nack_state, part_of}
 use Rattle.broker_tables.specs.Dues.{is_due}
@@ -49,7 +50,7 @@ finds_room-requires-clause-few c =
     let ws = c.self.inside.stock.order.all in
     let is_sub = c.get.ensures.sub first.at first.standing first.there in
     let there = sub_at ws first.at (c.in-Some.key, first.standing) first.there ∙ ap (λ (x : Subscription). Some x) (sym is_sub) in
-    let whole = ap (λ (b : BrokerValue). b.broken) c.self.view_is ∙ c.requires.whole in
+    let whole = ap (λ (b : TablesValue). b.broken) c.self.view_is ∙ c.requires.whole in
     let kept = c.self.invariant whole in
     let sub = c.get.result.now in
     omega (arith, ones sub.unacknowledged, sum_by-part (weight_of_subscription one) (subs_of c.self.inside.stock.order.all) first.at sub there, kept.whole.messages, kept.whole.few)
@@ -60,7 +61,7 @@ finds_room-requires-clause-part c =
     let ws = c.self.inside.stock.order.all in
     let is_sub = c.get.ensures.sub first.at first.standing first.there in
     let there = sub_at ws first.at (c.in-Some.key, first.standing) first.there ∙ ap (λ (x : Subscription). Some x) (sym is_sub) in
-    let whole = ap (λ (b : BrokerValue). b.broken) c.self.view_is ∙ c.requires.whole in
+    let whole = ap (λ (b : TablesValue). b.broken) c.self.view_is ∙ c.requires.whole in
     let kept = c.self.invariant whole in
     let a = c.self.inside in
     let s = shown a.count a.sessions.entries a.durables a.stock in
@@ -72,7 +73,7 @@ returns-then-not-finds_room-clause-nacked c =
     let ws = c.self.inside.stock.order.all in
     let is_sub = c.get.ensures.sub first.at first.standing first.there in
     let there = sub_at ws first.at (c.in-Some.key, first.standing) first.there ∙ ap (λ (x : Subscription). Some x) (sym is_sub) in
-    let whole = ap (λ (b : BrokerValue). b.broken) c.self.view_is ∙ c.requires.whole in
+    let whole = ap (λ (b : TablesValue). b.broken) c.self.view_is ∙ c.requires.whole in
     let kept = c.self.invariant whole in
     let a = c.self.inside in
     let s = shown a.count a.sessions.entries a.durables a.stock in
@@ -88,7 +89,7 @@ move_refused-requires-clause-places c =
     let ws = c.self.inside.stock.order.all in
     let is_sub = c.get.ensures.sub first.at first.standing first.there in
     let there = sub_at ws first.at (c.in-Some.key, first.standing) first.there ∙ ap (λ (x : Subscription). Some x) (sym is_sub) in
-    let whole = ap (λ (b : BrokerValue). b.broken) c.self.view_is ∙ c.requires.whole in
+    let whole = ap (λ (b : TablesValue). b.broken) c.self.view_is ∙ c.requires.whole in
     let kept = c.self.invariant whole in
     let a = c.self.inside in
     let s = shown a.count a.sessions.entries a.durables a.stock in
@@ -103,7 +104,7 @@ move_refused-requires-clause-part c =
     let ws = c.self.inside.stock.order.all in
     let is_sub = c.get.ensures.sub first.at first.standing first.there in
     let there = sub_at ws first.at (c.in-Some.key, first.standing) first.there ∙ ap (λ (x : Subscription). Some x) (sym is_sub) in
-    let whole = ap (λ (b : BrokerValue). b.broken) c.self.view_is ∙ c.requires.whole in
+    let whole = ap (λ (b : TablesValue). b.broken) c.self.view_is ∙ c.requires.whole in
     let kept = c.self.invariant whole in
     let a = c.self.inside in
     let s = shown a.count a.sessions.entries a.durables a.stock in
@@ -122,7 +123,7 @@ move_refused-requires-clause-small c =
     let is_sub = c.get.ensures.sub first.at first.standing first.there in
     let there = sub_at ws first.at (c.in-Some.key, first.standing) first.there ∙ ap (λ (x : Subscription). Some x) (sym is_sub) in
     let there_again = sub_at ws first.at (c.in-Some.key, first.standing) first.there ∙ ap (λ (x : Subscription). Some x) (sym (c.get-2.ensures.sub first.at first.standing first.there)) in
-    let whole = ap (λ (b : BrokerValue). b.broken) c.self.view_is ∙ c.requires.whole in
+    let whole = ap (λ (b : TablesValue). b.broken) c.self.view_is ∙ c.requires.whole in
     let kept = c.self.invariant whole in
     let a = c.self.inside in
     let s = shown a.count a.sessions.entries a.durables a.stock in
@@ -143,7 +144,7 @@ invariant_of-self-2 c _ =
     let is_sub = c.get.ensures.sub first.at first.standing first.there in
     let there = sub_at ws first.at (c.in-Some.key, first.standing) first.there ∙ ap (λ (x : Subscription). Some x) (sym is_sub) in
     let there_again = sub_at ws first.at (c.in-Some.key, first.standing) first.there ∙ ap (λ (x : Subscription). Some x) (sym (c.get-2.ensures.sub first.at first.standing first.there)) in
-    let whole = ap (λ (b : BrokerValue). b.broken) c.self.view_is ∙ c.requires.whole in
+    let whole = ap (λ (b : TablesValue). b.broken) c.self.view_is ∙ c.requires.whole in
     let kept = c.self.invariant whole in
     let a = c.self.inside in
     let s = shown a.count a.sessions.entries a.durables a.stock in
@@ -196,7 +197,7 @@ returns-clause-nacked c =
     let is_sub = c.get.ensures.sub first.at first.standing first.there in
     let there = sub_at ws first.at (c.in-Some.key, first.standing) first.there ∙ ap (λ (x : Subscription). Some x) (sym is_sub) in
     let there_again = sub_at ws first.at (c.in-Some.key, first.standing) first.there ∙ ap (λ (x : Subscription). Some x) (sym (c.get-2.ensures.sub first.at first.standing first.there)) in
-    let whole = ap (λ (b : BrokerValue). b.broken) c.self.view_is ∙ c.requires.whole in
+    let whole = ap (λ (b : TablesValue). b.broken) c.self.view_is ∙ c.requires.whole in
     let kept = c.self.invariant whole in
     let a = c.self.inside in
     let s = shown a.count a.sessions.entries a.durables a.stock in

@@ -1,18 +1,19 @@
-use Rattle.std.proofs.Common.{◌≡◌, ◌∙◌, [], List, Option, ap, arith, fold, refl, subst, sym, true, ℕ}
+use Rattle.std.proofs.Common.{◌≡◌, ◌∙◌, [], List, Option, ap, arith, fold, refl, subst, sym, true, ℕ, length}
 use Rattle.std.specs.List.{AllByRecursion, sum_by}
 use Rattle.line_core.specs.Flights.{IsOver}
 use Rattle.broker_state.specs.declared.subscription.Subscription.{Subscription}
-use Rattle.broker_state.specs.States.{BrokerValue, State, bytes, one, weight_of_subscription}
+use Rattle.broker_state.specs.States.{State, bytes, one, weight_of_subscription}
 use Rattle.broker_state.specs.HandOut.{can_take}
 use Rattle.broker_state.specs.Waiting.{Shared, returned}
 use Rattle.broker_tables.specs.Dues.{is_due}
 use Rattle.broker_tables.specs.Stocks.{stocked}
 use Rattle.waiting_order.specs.Waiting.{Waiting, subs_of}
+use Rattle.broker_tables.specs.Tables.{TablesValue}
 use Rattle.broker_tables.proofs.tables.Tables.restart.Goals as goal
 
 pub let_all_go-requires : goal.let_all_go-requires
 let_all_go-requires c =
-    let kept = (c.self.invariant (ap (λ (b : BrokerValue). b.broken) c.self.view_is ∙ c.requires.whole)).whole in
+    let kept = (c.self.invariant (ap (λ (b : TablesValue). b.broken) c.self.view_is ∙ c.requires.whole)).whole in
     let subs = c.in_ok-subs.ensures.subs in
     record {
       held = record {
@@ -25,7 +26,7 @@ let_all_go-requires c =
 
 pub invariant_of-self-2 : goal.invariant_of-self-2
 invariant_of-self-2 c _ =
-    let kept = (c.self.invariant (ap (λ (b : BrokerValue). b.broken) c.self.view_is ∙ c.requires.whole)).whole in
+    let kept = (c.self.invariant (ap (λ (b : TablesValue). b.broken) c.self.view_is ∙ c.requires.whole)).whole in
     let a = c.self.inside in
     let left = c.in_ok-let_all_go.ensures.left in
     let none = c.in_ok-subs.ensures.none in
@@ -53,5 +54,6 @@ returns c =
     let none : c.replace.new.dest.entries ≡ [] = ap (λ m. m.entries) c.replace.ensures.after ∙ c.new.ensures.empty in
     record {
       restarted = rw (← c.self.view_is) (ap (λ e. made e c.let_all_go.new.shared (subs_of c.take_all.new.self.all)) none ∙ ap (λ h. made [] h (subs_of c.take_all.new.self.all)) lines ∙ ap (made [] (fold returned a.stock.shared (subs_of a.stock.order.all))) gone);
+      due = ap length c.clear.ensures.items;
       whole = refl;
     }

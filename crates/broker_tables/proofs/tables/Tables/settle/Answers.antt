@@ -1,9 +1,9 @@
 use Rattle.std.proofs.Common.{◌∙◌, List, ap, subst, sym}
-use Rattle.broker_state.specs.States.{BrokerValue}
 use Rattle.waiting_order.specs.Waiting.{subs_of}
 use Rattle.broker_tables.specs.declared.cursors.Cursor.{Cursor}
 use Rattle.broker_tables.specs.Dues.{AreDue}
 use Rattle.broker_tables.specs.Stocks.{stocked}
+use Rattle.broker_tables.specs.Tables.{TablesValue}
 use Rattle.broker_tables.proofs.Awaiting.{awaited_due}
 use Rattle.broker_tables.proofs.Dues.{none_due}
 use Rattle.broker_tables.proofs.tables.Tables.settle.Goals as goal
@@ -11,7 +11,7 @@ use Rattle.broker_tables.proofs.tables.Tables.settle.Goals as goal
 pub hand_out-requires-clause-awaited : goal.hand_out-requires-clause-awaited
 hand_out-requires-clause-awaited c =
     let a = c.self.inside in
-    awaited_due a.due.items a.stock (c.self.invariant (ap (λ (b : BrokerValue). b.broken) c.self.view_is ∙ c.requires.whole)).ready
+    awaited_due a.due.items a.stock (c.self.invariant (ap (λ (b : TablesValue). b.broken) c.self.view_is ∙ c.requires.whole)).ready
 
 pub invariant_of-self-2 : goal.invariant_of-self-2
 invariant_of-self-2 c _ =
