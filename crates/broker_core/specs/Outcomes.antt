@@ -1,14 +1,16 @@
 use Rattle.std.specs.Prelude.{◌≡◌, true, false, Result, Ok, Err}
 use Rattle.broker_state.specs.Sound.{IsSound}
 use Rattle.broker_state.specs.States.{BrokerValue, held_bytes, held_messages}
+use Rattle.broker_tables.specs.Tables.{TablesValue}
 use Rattle.broker_core.specs.declared.fault.BrokerFault.{BrokerFault}
 use Rattle.broker_core.specs.declared.fault.BrokerFault.TheVariants.{Memory, Broken}
 
--- A whole broker is in a state that a broker can have, and one that is broken holds nothing.
-pub record IsWholeOrEmpty (b : BrokerValue) : Type 0 where
+-- Whole tables are in a state that a broker can have, and broken ones hold nothing. Nothing is due.
+pub record IsWholeOrEmpty (b : TablesValue) : Type 0 where
   pub whole : b.broken ≡ false → IsSound b.state
   pub messages : b.broken ≡ true → held_messages b.state ≡ 0
   pub bytes : b.broken ≡ true → held_bytes b.state ≡ 0
+  pub due : b.due ≡ 0
 
 -- Whether a broker is broken before a step or a restart, and after it: what is done leaves a whole broker whole. Refused
 -- memory breaks it, and its count stays. One that is broken stays as it is.

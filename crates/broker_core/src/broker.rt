@@ -38,7 +38,7 @@ impl Model for Broker {
 
     ghost Value = { BrokerValue };
 
-    ghost view = { λ a. a.tables };
+    ghost view = { λ a. record { state = a.tables.state; broken = a.tables.broken } };
 
     ghost invariant = { λ a. IsWholeOrEmpty a.tables };
 }

@@ -29,9 +29,11 @@ pub fn execute(
 ) -> Result<Vec<Out>, AllocError>
     requires small { tables.old.state.count < 2 ^ 62 }
     requires whole { tables.old.broken ≡ false }
+    requires due { tables.old.due ≡ 0 }
     ensures state { OnOk result (tables.new.state ≡ step_by rule tables.old.state command) }
     ensures outs { IfOk result (λ outs. outs.items ≡ outs_by rule tables.old.state command) }
     ensures whole { OnOk result (tables.new.broken ≡ false) }
+    ensures due { OnOk result (tables.new.due ≡ 0) }
 {
     let number = tables.count();
     let (session, op, receipt) = command.into_parts();
@@ -55,9 +57,11 @@ fn execute_if_open(
     requires form { IsOp op }
     requires other { is_opening op ≡ false }
     requires whole { tables.old.broken ≡ false }
+    requires due { tables.old.due ≡ 0 }
     ensures state { OnOk result (tables.new.state ≡ (led_to rule tables.old.state session op).state) }
     ensures outs { IfOk result (λ outs. outs.items ≡ (led_to rule tables.old.state session op).outs ++ answers rule tables.old.state session receipt op) }
     ensures whole { OnOk result (tables.new.broken ≡ false) }
+    ensures due { OnOk result (tables.new.due ≡ 0) }
 {
     if !tables.sessions().contains_key(&session) {
         return Ok(Vec::new(alloc));
@@ -76,6 +80,7 @@ fn open(
     ensures state { OnOk result (tables.new.state ≡ (settled (opened tables.old.state client_id)).state) }
     ensures outs { IfOk result (λ outs. outs.items ≡ (settled (opened tables.old.state client_id)).outs ++ outs_to tables.old.state.count tables.old.state.count (connected tables.old.state.count ∷ [])) }
     ensures whole { OnOk result (tables.new.broken ≡ false) }
+    ensures due { OnOk result (tables.new.due ≡ 0) }
 {
     let number = tables.count();
     tables.open(client_id)?;
@@ -100,6 +105,7 @@ fn execute_in_session(
     ensures state { OnOk result (tables.new.state ≡ (settled (accepted_or_ended tables.old.state session (executed rule tables.old.state session op))).state) }
     ensures outs { IfOk result (λ outs. outs.items ≡ (settled (accepted_or_ended tables.old.state session (executed rule tables.old.state session op))).outs ++ outs_to tables.old.state.count session (replies rule tables.old.state session op receipt)) }
     ensures whole { OnOk result (tables.new.broken ≡ false) }
+    ensures due { OnOk result (tables.new.due ≡ 0) }
 {
     let number = tables.count();
     let mut outs = Vec::new(alloc);
@@ -132,6 +138,7 @@ fn end_and_settle(
     ensures state { OnOk result (tables.new.state ≡ (settled (ended tables.old.state session)).state) }
     ensures outs { OnOk result (outs.new.items ≡ outs.old.items ++ (settled (ended tables.old.state session)).outs) }
     ensures whole { OnOk result (tables.new.broken ≡ false) }
+    ensures due { OnOk result (tables.new.due ≡ 0) }
 {
     tables.end(alloc, session)?;
     tables.settle(alloc, outs)

@@ -10,4 +10,4 @@ invariant_of-self c =
     let b = c.self.inside.tables in
     let was = c.self.invariant.whole (sym c.is_broken.ensures ∙ c.if-is_broken.false) in
     let few = subst HasFewMembers c.op.ensures.value c.have_few_members.ensures in
-    is_whole c.execute.new.tables c.in-Ok.ensures.whole (subst IsSound (sym c.in-Ok.ensures.state) (sound_step c.args.rule b.state c.args.command few was))
+    is_whole c.execute.new.tables c.in-Ok.ensures.whole c.in-Ok.ensures.due (subst IsSound (sym c.in-Ok.ensures.state) (sound_step c.args.rule b.state c.args.command few was))
