@@ -1,4 +1,4 @@
-use Rattle.std.proofs.Common.{◌≡◌, ◌+◌, ◌∙◌, List, Some, ap, arith, length, slice_get, sym, take, ◌≤◌}
+use Rattle.std.proofs.Common.{◌≡◌, ◌∙◌, List, Some, ap, arith, length, slice_get, sym, take, ◌≤◌}
 use Rattle.std.specs.List.{flat_map}
 use Rattle.std.proofs.lemmas.List.{take_all}
 use Rattle.std.proofs.lemmas.Option.{get_or_from_slice_get, slice_get_within}
@@ -8,10 +8,9 @@ use Rattle.waiting_order.specs.declared.key.Key.{Key}
 use Rattle.waiting_order.specs.declared.standing.Standing.{Standing}
 use Rattle.waiting_order.specs.Waiting.{subs_of}
 use Rattle.broker_tables.proofs.Waiters.{length_subs, sub_at}
-use Rattle.snapshot_core.specs.Lengths.{counted_in_eight}
 use Rattle.snapshot_core.specs.Snapshots.{subscription}
 use Rattle.snapshot_core.proofs.Capped.{next_counted}
-use Rattle.snapshot_core.proofs.InOrder.{all_fit, length_spelled, no_stray, none_strays, strays}
+use Rattle.snapshot_core.proofs.InOrder.{all_fit, length_spelled, listed_alike, no_stray, none_strays, strays}
 use Rattle.snapshot_core.proofs.lengths.subscriptions_len.Goals as goal
 
 pub subscription_len-requires : goal.subscription_len-requires
@@ -23,7 +22,7 @@ subscription_len-requires c =
     let there : slice_get subs at ≡ Some w = sym c.in-Some.ensures.entry in
     let sub = w.1.sub in
     let is = sub_at subs at w there in
-    let none = omega (arith, sum_by-part strays (subs_of subs) at sub is, c.subscriptions_by_key-subs.ensures strays, none_strays s.subscriptions (all_fit s c.requires.sound)) in
+    let none : strays sub ≡ 0 = omega (arith, sum_by-part strays (subs_of subs) at sub is, c.subscriptions_by_key-subs.ensures strays, none_strays s.subscriptions (all_fit s c.requires.sound)) in
     record { own = no_stray sub none }
 
 pub loop-at-preserved : goal.loop-at-preserved
@@ -48,4 +47,4 @@ returns c =
     let long : length (flat_map subscription (take c.loop-at.at (subs_of subs))) ≡ length (flat_map subscription s.subscriptions) =
     ap (λ (l : List Subscription). length (flat_map subscription l)) (take_all c.loop-at.at (subs_of subs) end)
     ∙ length_spelled subscription (subs_of subs) ∙ c.subscriptions_by_key-subs.ensures (λ (x : Subscription). length (subscription x)) ∙ sym (length_spelled subscription s.subscriptions) in
-    all ∙ ?
+    listed_alike subscription (take c.loop-at.at (subs_of subs)) s.subscriptions c.loop-at.total long all

@@ -1,5 +1,5 @@
 use Rattle.std.specs.Int.{w32, to_be_bytes}
-use Rattle.std.proofs.Common.{◌≡◌, ◌∙◌, List, Some, ap, arith, length, map, slice_get, sym}
+use Rattle.std.proofs.Common.{◌≡◌, ◌∙◌, List, Some, ap, arith, length, slice_get, sym}
 use Rattle.std.proofs.lemmas.Grind.{common_steps}
 use Rattle.std.proofs.lemmas.Option.{get_or_from_slice_get, gets, slice_get_within}
 use Rattle.record_core.proofs.Walks.{all_more, put_more}
