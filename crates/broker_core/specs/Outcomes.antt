@@ -1,6 +1,11 @@
-use Rattle.std.specs.Prelude.{◌≡◌, true, false, Result, Ok, Err}
+use Rattle.std.specs.Prelude.{◌≡◌, ℕ, true, false, Result, Ok, Err}
+use Rattle.command_core.specs.declared.command.Op.{Op}
+use Rattle.broker_state.specs.declared.nack_rule.NackRule.{NackRule}
+use Rattle.broker_state.specs.Executing.{executed}
+use Rattle.broker_state.specs.HandOut.{Settling, settled}
 use Rattle.broker_state.specs.Sound.{IsSound}
-use Rattle.broker_state.specs.States.{BrokerValue, held_bytes, held_messages}
+use Rattle.broker_state.specs.States.{BrokerValue, State, held_bytes, held_messages}
+use Rattle.broker_state.specs.Steps.{accepted_or_ended}
 use Rattle.broker_tables.specs.Tables.{TablesValue}
 use Rattle.broker_core.specs.declared.fault.BrokerFault.{BrokerFault}
 use Rattle.broker_core.specs.declared.fault.BrokerFault.TheVariants.{Memory, Broken}
@@ -18,3 +23,7 @@ abbrev pub IsOutcome : {X : Type 0} → BrokerValue → BrokerValue → Result X
 IsOutcome old new (Ok _) = (old.broken ≡ false) × (new.broken ≡ false)
 IsOutcome old new (Err (Memory _)) = (old.broken ≡ false) × (new.broken ≡ true) × (new.state.count ≡ old.state.count)
 IsOutcome old new (Err Broken) = (old.broken ≡ true) × (new ≡ old)
+
+-- what an operation of an open session leads to with what is then handed out
+abbrev pub led_in_session : NackRule → State → ℕ → Op → Settling
+led_in_session rule s session op = settled (accepted_or_ended s session (executed rule s session op))

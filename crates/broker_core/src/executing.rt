@@ -8,7 +8,8 @@ ghost use Rattle.broker_state.specs.HandOut.{settled};
 ghost use Rattle.broker_state.specs.Executing.{executed};
 ghost use Rattle.broker_state.specs.Operations.{ended, opened};
 ghost use Rattle.broker_state.specs.Parts.{is_end, leaving};
-ghost use Rattle.broker_state.specs.Steps.{accepted_or_ended, answers, is_opening, led_to, outs_by, outs_to, replies, step_by};
+ghost use Rattle.broker_core.specs.Outcomes.{led_in_session};
+ghost use Rattle.broker_state.specs.Steps.{answers, is_opening, led_to, outs_by, outs_to, replies, step_by};
 
 use crate::answers::{answer_done, answer_end, answer_open, answer_refused};
 use crate::committing::commit;
@@ -102,8 +103,8 @@ fn execute_in_session(
     requires form { IsOp op }
     requires other { is_opening op ≡ false }
     requires whole { tables.old.broken ≡ false }
-    ensures state { OnOk result (tables.new.state ≡ (settled (accepted_or_ended tables.old.state session (executed rule tables.old.state session op))).state) }
-    ensures outs { IfOk result (λ outs. outs.items ≡ (settled (accepted_or_ended tables.old.state session (executed rule tables.old.state session op))).outs ++ outs_to tables.old.state.count session (replies rule tables.old.state session op receipt)) }
+    ensures state { OnOk result (tables.new.state ≡ (led_in_session rule tables.old.state session op).state) }
+    ensures outs { IfOk result (λ outs. outs.items ≡ (led_in_session rule tables.old.state session op).outs ++ outs_to tables.old.state.count session (replies rule tables.old.state session op receipt)) }
     ensures whole { OnOk result (tables.new.broken ≡ false) }
     ensures due { OnOk result (tables.new.due ≡ 0) }
 {
