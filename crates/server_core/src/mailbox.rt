@@ -179,7 +179,8 @@ impl Ringers<BellRope> for Ropes<'_> {
     fn window(&self, op: &Op) -> usize
         ensures { result ≤ WINDOW }
     {
-        self.pace.window(self.mailbox.desk, op, self.mark)
+        let client = self.client as u64;
+        self.pace.window(self.mailbox.desk, client, op, self.mark)
     }
 
     fn appended(&self, ticket: u64) {

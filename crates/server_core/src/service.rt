@@ -436,6 +436,8 @@ impl<'a, R: Wait + Clock + Drop> Service<'a, R> {
         ensures shared { self.new.shared ≡ self.old.shared }
     {
         self.count(number, 0);
+        let desk = self.mailbox.desk();
+        self.shared.pace.leave(desk, number as u64);
         self.clients.remove(number);
         self.mailbox.leaves();
     }

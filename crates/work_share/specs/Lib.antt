@@ -1,2 +1,3 @@
 pub mod Costs
+pub mod Counts
 pub mod Windows

@@ -1,7 +1,8 @@
 //! How many listen to each topic, as far as is known.
 
-ghost use Rattle.std.specs.Prelude.{◌≤◌, ◌*◌, ◌+◌, length, max};
+ghost use Rattle.std.specs.Prelude.{◌≡◌, ◌≤◌, ◌*◌, ◌+◌, length};
 ghost use Rattle.work_share.specs.Costs.{least_cost};
+ghost use Rattle.work_share.specs.Counts.{place_for};
 ghost use Rattle.work_share.specs.declared.audiences.TheConstants.{OPERATION};
 
 use crate::sample::Sample;
@@ -19,9 +20,6 @@ pub const OPERATION: u64 = 3_000;
 // What a delivery costs.
 const DELIVERY: u64 = 4_000;
 
-// A count that is too large falls by this part of itself with each message to the topic.
-const FALL: u64 = 16;
-
 /// How many listen to each topic, as far as is known. Topics share places, so that a count may be too large. The flusher counts, and others look.
 #[derive(Drop)]
 pub struct Audiences {
@@ -38,16 +36,9 @@ impl Audiences {
 
     /// A command was carried out that tells this, and had so many outputs.
     pub fn carried_out(&self, sample: Sample, outs: u64) {
-        match sample {
-            Sample::Nothing => {}
-            Sample::Joins(place) => {
-                let known = self.counts.get(place);
-                self.counts.set(place, known.saturating_add(1));
-            }
-            Sample::Hears(place, count) => {
-                let known = self.counts.get(place);
-                self.counts.set(place, heard(known, outs / count.max(1)));
-            }
+        if let Some(place) = sample.place() {
+            let known = self.counts.get(place);
+            self.counts.set(place, sample.audience(known, outs));
         }
     }
 
@@ -95,16 +86,10 @@ impl Audiences {
     }
 }
 
-// The audience of a topic that was taken for so many, once a message went to so many: what is too much falls slowly, since topics share a
-// place.
-fn heard(known: u64, seen: u64) -> u64
-    ensures { (seen ≤ result) × (result ≤ max known seen) }
-{
-    seen.max(known - known / FALL)
-}
-
 /// The place of a topic; `None` for a queue.
-pub(crate) fn place_of(destination: &Dest) -> Option<usize> {
+pub(crate) fn place_of(destination: &Dest) -> Option<usize>
+    ensures { result ≡ place_for destination.now }
+{
     if destination.is_queue() {
         return None;
     }

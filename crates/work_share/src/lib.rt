@@ -3,6 +3,7 @@
 #![tactic(auto)]
 
 mod audiences;
+mod counting;
 mod granting;
 mod loads;
 mod pace;

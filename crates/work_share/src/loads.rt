@@ -3,6 +3,7 @@
 ghost use Rattle.std.specs.Prelude.{◌≤◌};
 ghost use Rattle.work_share.specs.declared.granting.TheConstants.{WIDEST};
 
+use crate::counting::{is_before, under_way};
 use crate::granting::{SHARE, WIDEST, window};
 use crate::words::{Words, get, set};
 use std::alloc::{AllocError, Global};
@@ -21,10 +22,11 @@ struct Load {
     // Its last ticket, and what its commands under way cost.
     last: AtomicU64,
     sum: AtomicU64,
-    // What the command costs that it has asked about last, or 0 if that counts for nothing; and its number in line, if it waits with one that
-    // is dear.
+    // What the command costs that it has asked about last, or 0 if that counts for nothing.
     asked: AtomicU64,
+    // Its number in line, if it waits with a command that is dear, or 0; and the client for whose command it got that.
     line: AtomicU64,
+    client: AtomicU64,
 }
 
 impl Load {
@@ -38,6 +40,7 @@ impl Load {
             sum: AtomicU64::new(0),
             asked: AtomicU64::new(0),
             line: AtomicU64::new(0),
+            client: AtomicU64::new(0),
         })
     }
 
@@ -59,15 +62,31 @@ impl Load {
         let place = (self.count.fetch_add(1, Ordering::SeqCst) % WIDEST as u64) as usize;
         self.tickets.set(place, ticket);
         self.costs.set(place, cost);
-        let mut sum: u64 = 0;
-        for place in 0..WIDEST {
-            if self.tickets.get(place) >= mark {
-                sum = sum.saturating_add(self.costs.get(place));
-            }
-        }
-        set(&self.sum, sum);
+        set(&self.sum, under_way(&self.commands(), mark));
         set(&self.last, ticket);
         if cost > SHARE {
+            set(&self.line, 0);
+        }
+    }
+
+    // The tickets of its last commands, and what each of them cost.
+    fn commands(&self) -> [(u64, u64); WIDEST] {
+        let mut commands = [(0, 0); WIDEST];
+        for (place, command) in commands.iter_mut().enumerate() {
+            *command = (self.tickets.get(place), self.costs.get(place));
+        }
+        commands
+    }
+
+    // It stands in line with a command of that client, with that number.
+    fn stand(&self, client: u64, line: u64) {
+        set(&self.client, client);
+        set(&self.line, line);
+    }
+
+    // That client has left: if its command stood in line, it does so no more.
+    fn leave(&self, client: u64) {
+        if get(&self.client) == client {
             set(&self.line, 0);
         }
     }
@@ -94,8 +113,8 @@ impl Loads {
         })
     }
 
-    /// How many commands that desk may have under way with one that costs so much, at this mark.
-    pub fn window(&self, desk: usize, cost: u64, mark: u64) -> usize
+    /// How many commands that desk may have under way with one of this client that costs so much, at this mark.
+    pub fn window(&self, desk: usize, client: u64, cost: u64, mark: u64) -> usize
         ensures { result ≤ WIDEST }
     {
         let Some(own) = self.desks.get(desk) else {
@@ -109,7 +128,7 @@ impl Loads {
         let window = window(cost, self.under_way(mark), self.is_first(own));
         if window == 0 && get(&own.line) == 0 {
             let line = self.line.fetch_add(1, Ordering::SeqCst);
-            set(&own.line, line.saturating_add(1));
+            own.stand(client, line.saturating_add(1));
         }
         window
     }
@@ -118,6 +137,13 @@ impl Loads {
     pub fn appended(&self, desk: usize, ticket: u64, mark: u64) {
         if let Some(own) = self.desks.get(desk) {
             own.add(ticket, mark);
+        }
+    }
+
+    /// That client of the desk has left. If the desk stood in line with its command, others don't wait for that any more.
+    pub fn leave(&self, desk: usize, client: u64) {
+        if let Some(own) = self.desks.get(desk) {
+            own.leave(client);
         }
     }
 
@@ -142,8 +168,7 @@ impl Loads {
     fn is_first(&self, own: &Load) -> bool {
         let stands = get(&own.line);
         for desk in &self.desks {
-            let line = get(&desk.line);
-            if line != 0 && (stands == 0 || line < stands) {
+            if is_before(get(&desk.line), stands) {
                 return false;
             }
         }

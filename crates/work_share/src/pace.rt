@@ -30,11 +30,17 @@ impl Pace {
         self.audiences.clone()
     }
 
-    /// How many commands that desk may have under way, with one of this operation that comes next, at this mark.
-    pub fn window(&self, desk: usize, op: &Op, mark: u64) -> usize
+    /// How many commands that desk may have under way, with one of this client and operation that comes next, at this mark.
+    pub fn window(&self, desk: usize, client: u64, op: &Op, mark: u64) -> usize
         ensures { result ≤ WIDEST }
     {
-        self.loads.window(desk, self.audiences.cost(op), mark)
+        self.loads
+            .window(desk, client, self.audiences.cost(op), mark)
+    }
+
+    /// That client of the desk has left, whether or not its command was appended.
+    pub fn leave(&self, desk: usize, client: u64) {
+        self.loads.leave(desk, client);
     }
 
     /// Whether that desk waits with a command that is dear.

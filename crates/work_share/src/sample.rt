@@ -1,7 +1,13 @@
 //! What a command may tell of a topic's audience.
 
+ghost use Rattle.std.specs.Prelude.{◌≡◌};
+ghost use Rattle.work_share.specs.Counts.{IsSampleOf, Tells, audience_after, place_sent, place_told};
+
 use crate::audiences::place_of;
 use command_core::{Member, Op};
+
+// A count that is too large falls by this part of itself with each message to the topic.
+const FALL: u64 = 16;
 
 /// What a command tells of a topic's audience once it is carried out.
 #[derive(Clone, Copy)]
@@ -16,7 +22,9 @@ pub enum Sample {
 
 impl Sample {
     /// What this operation may tell.
-    pub fn of(op: &Op) -> Sample {
+    pub fn of(op: &Op) -> Sample
+        ensures { Tells op.now result }
+    {
         match op {
             Op::Subscribe { destination, .. } => match place_of(destination) {
                 Some(place) => Sample::Joins(place),
@@ -30,25 +38,55 @@ impl Sample {
             _ => Sample::Nothing,
         }
     }
+
+    /// The place of the topic that it tells of, if it tells something.
+    pub fn place(self) -> Option<usize>
+        ensures { result ≡ place_told self }
+    {
+        match self {
+            Sample::Nothing => None,
+            Sample::Joins(place) | Sample::Hears(place, _) => Some(place),
+        }
+    }
+
+    /// The audience that its topic is taken for from now on: it was taken for `known`, and the command had so many outputs.
+    pub fn audience(self, known: u64, outs: u64) -> u64
+        ensures { result ≡ audience_after self known outs }
+    {
+        match self {
+            Sample::Nothing => known,
+            Sample::Joins(_) => known.saturating_add(1),
+            Sample::Hears(_, count) => (outs / count.max(1)).max(known - known / FALL),
+        }
+    }
 }
 
 // What a transaction may tell: nothing unless all its messages go to topics of one place.
-fn of_members(members: &[Member]) -> Sample {
-    let mut sample = Sample::Nothing;
+fn of_members(members: &[Member]) -> Sample
+    ensures { IsSampleOf members.now result }
+{
+    let mut all = None;
     for member in members {
-        let Member::Send(sending) = member else {
+        let Some(place) = place_sent(member) else {
             return Sample::Nothing;
         };
-        let Some(place) = place_of(sending.destination()) else {
-            return Sample::Nothing;
-        };
-        sample = match sample {
-            Sample::Hears(other, count) if other == place => {
-                Sample::Hears(place, count.saturating_add(1))
-            }
-            Sample::Nothing => Sample::Hears(place, 1),
-            _ => return Sample::Nothing,
-        };
+        match all {
+            Some(other) if other != place => return Sample::Nothing,
+            _ => all = Some(place),
+        }
     }
-    sample
+    match all {
+        Some(place) => Sample::Hears(place, members.len() as u64),
+        None => Sample::Nothing,
+    }
+}
+
+// The place of the topic to which a member sends, if it sends to one.
+fn place_sent(member: &Member) -> Option<usize>
+    ensures { result ≡ place_sent member.now }
+{
+    match member {
+        Member::Send(sending) => place_of(sending.destination()),
+        Member::Ack(_) | Member::Nack(_) => None,
+    }
 }

@@ -1,0 +1,75 @@
+-- What is counted of commands and topics.
+use Rattle.std.specs.Prelude.{◌+◌, ◌-◌, ◌*◌, ◌/◌, ◌%◌, ◌^◌, ◌≡◌, ◌≢◌, ℕ, List, [], ◌∷◌, Option, None, Some, cond, max, min, nat_le, bit_xor, fold, length, sum_by}
+use Rattle.std.specs.List.{AllByRecursion}
+use Rattle.command_core.specs.declared.command.Op.{Op}
+use Rattle.command_core.specs.declared.command.Op.TheVariants.{Subscribe, Send, Commit}
+use Rattle.command_core.specs.declared.member.Member.{Member}
+use Rattle.command_core.specs.declared.member.Member.TheVariants as members
+use Rattle.record_core.specs.Destinations.{is_queue}
+use Rattle.work_share.specs.declared.sample.Sample.{Sample}
+use Rattle.work_share.specs.declared.sample.Sample.TheVariants.{Nothing, Joins, Hears}
+
+-- the greatest number that is counted
+abbrev pub most : ℕ
+most = 2 ^ 64 - 1
+
+-- what a command costs if its ticket is the mark or a later one
+abbrev pub cost_at : ℕ → ℕ × ℕ → ℕ
+cost_at mark command = cond (nat_le mark command.0) command.1 0
+
+-- what those of these commands cost that are under way at that mark
+abbrev pub cost_from : ℕ → List (ℕ × ℕ) → ℕ
+cost_from mark commands = sum_by (cost_at mark) commands
+
+-- a step of the hash FNV-1a with 64 bits
+abbrev pub with_byte : ℕ → ℕ → ℕ
+with_byte h byte = (bit_xor h byte * 1099511628211) % 2 ^ 64
+
+-- that hash of these bytes
+abbrev pub hash : List ℕ → ℕ
+hash bytes = fold with_byte 14695981039346656037 bytes
+
+-- the place where a topic's audience is counted; a queue has none
+abbrev pub place_for : List ℕ → Option ℕ
+place_for destination = cond (is_queue destination) None (Some ((hash destination / 2 ^ 32) % 4096))
+
+-- the place of the topic to which a member sends
+abbrev pub place_sent : Member → Option ℕ
+place_sent (members.Send sending) = place_for sending.destination
+place_sent (members.Ack _) = None
+place_sent (members.Nack _) = None
+
+-- it sends to a topic that is counted there
+abbrev pub SendsTo : ℕ → Member → Type 0
+SendsTo place member = place_sent member ≡ Some place
+
+-- what a subscription or a message to that place tells
+abbrev pub told_at : (ℕ → Sample) → Option ℕ → Sample
+told_at tells None = Nothing
+told_at tells (Some place) = tells place
+
+-- what a transaction tells: how many messages it has if all its members are messages to one place, or else nothing
+abbrev pub IsSampleOf : List Member → Sample → Type 0
+IsSampleOf all Nothing = (place : ℕ) → AllByRecursion (SendsTo place) all → all ≡ []
+IsSampleOf all (Joins place) = ⊥
+IsSampleOf all (Hears place count) = (count ≡ length all) × (all ≢ []) × AllByRecursion (SendsTo place) all
+
+-- what an operation tells of a topic's audience
+abbrev pub Tells : Op → Sample → Type 0
+Tells (Subscribe id destination mode durable) sample = sample ≡ told_at Joins (place_for destination)
+Tells (Send sending) sample = sample ≡ told_at (λ place. Hears place 1) (place_for sending.destination)
+Tells (Commit all) sample = IsSampleOf all sample
+Tells _ sample = sample ≡ Nothing
+
+-- the place of the topic that it tells of
+abbrev pub place_told : Sample → Option ℕ
+place_told Nothing = None
+place_told (Joins place) = Some place
+place_told (Hears place _) = Some place
+
+-- The audience that a topic is taken for, once a command that told this had so many outputs. One more joins; or each message went to so many.
+-- What is too much falls slowly, since topics share a place.
+abbrev pub audience_after : Sample → (known outs : ℕ) → ℕ
+audience_after Nothing known outs = known
+audience_after (Joins _) known outs = min most (known + 1)
+audience_after (Hears _ count) known outs = max (outs / max count 1) (known - known / 16)
