@@ -1,5 +1,5 @@
 -- What a link holds.
-use Rattle.std.specs.Prelude.{◌≡◌, ◌⊎◌, ◌==◌, ℕ, Bool, false, Option, Some, List, [], cond, refl, ⊤}
+use Rattle.std.specs.Prelude.{◌≡◌, ◌≤◌, ◌⊎◌, ◌==◌, ◌+◌, ℕ, length, Bool, false, Option, Some, List, [], cond, refl, ⊤}
 use Rattle.std.specs.Coded.{Coded, code_by, coded×, coded_bool, coded_list, coded_ℕ}
 use Rattle.websocket.specs.declared.protocol.config.Role.TheVariants.{Server}
 use Rattle.tungstenite.specs.Connection.{close_step}
@@ -77,3 +77,9 @@ module _ {S : Type 0} where
   -- An end that is Ok: the close was said, or the link had said its last before and stays as it is.
   abbrev pub IsEnded : (S → Option (List ℕ)) → CloseReason → Linked S → Linked S → Type 0
   IsEnded contents reason old new = Ends contents reason old new ⊎ (HasFailed old.phase × (new ≡ old))
+
+  -- What a link keeps: what is left of a message, and besides that no more than may wait to be sent, and a message that is not whole, with
+  -- what one read gives.
+  pub record Keeps (l : Linked S) (bytes : ℕ) : Type 0 where
+    pub least : length l.unfed ≤ bytes
+    pub most : bytes ≤ length l.unfed + (1048576 + (131072 + 4096))

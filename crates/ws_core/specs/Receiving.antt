@@ -1,11 +1,13 @@
 -- What one read of a link gives.
-use Rattle.std.specs.Prelude.{◌≡◌, ◌≢◌, ◌⊎◌, ◌++◌, ◌<◌, ◌≤◌, ℕ, List, [], Bool, false, Option, Some, Err, cond, option_map, ⊤}
+use Rattle.std.specs.Prelude.{◌≡◌, ◌≢◌, ◌⊎◌, ◌++◌, ◌<◌, ◌≤◌, ℕ, List, [], Bool, false, Option, None, Some, Err, cond, option_map, ⊤}
 use Rattle.std.specs.Io.KnownBytes.{Consumes}
 use Rattle.tungstenite.specs.CloseCode.{close_code_of}
 use Rattle.tungstenite.specs.Connection.{Connection, close_step, read_step}
 use Rattle.tungstenite.specs.Content.{Content, text, binary, ping, pong, close}
 use Rattle.tungstenite.specs.Failure.{of_frame}
 use Rattle.tungstenite.specs.Socket.{Socket, Run, Runs, EndsWith, Flushed, Quiet, Writes}
+use Rattle.tungstenite.specs.Socket.{Reads as ReadsSocket}
+use Rattle.tungstenite.specs.declared.error.Error.{Error as SocketError}
 use Rattle.websocket.specs.declared.error.Error.{Error}
 use Rattle.websocket.specs.declared.protocol.frame.coding.CloseCode.{CloseCode}
 use Rattle.ws_core.specs.Closing.{breach_code}
@@ -82,9 +84,9 @@ module _ {S : Type 0} where
     pub run : Runs old.conn (old.input ++ got) frames new.conn new.input
     pub stated : old.output ≡ [] → Consumes (remaining old.stream) (remaining new.stream) got
 
-  -- The next frame breaks the protocol or a limit, after others that end no message. The read of it failed, and left a socket on
-  -- which the close of that code was said (section 7.1.7), and nothing else.
-  pub record Breaks (contents : S → Option (List ℕ)) (old new : Socket S) : Type 0 where
+  -- A read of the socket failed, since the next frame breaks the protocol or a limit, after others that end no message. The bytes and
+  -- the socket that it left are those of the library's read.
+  pub record IsBreach (remaining : S → Option (List ℕ)) (old read : Socket S) (code : ℕ) : Type 0 where
     pub got : List ℕ
     pub frames : Run
     pub conn : Connection
@@ -93,27 +95,50 @@ module _ {S : Type 0} where
     pub quiet : Quiet frames
     pub fault : Error
     pub next : read_step conn input ≡ Err fault
-    pub code : ℕ
     pub code_is : breach_code (of_frame fault) ≡ Some code
+    pub failed : ReadsSocket remaining old read (Err (of_frame fault))
+
+  -- After a breach the close of its code was said (section 7.1.7), and nothing else.
+  pub record Breaks (remaining contents : S → Option (List ℕ)) (old new : Socket S) : Type 0 where
     pub read : Socket S
+    pub code : ℕ
+    pub breach : IsBreach remaining old read code
     pub said : Writes contents read new (close_step read.conn (Some (close_code_of code, [])))
 
-  -- The peer's close was read. Its answer (section 5.5.1) is in the socket then, and went to the stream as far as that takes it.
-  pub record Answers (remaining contents : S → Option (List ℕ)) (old new : Socket S) : Type 0 where
+  -- The peer's close was read.
+  pub record HearsClose (remaining : S → Option (List ℕ)) (old read : Socket S) : Type 0 where
     pub frames : Run
     pub frame : Option (CloseCode × List ℕ)
-    pub read : Socket S
     pub reads : Reads remaining old read frames
     pub ends : EndsWith frames (close frame)
+
+  -- A read failed, and the peer is not to blame: the stream failed or ended, or memory was refused. By the library's read no message came.
+  abbrev pub Stops : (S → Option (List ℕ)) → Socket S → Socket S → Type 0
+  Stops remaining old new = (fault : SocketError) × ReadsSocket remaining old new (Err fault) × (breach_code fault ≡ None)
+
+  -- Its answer (section 5.5.1) is in the socket then, and went to the stream as far as that takes it.
+  pub record Answers (remaining contents : S → Option (List ℕ)) (old new : Socket S) : Type 0 where
+    pub read : Socket S
+    pub heard : HearsClose remaining old read
     pub written : Flushed contents read new
+
+  -- Why a link is over after a read.
+  pub data Closes (remaining : S → Option (List ℕ)) (old new : Socket S) : Type 0 where
+    -- the read failed
+    stopped : Stops remaining old new → Closes remaining old new
+    -- memory was refused for the message that came
+    short : (frames : Run) (bytes : List ℕ) → Reads remaining old new frames → Carries frames bytes → Closes remaining old new
+    -- the peer closed, or broke the protocol, and what was to be said to it could not be written
+    unanswered : (read : Socket S) → HearsClose remaining old read → Closes remaining old new
+    untold : (read : Socket S) (code : ℕ) → IsBreach remaining old read code → Closes remaining old new
 
   -- what a read of the socket gave
   abbrev pub Hears : (S → Option (List ℕ)) → (S → Option (List ℕ)) → Socket S → Socket S → Received → Type 0
   Hears remaining contents old new (Bytes v) = (frames : Run) × Reads remaining old new frames × Carries frames v.items
   Hears remaining contents old new Skipped = (frames : Run) × Reads remaining old new frames × CarriesNothing frames
   Hears remaining contents old new Nothing = (frames : Run) × Reads remaining old new frames × Quiet frames
-  Hears remaining contents old new Failed = Breaks contents old new ⊎ Answers remaining contents old new
-  Hears remaining contents old new Closed = ⊤
+  Hears remaining contents old new Failed = Breaks remaining contents old new ⊎ Answers remaining contents old new
+  Hears remaining contents old new Closed = Closes remaining old new
 
   -- A link gives the next piece of a message that it has. Or else it reads, and gives the first piece of a message that came, or what
   -- else did.
@@ -126,8 +151,8 @@ module _ {S : Type 0} where
   Drops remaining old new (Bytes v) = ⊥
   Drops remaining old new Skipped = (frames : Run) × Reads remaining old new frames
   Drops remaining old new Nothing = (frames : Run) × Reads remaining old new frames × Quiet frames
-  Drops remaining old new Failed = ⊤
-  Drops remaining old new Closed = ⊤
+  Drops remaining old new Failed = HearsClose remaining old new ⊎ ((code : ℕ) × IsBreach remaining old new code)
+  Drops remaining old new Closed = Stops remaining old new
 
   -- What a read of a link does that has said its last. Some of that went to the stream, which was shut once nothing waited any more.
   -- What came was dropped without a look at it.

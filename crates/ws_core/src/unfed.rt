@@ -7,9 +7,9 @@ use std::alloc::{AllocError, Global};
 use std::marker::Model;
 use std::mem;
 
-/// How many bytes of a message a link gives at a time. A session may find some 190 frames in so many, and nobody else has a turn
+/// How many bytes of a message a link gives at a time. A session may find some 50 frames in so many, and nobody else has a turn
 /// meanwhile.
-const PIECE_BYTES: usize = 4_096;
+const PIECE_BYTES: usize = 1_024;
 
 /// The bytes of a whole message that are still to be fed. Contracts see these.
 #[derive(Drop)]

@@ -34,7 +34,7 @@ const CONTROL_BYTES: u64 = 131;
 /// `WouldBlock`; any other failure but `Interrupted` ends the link. Contracts see the socket, how far the link has come, and how many bytes
 /// were dropped after the close. They also see whether the stream has not taken all that it was last offered, and what is left of a message.
 ///
-/// A message is given in pieces of 4,096 bytes, one a call: the next message is read once all are.
+/// A message is given in pieces of 1,024 bytes, one a call: the next message is read once all are.
 ///
 /// A link drops what comes after the peer's close, and after the close that tells a peer that it broke the protocol. Its stream's writing
 /// side is shut once all is written. It drops bytes up to the stream's end, but no more than 16,777,216 (RFC 6455, section 7.1.1). For a
@@ -112,9 +112,8 @@ impl<S: Read + Write + Drop> WsLink<S> {
         self.socket.get_ref()
     }
 
-    /// Sends a frame as one message, as `Outgoing::send` does, whoever made it: for callers that have a link and no broker. What a desk
-    /// sends goes by the traits alone.
-    pub fn send_frame(&mut self, alloc: Global, frame: &Frame) -> Result<(), LinkFault>
+    // Sends a frame as one message. The traits call it, so that it is one that was released, or a notice.
+    fn send_frame(&mut self, alloc: Global, frame: &Frame) -> Result<(), LinkFault>
         requires { Writable frame.now }
         ensures sends { OnOk result (Sends S.contents (written frame.now) self.old self.new) }
         ensures refuses { IfErr result (Refuses self.old self.new) }
@@ -220,7 +219,7 @@ impl<S: Read + Write + Drop> Outgoing for WsLink<S> {
 impl<S: Read + Write + Ending + Drop> Link for WsLink<S> {
     ghost use Rattle.std.specs.Prelude.{◌≡◌, OnOk, IfErr};
     ghost use Rattle.frame_core.specs.Written.{written};
-    ghost use Rattle.ws_core.specs.Links.{IsEnded};
+    ghost use Rattle.ws_core.specs.Links.{IsEnded, Keeps};
     ghost use Rattle.ws_core.specs.Receiving.{Receives};
     ghost use Rattle.ws_core.specs.Sending.{Pings, Sends, Refuses};
 
@@ -245,13 +244,14 @@ impl<S: Read + Write + Ending + Drop> Link for WsLink<S> {
 
     // Both are counted for more than they are. The first has messages of up to 64 KiB that the stream has taken, until a flush; the second
     // has the heads of a message's fragments, while it isn't whole.
-    fn held(&self) -> u64 {
+    fn held(&self) -> u64
+        ensures { Keeps self.now result }
+    {
         let given = self.socket.get_ref().given();
         let most = (MESSAGE_BYTES + READ_BYTES) as u64;
         let unread = given.saturating_sub(self.whole).min(most);
-        self.unsent
-            .saturating_add(unread)
-            .saturating_add(self.unfed.len() as u64)
+        let unsent = self.unsent.min(WAITING_BYTES as u64);
+        (unsent + unread).saturating_add(self.unfed.len() as u64)
     }
 
     fn send_direct(&mut self, alloc: Global, notice: &Notice) -> Result<(), LinkFault>

@@ -1,7 +1,11 @@
 //! Does what a row says with a link, and shows what comes of it.
 
+ghost use Rattle.frame_core.specs.Writable.{Writable};
+
 use crate::frames::frames;
 use crate::wire::Wire;
+use claim_core::{Released, Ring};
+use command_core::Out;
 use frame_core::{Bytes, Frame, Headers, Verb, writable};
 use std::alloc::{AllocError, Global};
 use std::io::ErrorKind;
@@ -105,7 +109,22 @@ fn send(
     if !writable(&frame) {
         return Err(Fail::from("no frame to send"));
     }
-    Ok(link.send_frame(alloc, &frame))
+    let released = released(alloc, frame)?;
+    Ok(link.send(alloc, &released))
+}
+
+// An output that may leave, since its number is under the first mark of a ring.
+fn released(alloc: Global, frame: Frame) -> Result<Released, Fail>
+    requires { Writable frame }
+{
+    let (ring, mut seats, _flush) = Ring::<(), 1, 1, 1>::new(alloc, 1)?;
+    let Some(mut seat) = seats.pop() else {
+        return Err(Fail::from("no seat"));
+    };
+    match ring.release(&mut seat, Out::new(alloc, 0, 0, frame)?) {
+        Ok(released) => Ok(released),
+        Err(_) => Err(Fail::from("it may not leave")),
+    }
 }
 
 fn send_long(

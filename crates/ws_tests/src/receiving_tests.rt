@@ -165,7 +165,7 @@ const TOO_BIG: &[u8] = b"x\x88\x02\x03\xf1";
 #[test]
 fn a_message_may_have_131072_bytes_and_no_more(rt: HostRuntime) -> Result<(), Fail> {
     // The first piece, between two marks.
-    assert_eq!(rt; shown_of(rt.alloc(), 0x82, 131_072)?.len(), 4_098);
+    assert_eq!(rt; shown_of(rt.alloc(), 0x82, 131_072)?.len(), 1_026);
     assert_eq!(rt; shown_of(rt.alloc(), 0x02, 131_072)?.as_slice(), TOO_BIG);
     for length in [131_073, 1 << 62] {
         assert_eq!(rt; shown_of_head(rt.alloc(), length)?.as_slice(), TOO_BIG);
@@ -174,21 +174,21 @@ fn a_message_may_have_131072_bytes_and_no_more(rt: HostRuntime) -> Result<(), Fa
 }
 
 #[test]
-fn a_message_is_given_in_pieces_of_4096_bytes(rt: HostRuntime) -> Result<(), Fail> {
-    for (length, pieces) in [(4_096usize, 1usize), (4_097, 2), (8_192, 2), (10_000, 3)] {
+fn a_message_is_given_in_pieces_of_1024_bytes(rt: HostRuntime) -> Result<(), Fail> {
+    for (length, pieces) in [(1_024usize, 1usize), (1_025, 2), (2_048, 2), (10_000, 10)] {
         let mut payload = Vec::new(rt.alloc());
         for place in 0..length {
             payload.push(b'a' + (place % 26) as u8)?;
         }
         let input = frames(rt.alloc(), &[(0x82, payload.as_slice()), (0x82, b"-")])?;
         let mut expected = Vec::new(rt.alloc());
-        for piece in payload.as_slice().chunks(4_096) {
+        for piece in payload.as_slice().chunks(1_024) {
             expected.push(b'<')?;
             expected.extend_from_slice(piece)?;
             expected.push(b'>')?;
         }
         expected.extend_from_slice(b"<->")?;
-        let acts = [Do::Hear; 4];
+        let acts = [Do::Hear; 11];
         let seen = shown(
             rt.alloc(),
             input.as_slice(),
