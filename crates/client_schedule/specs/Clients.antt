@@ -1,5 +1,5 @@
 -- What contracts see of a worker's clients.
-use Rattle.std.specs.Prelude.{◌≡◌, ◌||◌, ◌+◌, ◌-◌, ◌^◌, not, ℕ, Bool, true, false, Option, Some, None, MatchOption, cond, length, min, option_map, suc, zero}
+use Rattle.std.specs.Prelude.{◌≡◌, ◌≢◌, ◌||◌, ◌+◌, ◌-◌, ◌^◌, not, ℕ, Bool, true, false, Option, Some, None, MatchOption, cond, length, min, option_map, suc, zero}
 use Rattle.std.specs.Option.{is_some}
 use Rattle.desk_core.specs.declared.turned.Turned.{Turned}
 use Rattle.desk_core.specs.declared.turned.Next.{Next}
@@ -84,9 +84,15 @@ in_turn Away = Away
 abbrev pub begun : Client → Client
 begun client = record client { standing = in_turn client.standing; is_short = false }
 
--- that client's turn has begun
-abbrev pub Begins : ℕ → Clients → Clients → Type 0
-Begins n old new = client_at n new ≡ option_map begun (client_at n old)
+-- all other clients stay as they are
+abbrev pub OthersStay : ℕ → Clients → Clients → Type 0
+OthersStay n old new = (other : ℕ) → other ≢ n → client_at other new ≡ client_at other old
+
+-- That client's turn has begun. Nothing else has changed but the lines.
+pub record Begins (n : ℕ) (old new : Clients) : Type 0 where
+  pub client : client_at n new ≡ option_map begun (client_at n old)
+  pub others : OthersStay n old new
+  pub rest : new ≡ record old { all = new.all; lines = new.lines }
 
 -- so many milliseconds later; if no clock can tell that, a moment that does not come
 abbrev pub later : ℕ → ℕ → ℕ
@@ -140,11 +146,21 @@ retry_by _ retry now = retry
 abbrev pub IsLookedAtBy : ℕ → Next → Deadlines → ℕ → Clients → Clients → Type 0
 IsLookedAtBy n next p now old new = (at : ℕ) × LooksBy next p now at × (new.timers ≡ with_earlier n at old.timers)
 
--- after a turn a client is waited for as the turn says; a client that is gone is not waited for
+-- memory was refused in a turn that came to this
+abbrev pub is_refused : Next → Bool
+is_refused Memory = true
+is_refused _ = false
+
+-- a client after a turn, if its socket has taken so many bytes
+abbrev pub client_after : Turned → ℕ → ℕ → Client → Client
+client_after turned taken now client = record client { deadlines = waited_for turned taken now client; is_short = is_refused turned.next }
+
+-- After a turn a client is waited for as the turn says, and all others stay. A client that is gone is not waited for.
 pub record IsWaitedFor (n : ℕ) (turned : Turned) (taken now : ℕ) (old new : Clients) : Type 0 where
   pub timers : MatchOption (client_at n old) (new.timers ≡ old.timers) (λ client. IsLookedAtBy n turned.next (waited_for turned taken now client) now old new)
   pub retry : MatchOption (client_at n old) (new.retry ≡ old.retry) (λ client. new.retry ≡ retry_by turned.next old.retry now)
-  pub client : MatchOption (client_at n old) (new.all ≡ old.all) (λ client. option_map (λ (c : Client). c.deadlines) (client_at n new) ≡ Some (waited_for turned taken now client))
+  pub client : MatchOption (client_at n old) (new.all ≡ old.all) (λ client. Updates old.all new.all n (Some (client_after turned taken now client)))
+  pub reach : new.reach ≡ old.reach
 
 -- what is known of a client once what was due is done
 abbrev pub done_by : Due → ℕ → Deadlines → Deadlines
@@ -161,7 +177,7 @@ moment_of (dues.In millis) now = later now millis
 -- This is due of a client. Each ping counts, and the client is looked at next when something is due then.
 pub record ComesDue (n : ℕ) (phase : Phase) (now : ℕ) (due : Due) (old new : Clients) (client : Client) : Type 0 where
   pub is : IsDue phase client.deadlines now due
-  pub done : option_map (λ (c : Client). c.deadlines) (client_at n new) ≡ Some (done_by due now client.deadlines)
+  pub done : Updates old.all new.all n (Some (record client { deadlines = done_by due now client.deadlines }))
   pub then : Due
   pub next : IsDue phase (done_by due now client.deadlines) now then
   pub timers : new.timers ≡ with_moment n (moment_of then now) old.timers
@@ -183,7 +199,7 @@ is_short (Some client) = client.is_short
 
 -- A client was refused: it goes on by itself, it is waited for as one whose close is, and it is looked at now.
 pub record Parts (n : ℕ) (farewell : Farewell (ReadBudget TcpStream)) (now : ℕ) (old new : Clients) (client : Client) : Type 0 where
-  pub all : client_at n new ≡ Some (record client { standing = Refused farewell; deadlines = parting_by now client.deadlines })
+  pub all : Updates old.all new.all n (Some (record client { standing = Refused farewell; deadlines = parting_by now client.deadlines }))
   pub timers : new.timers ≡ with_moment n now old.timers
   pub same : new ≡ record old { all = new.all; timers = new.timers; lines = going_on n old.lines }
 

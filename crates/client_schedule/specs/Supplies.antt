@@ -15,6 +15,13 @@ use Rattle.client_schedule.specs.declared.supply.Told.TheVariants.{Nothing, Byte
 abbrev pub told_by : Event → Told
 told_by event = cond (is_read_closed event) End (cond (is_write_closed event) End (cond (is_error event) End (cond (is_readable event) Bytes Nothing)))
 
+-- what it has told since the last read, once it has told this after that: an end stays, and so do bytes unless an end comes
+abbrev pub told_after : Told → Told → Told
+told_after End told = End
+told_after Bytes End = End
+told_after Bytes _ = Bytes
+told_after Nothing told = told
+
 -- a read does not ask it
 abbrev pub is_dry : Supply → Bool
 is_dry Unknown = false

@@ -93,6 +93,7 @@ pub struct Clients {
 
 impl Clients {
     ghost use Rattle.client_schedule.specs.Clients.{Admits, Begins, IsEmpty, Removes, client_at, standing_at};
+    ghost use Rattle.slab.specs.Slab.{Updates};
     ghost use Rattle.client_schedule.specs.Turns.{after_let_in, gone_on, let_in, woken};
 
     /// None yet.
@@ -210,6 +211,7 @@ impl Clients {
         ensures rest { self.new.lines ≡ record self.old.lines { ready = self.new.lines.ready; let_in = None } }
         ensures whose { IfSome result (λ turn. turn.1 ≡ standing_at turn.0 self.old) }
         ensures begins { IfSome result (λ turn. Begins turn.0 self.old self.new) }
+        ensures nobody { IsNone result → self.new ≡ record self.old { lines = self.new.lines } }
     {
         let number = self.lines.next()?;
         Some((number, self.begin_turn(number)))
@@ -222,6 +224,7 @@ impl Clients {
         ensures rest { self.new.lines ≡ record self.old.lines { again = self.new.lines.again; let_in = None } }
         ensures whose { IfSome result (λ turn. turn.1 ≡ standing_at turn.0 self.old) }
         ensures begins { IfSome result (λ turn. Begins turn.0 self.old self.new) }
+        ensures nobody { IsNone result → self.new ≡ record self.old { lines = self.new.lines } }
     {
         let number = self.lines.next_again()?;
         Some((number, self.begin_turn(number)))
@@ -234,6 +237,7 @@ impl Clients {
         ensures after { self.new.lines ≡ after_let_in mark self.old.lines }
         ensures whose { IfSome result (λ turn. turn.1 ≡ standing_at turn.0 self.old) }
         ensures begins { IfSome result (λ turn. Begins turn.0 self.old self.new) }
+        ensures nobody { IsNone result → self.new ≡ record self.old { lines = self.new.lines } }
     {
         let number = self.lines.let_in(mark)?;
         Some((number, self.begin_turn(number)))
@@ -253,13 +257,23 @@ impl Clients {
 
     /// A client is now where it is said to be. It goes on by itself if more of its bytes may be there.
     pub fn stand(&mut self, number: usize, standing: Standing, has_rest: bool)
-        ensures there { MatchOption (client_at number self.old) (self.new.all ≡ self.old.all) (λ _. option_map (λ client. client.standing) (client_at number self.new) ≡ Some standing) }
+        ensures there { MatchOption (client_at number self.old) (self.new.all ≡ self.old.all) (λ client. Updates self.old.all self.new.all number (Some (record client { standing = standing }))) }
         ensures rest { self.new ≡ record self.old { all = self.new.all; lines = gone_on has_rest number self.old.lines } }
     {
-        if let Some(client) = self.all.get_mut(number) {
-            drop(mem::replace(&mut client.standing, standing));
-        }
+        self.place(number, standing);
         self.go_on(number, has_rest);
+    }
+
+    // A client is now where it is said to be.
+    fn place(&mut self, number: usize, standing: Standing)
+        ensures there { MatchOption (client_at number self.old) (self.new.all ≡ self.old.all) (λ client. Updates self.old.all self.new.all number (Some (record client { standing = standing }))) }
+        ensures rest { self.new ≡ record self.old { all = self.new.all } }
+    {
+        let Some(client) = self.all.get_mut(number) else {
+            drop(standing);
+            return;
+        };
+        drop(mem::replace(&mut client.standing, standing));
     }
 
     // Has a client go on by itself if its last turn left bytes that may be there.

@@ -6,7 +6,7 @@ ghost use Rattle.std.specs.Io.KnownBytes.{Keeps, ReadConsumes, WriteAppends};
 ghost use Rattle.client_schedule.specs.declared.read_budget.TheConstants.{FRAMES, READS};
 
 use crate::frames::{Place, front_of};
-use crate::supply::{Supply, Told, is_dry, supply_behind, supply_with};
+use crate::supply::{Supply, Told, is_dry, supply_behind, supply_with, told_after};
 use mio::net::TcpStream;
 use std::alloc::{AllocError, Global};
 use std::cell::Cell;
@@ -108,10 +108,7 @@ impl<S: Drop> ReadBudget<S> {
 
     /// The poll has told this of the socket. The next read knows it. An end that was told stays.
     pub fn tell(&self, told: Told) {
-        match (self.told.get(), told) {
-            (Told::End, _) | (_, Told::Nothing) => {}
-            (_, told) => self.told.set(told),
-        }
+        self.told.set(told_after(self.told.get(), told));
     }
 }
 

@@ -1,7 +1,7 @@
 //! What there may be to read of a socket.
 
 ghost use Rattle.std.specs.Prelude.{◌≡◌};
-ghost use Rattle.client_schedule.specs.Supplies.{drained, is_dry, leaves_nothing, told_by, with_told};
+ghost use Rattle.client_schedule.specs.Supplies.{drained, is_dry, leaves_nothing, told_after, told_by, with_told};
 
 use mio::event::Event;
 use std::io;
@@ -40,6 +40,16 @@ pub fn told_by(event: &Event) -> Told
         Told::Bytes
     } else {
         Told::Nothing
+    }
+}
+
+/// What the poll has told since the last read, once it has told this after that. An end that was told stays.
+pub(crate) fn told_after(before: Told, told: Told) -> Told
+    ensures { result ≡ told_after before told }
+{
+    match (before, told) {
+        (Told::End, _) | (_, Told::Nothing) => before,
+        (_, told) => told,
     }
 }
 

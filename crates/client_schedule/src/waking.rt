@@ -2,7 +2,7 @@
 
 ghost use Rattle.std.specs.Prelude.{◌≡◌, MatchOption, cond, min, nat_lt, option_map};
 ghost use Rattle.client_schedule.specs.declared.timers.TheConstants.{NEVER};
-ghost use Rattle.client_schedule.specs.Clients.{ComesDue, IsWaitedFor, LooksBy, Parts, client_at, has_more, heard_greeting, is_seated, is_short, moment_of, parts_now, standing_at, waited_by, woken_short};
+ghost use Rattle.client_schedule.specs.Clients.{ComesDue, IsWaitedFor, LooksBy, OthersStay, Parts, client_at, has_more, heard_greeting, is_seated, is_short, moment_of, parts_now, standing_at, waited_by, woken_short};
 
 use crate::clients::{Client, Clients, Standing};
 use crate::deadlines::{Due, Phase};
@@ -22,6 +22,7 @@ impl Clients {
     /// whether it sits at the desk: then its stream is to hear it there.
     pub fn hear_of(&mut self, number: usize, told: Told, now: u64) -> bool
         ensures client { client_at number self.new ≡ option_map (heard_greeting told now) (client_at number self.old) }
+        ensures others { OthersStay number self.old self.new }
         ensures rest { self.new ≡ record self.old { all = self.new.all; lines = woken number self.old.lines } }
         ensures seated { result ≡ is_seated (standing_at number self.old) }
     {

@@ -1,9 +1,8 @@
-use Rattle.std.proofs.Common.{MatchOption, ◌∙◌, Some, ap, option_map, rules, subst}
-use Rattle.slab.specs.Slab.{with_value}
+use Rattle.std.proofs.Common.{MatchOption, Some, rules, subst}
+use Rattle.slab.specs.Slab.{Updates, with_value}
 use Rattle.client_schedule.specs.Clients.{ComesDue}
 use Rattle.client_schedule.specs.declared.clients.Client.{Client}
-use Rattle.client_schedule.specs.declared.deadlines.Deadlines.{Deadlines}
-use Rattle.client_schedule.proofs.Holding.{changed}
+use Rattle.client_schedule.proofs.Holding.{updated}
 use Rattle.client_schedule.proofs.clients.Clients.come_due.Goals as goal
 
 pub returns-clause-due : goal.returns-clause-due
@@ -16,8 +15,8 @@ returns-clause-due c =
     (record {
       is = c.come_due-due.ensures.due;
       done =
-          ap (option_map (λ (client : Client). client.deadlines)) (changed old.all.slots c.args.number c.in-Some.client.now c.come_due-due.new.self c.in-Some.ensures.value)
-          ∙ ap (λ (client : Client). Some client.deadlines) c.come_due-due.ensures.done;
+          subst (λ (client : Client). Updates old.all (with_value old.all c.args.number c.come_due-due.new.self) c.args.number (Some client)) c.come_due-due.ensures.done
+          (updated old.all c.args.number c.in-Some.client.now c.come_due-due.new.self c.in-Some.ensures.value);
       then = c.due-then.result;
       next = search rules;
       timers = search rules;
