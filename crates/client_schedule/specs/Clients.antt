@@ -1,5 +1,5 @@
 -- What contracts see of a worker's clients.
-use Rattle.std.specs.Prelude.{◌≡◌, ◌≢◌, ◌||◌, ◌+◌, ◌-◌, ◌^◌, not, ℕ, Bool, true, false, Option, Some, None, MatchOption, cond, length, min, option_map, suc, zero}
+use Rattle.std.specs.Prelude.{◌≡◌, ◌≢◌, ◌||◌, ◌+◌, ◌-◌, ◌^◌, not, ℕ, Bool, true, false, [], Option, Some, None, MatchOption, cond, length, min, option_map, suc, zero}
 use Rattle.std.specs.Option.{is_some}
 use Rattle.desk_core.specs.declared.turned.Turned.{Turned}
 use Rattle.desk_core.specs.declared.turned.Next.{Next}
@@ -15,7 +15,7 @@ use Rattle.client_schedule.specs.declared.supply.Told.TheVariants.{Bytes, End}
 use Rattle.client_schedule.specs.declared.clients.Standing.{Standing}
 use Rattle.client_schedule.specs.declared.clients.Standing.TheVariants.{Greeting, Refused, Seated, Away}
 use Rattle.client_schedule.specs.declared.lines.Lines.{Lines}
-use Rattle.slab.specs.Slab.{get, Updates}
+use Rattle.slab.specs.Slab.{get, slab_len, Updates}
 use Rattle.client_schedule.specs.Timers.{with_earlier, with_moment}
 use Rattle.client_schedule.specs.Turns.{IsNobody, going_on, woken}
 use Rattle.client_schedule.specs.declared.clients.Client.{Client}
@@ -44,12 +44,13 @@ pub record Admits (now : ℕ) (old new : Clients) (client : Client) : Type 0 whe
   pub timers : new.timers ≡ with_moment old.all.vacant_key now old.timers
   pub retry : new.retry ≡ old.retry
 
--- a client has gone, and is not to be looked at; in lines its number may stand yet
+-- A client has gone, and is not to be looked at; in lines its number may stand yet. Once there is none, no room is kept for any.
 pub record Removes (old new : Clients) (n : ℕ) : Type 0 where
   pub all : Updates old.all new.all n None
   pub lines : new.lines ≡ old.lines
   pub timers : new.timers ≡ with_moment n NEVER old.timers
   pub retry : new.retry ≡ old.retry
+  pub nothing : slab_len new.all ≡ 0 → new.all.slots ≡ []
 
 -- it sits at the desk
 abbrev pub is_seated : Standing → Bool

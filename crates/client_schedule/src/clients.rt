@@ -139,11 +139,14 @@ impl Clients {
         Ok(())
     }
 
-    /// Lets a client go.
+    /// Lets a client go. Once there is none, no room is kept for any.
     pub fn remove(&mut self, number: usize)
         ensures { Removes self.old self.new number }
     {
         drop(self.all.try_remove(number));
+        if self.all.is_empty() {
+            self.all.shrink_to_fit();
+        }
         self.timers.set(number, NEVER);
     }
 
