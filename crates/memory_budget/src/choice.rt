@@ -1,6 +1,6 @@
 //! The choice of a client that is given up.
 
-ghost use Rattle.std.specs.Prelude.{◌≡◌, [], ℕ, IfSome, IsNone, IsTrue, ◌↔◌};
+ghost use Rattle.std.specs.Prelude.{◌≡◌, ◌+◌, ◌-◌, ◌^◌, [], ℕ, max, min, IfSome, IsNone, IsTrue, ◌↔◌};
 ghost use Rattle.memory_budget.specs.Budgets.{HasFairShare, IsGivenUp, IsMost};
 
 /// What is known of all clients of a server. Bytes are those that a server counts for its clients.
@@ -33,6 +33,17 @@ impl Holdings {
             Some(at)
         } else {
             None
+        }
+    }
+
+    /// The same, if so many clients more sit at a desk, and another decides for these, of which one holds so many bytes and none holds more.
+    pub fn with(self, clients: u64, most: u64) -> Holdings
+        ensures { result ≡ record self { clients = min (self.clients + clients) (2 ^ 64 - 1); elsewhere = max self.elsewhere most } }
+    {
+        Holdings {
+            clients: self.clients.saturating_add(clients),
+            elsewhere: self.elsewhere.max(most),
+            ..self
         }
     }
 

@@ -4,6 +4,8 @@
 
 mod choice;
 mod held;
+mod sum;
 
 pub use choice::Holdings;
 pub use held::{Held, PLACES};
+pub use sum::{Change, passes};
