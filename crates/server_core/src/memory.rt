@@ -1,7 +1,7 @@
 //! How much memory all clients hold together.
 
 use crate::mailbox::Mailbox;
-use memory_budget::Holdings;
+use memory_budget::{Change, Holdings, passes};
 use std::sync::Arc;
 use std::sync::atomic::{AtomicU64, Ordering};
 
@@ -38,33 +38,37 @@ impl Memory {
     /// Counts that a client that held so many bytes now holds so many. Answers whether by this all together hold more than they may, and
     /// did not before.
     pub(crate) fn count(&self, held: u64, holds: u64) -> bool {
-        if holds < held {
-            self.total.fetch_sub(held - holds, Ordering::SeqCst);
-            return false;
+        match Change::of(held, holds) {
+            Change::Less(bytes) => {
+                self.total.fetch_sub(bytes, Ordering::SeqCst);
+                false
+            }
+            Change::More(bytes) => {
+                let before = self.total.fetch_add(bytes, Ordering::SeqCst);
+                passes(self.budget, before, bytes)
+            }
         }
-        let more = holds - held;
-        let before = self.total.fetch_add(more, Ordering::SeqCst);
-        before <= self.budget && before.saturating_add(more) > self.budget
     }
 
     /// What is known of all clients by the desk of that number. Of clients that hold the same, one at a desk of a lower number counts for
     /// a byte more. So one of them is given up, and not one of each desk.
     pub(crate) fn holdings(&self, desk: usize) -> Holdings {
-        let mut elsewhere = 0u64;
-        let mut clients = 0u64;
+        let mut holdings = Holdings {
+            budget: self.budget,
+            total: 0,
+            clients: 0,
+            elsewhere: 0,
+        };
         for (number, mailbox) in self.mailboxes.iter().enumerate() {
-            clients = clients.saturating_add(mailbox.clients());
-            if number != desk {
-                let most = mailbox.most().saturating_add(u64::from(number < desk));
-                elsewhere = elsewhere.max(most);
-            }
+            let most = if number == desk {
+                0
+            } else {
+                mailbox.most().saturating_add(u64::from(number < desk))
+            };
+            holdings = holdings.with(mailbox.clients(), most);
         }
         // The total is read last: a desk that gives somebody up lowers it before it says that its most is less.
-        Holdings {
-            budget: self.budget,
-            total: self.total.load(Ordering::SeqCst),
-            clients,
-            elsewhere,
-        }
+        holdings.total = self.total.load(Ordering::SeqCst);
+        holdings
     }
 }
