@@ -1,6 +1,7 @@
 #!/usr/bin/env python3
 """Looks for a wake-up that is lost: 640 clients send with random pauses, some to a topic that others hear, and nobody may wait over a second, for a
-receipt or for a message. Needs Python 3 alone.
+receipt or for a message. Some send a burst, of which only the last SEND asks for a receipt: it waits for room in its window, which the mark gives. Needs
+Python 3 alone.
 
     python3 tests/program/waits.py [PROGRAM] [--minutes N] [--clients N] [--seed N]
 
@@ -23,6 +24,8 @@ from lib.stomp_client import Client
 LONGEST_WAIT, LONGEST_PAUSE = 1.0, 4.0
 # Where a journal in memory is, and what has to be free there, in bytes.
 MEMORY, ROOM_FOR_JOURNAL = pathlib.Path("/dev/shm"), 1 << 30
+# How many SENDs come before one with a receipt. A desk may have 16 under way.
+BURSTS = (0, 0, 0, 1, 15, 16, 40)
 # A topic's clients: one sends at a time, and all hear it.
 ROOM = 4
 
@@ -40,6 +43,8 @@ class Talker:
     def send(self, sent):
         self.count += 1
         name = f"{self.number} {self.count}"
+        for _ in range(self.chance.choice(BURSTS)):
+            self.client.send("SEND", [("destination", "/topic/none")], name)
         sent[name] = self.waits_since = time.monotonic()
         self.client.send("SEND", [("destination", self.topic), ("receipt", name)], name)
 
