@@ -13,7 +13,7 @@ use Rattle.session_core.specs.declared.act.CloseCode.TheVariants.{NormalClosure,
 use Rattle.session_core.specs.declared.phase.Phase.TheVariants.{Failed}
 use Rattle.session_core.specs.Sessions.{HasForm, Hearing, Hears, fresh, is_held}
 use Rattle.connection_core.specs.Conversations.{IsNext, after, asked, over, said_of}
-use Rattle.connection_core.specs.Stages.{rested}
+use Rattle.connection_core.specs.Stages.{given_up, lost, rested}
 use Rattle.connection_core.specs.Tasks.{Tasks, tasks, all_of}
 use Rattle.connection_core.specs.declared.footprint.Part.{Part}
 use Rattle.connection_core.specs.declared.said.Said.{Said}
@@ -53,6 +53,18 @@ pub record HearsBytes (old : ConnectionValue) (bytes : List ℕ) (new : Connecti
 pub record Fails (old new : ConnectionValue) : Type 0 where
   pub failed : new.session.phase ≡ Failed (is_held old.session.phase)
   pub same : new ≡ record old { session = new.session; stage = GivingUp }
+
+-- its link is over
+abbrev pub with_lost : ConnectionValue → ConnectionValue
+with_lost c = record c { stage = lost c.stage }
+
+-- it is given up
+abbrev pub with_given_up : ConnectionValue → ConnectionValue
+with_given_up c = record c { stage = given_up c.stage }
+
+-- its link is over, and what its client has asked for and still waits is dropped
+abbrev pub evicted : ConnectionValue → ConnectionValue
+evicted c = record c { acts = tasks None []; stage = lost c.stage }
 
 -- it is lost, which the broker is to hear
 abbrev pub IsLost : Stage → Type 0

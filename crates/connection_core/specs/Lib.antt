@@ -4,3 +4,4 @@ pub mod Footprints
 pub mod Histories
 pub mod Stages
 pub mod Tasks
+pub mod Weights

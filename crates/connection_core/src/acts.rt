@@ -1,43 +1,53 @@
 //! What a session has asked for that is still to be done.
 
-ghost use Rattle.std.specs.Prelude.{◌≡◌, ◌≢◌, ◌++◌, [], None, Some, true, false, option_to_list, IfSome};
+ghost use Rattle.std.specs.Prelude.{◌≡◌, ◌≢◌, ◌≤◌, ◌<◌, ◌+◌, ◌-◌, ◌^◌, ◌++◌, [], None, Some, true, false, option_to_list, IfSome};
 ghost use Rattle.std.specs.List.{AllByRecursion};
+ghost use Rattle.std.specs.VecDeque.{deque_capacity};
 ghost use Rattle.session_core.specs.Sessions.{HasForm};
 ghost use Rattle.connection_core.specs.Tasks.{tasks, all_of};
+ghost use Rattle.connection_core.specs.Weights.{IsWeight};
 
+use crate::weights::{weigh, weigh_all};
 use session_core::Act;
 use std::alloc::Global;
 use std::collections::VecDeque;
 use std::marker::Model;
 
 /// The acts of a session that are still to be done, in their order, each in its form. Contracts see the one that was tried
-/// and is to be tried again, and those after it.
+/// and is to be tried again, and those after it. The list of these is given back once it is empty.
 #[derive(Drop)]
 pub(crate) struct Acts {
     again: Option<Act>,
     rest: VecDeque<Act>,
+    // What they count for.
+    bytes: u64,
 }
 
 impl Model for Acts {
-    ghost use Rattle.std.specs.Prelude.{◌++◌};
+    ghost use Rattle.std.specs.Prelude.{◌≡◌, ◌++◌, []};
     ghost use Rattle.std.specs.List.{AllByRecursion};
+    ghost use Rattle.std.specs.VecDeque.{deque_capacity};
     ghost use Rattle.session_core.specs.Sessions.{HasForm};
     ghost use Rattle.connection_core.specs.Tasks.{Tasks, tasks, all_of};
+    ghost use Rattle.connection_core.specs.Weights.{IsWeight};
 
     ghost Value = { Tasks };
 
     ghost view = { λ a. tasks a.again a.rest.items };
 
-    ghost invariant = { λ a. AllByRecursion HasForm (all_of (tasks a.again a.rest.items)) };
+    ghost invariant = { λ a. AllByRecursion HasForm (all_of (tasks a.again a.rest.items)) × IsWeight a.bytes (all_of (tasks a.again a.rest.items)) × (a.rest.items ≡ [] → deque_capacity a.rest ≡ 0) };
 }
 
 impl Acts {
     pub(crate) fn none(alloc: Global) -> Acts
         ensures { result ≡ tasks None [] }
     {
+        let mut rest = VecDeque::new(alloc);
+        give_back(&mut rest);
         Acts {
             again: None,
-            rest: VecDeque::new(alloc),
+            rest,
+            bytes: 0,
         }
     }
 
@@ -46,9 +56,13 @@ impl Acts {
         requires { AllByRecursion HasForm acts.items }
         ensures { result ≡ tasks None acts.items }
     {
+        let bytes = weigh_all(acts.as_slice());
+        let mut rest = VecDeque::from(acts);
+        give_back(&mut rest);
         Acts {
             again: None,
-            rest: VecDeque::from(acts),
+            rest,
+            bytes,
         }
     }
 
@@ -59,16 +73,22 @@ impl Acts {
         self.again.is_none() && self.rest.is_empty()
     }
 
+    // What they count for, or 2^64 - 1 if that is less.
+    pub(crate) fn bytes(&self) -> u64
+        ensures { IsWeight result (all_of self.now) }
+    {
+        self.bytes
+    }
+
     pub(crate) fn next(&mut self) -> Option<Act>
         ensures next { all_of self.old ≡ option_to_list result ++ all_of self.new }
         ensures none { result ≡ None → all_of self.old ≡ [] }
         ensures first { self.new.again ≡ None }
         ensures form { IfSome result HasForm }
     {
-        match self.again.take() {
-            Some(act) => Some(act),
-            None => self.rest.pop_front(),
-        }
+        let act = take_first(&mut self.again, &mut self.rest)?;
+        self.bytes = less(self.bytes, weigh(&act));
+        Some(act)
     }
 
     // Puts back the act that came last, to be the next again.
@@ -77,6 +97,43 @@ impl Acts {
         requires first { self.old.again ≡ None }
         ensures { self.new ≡ record self.old { again = Some act } }
     {
+        self.bytes = self.bytes.saturating_add(weigh(&act));
         drop(self.again.replace(act));
     }
+}
+
+// The first of all, if there is one. The list is given back with its last.
+fn take_first(again: &mut Option<Act>, rest: &mut VecDeque<Act>) -> Option<Act>
+    ensures next { all_of (tasks again.old rest.old.items) ≡ option_to_list result ++ all_of (tasks again.new rest.new.items) }
+    ensures none { result ≡ None → all_of (tasks again.old rest.old.items) ≡ [] }
+    ensures first { again.new ≡ None }
+    ensures empty { rest.new.items ≡ [] → deque_capacity rest.new ≡ 0 }
+{
+    let act = match again.take() {
+        Some(act) => Some(act),
+        None => rest.pop_front(),
+    };
+    give_back(rest);
+    act
+}
+
+// Gives the memory of an empty list back.
+fn give_back(rest: &mut VecDeque<Act>)
+    ensures same { rest.new.items ≡ rest.old.items }
+    ensures empty { rest.new.items ≡ [] → deque_capacity rest.new ≡ 0 }
+{
+    if rest.is_empty() {
+        rest.shrink_to_fit();
+    }
+}
+
+// What is left of the sum: one that has reached 2^64 - 1 stays.
+fn less(bytes: u64, of: u64) -> u64
+    ensures exact { of ≤ bytes → bytes < 2 ^ 64 - 1 → result + of ≡ bytes }
+    ensures full { bytes ≡ 2 ^ 64 - 1 → result ≡ bytes }
+{
+    if bytes == u64::MAX {
+        return bytes;
+    }
+    bytes.saturating_sub(of)
 }

@@ -45,17 +45,18 @@ impl Model for Connection {
 }
 
 impl Connection {
-    ghost use Rattle.std.specs.Prelude.{◌<◌, ◌≤◌, ◌++◌, [], List, ℕ, Some, None, IfSome, OnOk, OnErr, true, false};
+    ghost use Rattle.std.specs.Prelude.{◌<◌, ◌≤◌, ◌+◌, ◌-◌, ◌^◌, ◌++◌, min, [], List, ℕ, Some, None, IfSome, OnOk, OnErr, true, false};
     ghost use Rattle.session_core.specs.declared.act.Act.{Act};
     ghost use Rattle.session_core.specs.declared.act.Act.TheVariants as acts;
     ghost use Rattle.session_core.specs.Sessions.{HasForm, held_in};
-    ghost use Rattle.connection_core.specs.Connections.{Asks, Fails, HasWantedForm, HearsBytes, IsSent, Listens, Takes, Wants, closed_by, unheard, with_appended};
+    ghost use Rattle.connection_core.specs.Connections.{Asks, Fails, HasWantedForm, HearsBytes, IsSent, Listens, Takes, Wants, closed_by, evicted, unheard, with_appended, with_given_up, with_lost};
     ghost use Rattle.connection_core.specs.Conversations.{number_in, over};
     ghost use Rattle.connection_core.specs.Footprints.{charged, total};
     ghost use Rattle.connection_core.specs.declared.footprint.TheConstants.{SESSION_BYTES};
     ghost use Rattle.connection_core.specs.Histories.{HasHeard, Went};
-    ghost use Rattle.connection_core.specs.Stages.{given_up, lost, parted, stopped};
-    ghost use Rattle.connection_core.specs.Tasks.{tasks};
+    ghost use Rattle.connection_core.specs.Stages.{given_up, parted, stopped};
+    ghost use Rattle.connection_core.specs.Tasks.{all_of, tasks};
+    ghost use Rattle.connection_core.specs.Weights.{IsWeight, weight_of_all};
     ghost use Rattle.connection_core.specs.declared.stage.Stage.TheVariants.{Closing};
     ghost use Rattle.connection_core.specs.declared.ended.Ended.TheVariants as ended;
 
@@ -96,11 +97,20 @@ impl Connection {
         self.stage == Stage::Running && self.acts.is_empty()
     }
 
-    /// How many bytes it keeps of what its client said: those of the frame that isn't finished, and of the members of open transactions.
+    /// How many bytes it keeps of what its client said: those of the frame that isn't finished, of the members of open transactions, and
+    /// what `waiting` says. 2^64 - 1 if they are more.
     pub fn held(&self) -> u64
-        ensures { held_in self.now.session.phase ≤ result }
+        ensures { min (held_in self.now.session.phase + weight_of_all (all_of self.now.acts)) (2 ^ 64 - 1) ≤ result }
     {
-        self.session.held()
+        self.session.held().saturating_add(self.acts.bytes())
+    }
+
+    /// How many bytes its acts count for that are still to be done: 512 for each, its record, and 128 for each header. 2^64 - 1 if they
+    /// are more.
+    pub fn waiting(&self) -> u64
+        ensures { IsWeight result (all_of self.now.acts) }
+    {
+        self.acts.bytes()
     }
 
     /// Hears the next bytes of its client. If memory is refused, the connection is given up, and nothing that these bytes ask for is
@@ -135,14 +145,14 @@ impl Connection {
 
     /// Its link is over.
     pub fn lose(&mut self)
-        ensures { self.new ≡ record self.old { stage = lost self.old.stage } }
+        ensures { self.new ≡ with_lost self.old }
     {
         self.stage = self.stage.lost();
     }
 
     /// It is to be given up: its outbox was cut, or its client takes too long.
     pub fn give_up(&mut self)
-        ensures { self.new ≡ record self.old { stage = given_up self.old.stage } }
+        ensures { self.new ≡ with_given_up self.old }
     {
         self.stage = self.stage.given_up();
     }
@@ -171,6 +181,15 @@ impl Connection {
     {
         drop(mem::replace(&mut self.acts, Acts::none(alloc)));
         self.stage = self.stage.given_up();
+    }
+
+    /// It is evicted, since its server needs the memory: what its client has asked for and still waits is dropped, as when its link is
+    /// over. No memory is taken.
+    pub fn evict(&mut self, alloc: Global)
+        ensures { self.new ≡ evicted self.old }
+    {
+        drop(mem::replace(&mut self.acts, Acts::none(alloc)));
+        self.stage = self.stage.lost();
     }
 
     /// The broker takes nothing more.

@@ -9,6 +9,7 @@ mod footprint;
 mod progress;
 mod said;
 mod stage;
+mod weights;
 
 pub use connection::Connection;
 pub use ended::Ended;
@@ -16,3 +17,4 @@ pub use footprint::SESSION_BYTES;
 pub use progress::{Progress, Role};
 pub use said::{Said, Wanted};
 pub use stage::Stage;
+pub use weights::weigh_op;
