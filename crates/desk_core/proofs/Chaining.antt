@@ -35,13 +35,13 @@ module _ {B L : Type 0} (sent : L → Option (List (List ℕ))) (received : L �
       (turn.1.is, turn.1.sits, subst (λ (w : Seated B L). Heeds received w.slot w.link turn.1.is.slot turn.1.is.link turn.1.effects) (one_seated _ _ _ turn.1.sat sat) turn.1.heeds)
   at_place old new at (inr (inl touch)) s sat taken = let is = touch.unserved s sat in (is.0, is.1, is.3.heeds)
   at_place old new at (inr (inr (link, inl admits))) s sat taken = absurd (never_free old.places at s admits.was_free sat)
-  at_place old new at (inr (inr (link, inr leaves))) s sat taken = absurd (let both : Some None ≡ Some (Some taken.0) = sym leaves.free ∙ taken.1 in cc)
+  at_place old new at (inr (inr (link, inr leaves))) s sat taken = absurd (never_free new.places at taken.0 leaves.free taken.1)
 
   others_stay : (old new : DeskValue B L) (at : ℕ) → Calls sent received old new at → (k : ℕ) → (k ≡ at → ⊥) → (s : Seated B L) → SitsAt old.places k s → SitsAt new.places k s
   others_stay old new at (inl turn) k other s sat = turn.2.others k other ∙ sat
   others_stay old new at (inr (inl touch)) k other s sat = touch.others.others k other ∙ sat
   others_stay old new at (inr (inr (link, inl admits))) k other s sat = sits_there new.places k s (admits.others k other ∙ get_or_from_slice_get old.places k (Some s) None sat)
-  others_stay old new at (inr (inr (link, inr leaves))) k other s sat = leaves.others.others k other ∙ sat
+  others_stay old new at (inr (inr (link, inr leaves))) k other s sat = sits_there new.places k s (leaves.others k other ∙ get_or_from_slice_get old.places k (Some s) None sat)
 
   one_call : (old new : DeskValue B L) (at place : ℕ) (c : Calls sent received old new at) (s : Seated B L) → SitsAt old.places place s → (t : Seated B L) × SitsAt new.places place t
       → Went new place s (cond (at == place) (deeds_of sent received old new at c) [])

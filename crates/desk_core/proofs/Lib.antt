@@ -1,6 +1,7 @@
 pub mod Answering
 pub mod Chaining
 pub mod Doing
+pub mod Evicting
 pub mod Going
 pub mod Lists
 pub mod Living
@@ -8,3 +9,4 @@ pub mod Messages
 pub mod Spending
 pub mod Standing
 pub mod Talking
+pub mod Trimming

@@ -9,6 +9,7 @@ use Rattle.std.proofs.lemmas.List.Sums.{sum_by-set, sum_by_push, get_or-le-sum_b
 use Rattle.std.proofs.lemmas.Option.{slice_get-get_or, slice_get-map, slice_get_within, get_or_from_slice_get}
 use Rattle.claim_core.specs.Counts.{Pair}
 use Rattle.claim_core.specs.Seats.{SessionSeatValue, with_seen}
+use Rattle.connection_core.specs.Connections.{ConnectionValue}
 use Rattle.connection_core.specs.Conversations.{number_in}
 use Rattle.connection_core.specs.declared.progress.Progress.{Progress}
 use Rattle.connection_core.specs.declared.progress.Progress.TheVariants.{New, Open, Ended, Gone}
@@ -17,11 +18,11 @@ use Rattle.desk_core.specs.declared.turned.Turned.{Turned}
 use Rattle.desk_core.specs.Answers.{Answers}
 use Rattle.desk_core.specs.Continues.{Continues}
 use Rattle.desk_core.specs.Conversations.{Converse, IsPart, Speaks, holds, number_of, opens, part_of}
-use Rattle.desk_core.specs.Desks.{Admits, AreApart, DeskValue, IsDesk, Leaves, Others, TalkApart, Touches, Turns, desk, reaching, seated_at, stand_of}
+use Rattle.desk_core.specs.Desks.{Admits, AreApart, Changes, DeskValue, IsDesk, Others, TalkApart, Touches, Turns, desk, reaching, seated_at, stand_of}
 use Rattle.desk_core.specs.Effects.{commands_of}
 use Rattle.desk_core.specs.Halting.{FindsEnd}
 use Rattle.desk_core.specs.Histories.{Idles}
-use Rattle.desk_core.specs.Places.{ServedAt, UnservedAt, is_over, is_over_at, progress_at}
+use Rattle.desk_core.specs.Places.{ChangedAt, IsChanged, ServedAt, UnservedAt, progress_at}
 use Rattle.desk_core.specs.Slots.{IsNew, Unserved}
 use Rattle.desk_core.proofs.Lists.{cond_same}
 use Rattle.desk_core.proofs.Going.{heeds_none}
@@ -53,7 +54,7 @@ looks {B} {L} old before seat after mark places same is =
 -- ── at one place ──
 
 -- where what sits at a place has a conversation that holds and opens no more
-as_many : (n h h' o o' : ℕ) (ps : List Pair) → h' ≡ h → o' ≤ o → IsPart n h o ps → IsPart n h' o' ps
+pub as_many : (n h h' o o' : ℕ) (ps : List Pair) → h' ≡ h → o' ≤ o → IsPart n h o ps → IsPart n h' o' ps
 as_many n h h' o o' ps a b part = record { most = omega (arith, part.most); conversation = part.conversation; begun = λ some. part.begun (omega arith); opened = λ some. part.opened (omega arith) }
 
 fewer : (n h h' o o' : ℕ) (ps : List Pair) → h' ≤ h → o' ≤ o → IsPart n h o ps → IsPart n h' o' ps
@@ -185,6 +186,9 @@ cancel (x ∷ xs) ys zs e = cancel xs ys zs (tail e)
     tail : x ∷ (xs ++ ys) ≡ x ∷ (xs ++ zs) → xs ++ ys ≡ xs ++ zs
     tail f = cc
 
+pub get_same_or : {B L : Type 0} (places : List (Option (Seated B L))) (at : ℕ) (is : Option (Seated B L)) → at < length places → seated_at (set places at is) at ≡ is
+get_same_or places at is within = get_or_from_slice_get (set places at is) at is None (get_same places at is within)
+
 -- ── nothing is said at a place ──
 
 pub unmoved : {B L : Type 0} (before seat : SessionSeatValue) (places : List (Option (Seated B L))) (at : ℕ) (was is : Option (Seated B L)) → at < length places → was ≡ get_or places at was
@@ -200,7 +204,7 @@ pub same_progress : {B L : Type 0} (sent : L → Option (List (List ℕ))) (rece
 same_progress sent received None is u = ap progress_at u
 same_progress sent received (Some was) is u = ap progress_at u.1 ∙ u.2.progress
 
-sitting : {B L : Type 0} (places : List (Option (Seated B L))) (at : ℕ) (was : Option (Seated B L)) → at < length places → was ≡ get_or places at was → slice_get places at ≡ Some was
+pub sitting : {B L : Type 0} (places : List (Option (Seated B L))) (at : ℕ) (was : Option (Seated B L)) → at < length places → was ≡ get_or places at was → slice_get places at ≡ Some was
 sitting places at was within there = slice_get-get_or places at was within ∙ ap (λ x. Some x) (sym there)
 
 same_of : {X : Type 0} (x y : X) → Some x ≡ Some y → x ≡ y
@@ -229,6 +233,34 @@ touches_none {B} {L} sent received old new at same = record {
 pub unserved_some : {B L : Type 0} (sent : L → Option (List (List ℕ))) (received : L → Option (List ℕ)) (o : Option (Seated B L)) (was is : Seated B L) → o ≡ Some was → Unserved sent was.slot was.link is.slot is.link → Idles received was.slot was.link is.slot is.link
     → UnservedAt sent received o (Some is)
 unserved_some sent received o was is e u h = subst (λ x. UnservedAt sent received x (Some is)) (sym e) (is, refl, u, h)
+
+-- what the connection at a place is told
+pub changes : {B L : Type 0} (f : ConnectionValue → ConnectionValue) (old : DeskValue B L) (before seat : SessionSeatValue) (places : List (Option (Seated B L))) (at : ℕ) (was is : Option (Seated B L))
+    → desk before seat places ≡ old → at < length places → was ≡ get_or places at was → ChangedAt f was is → Changes f old (desk before seat (set places at is)) at
+changes {B} {L} f old before seat places at was is same within there so = record {
+  before = ap (λ (d : DeskValue B L). d.before) same;
+  seat = ap (λ (d : DeskValue B L). d.seat) same;
+  others = others old.places places at is (ap (λ (d : DeskValue B L). d.places) same);
+  changed =
+      let sat : was ≡ seated_at old.places at = sym (get_or_from_slice_get places at was None (sitting places at was within there)) ∙ ap (λ (d : DeskValue B L). seated_at d.places at) same in
+      subst (λ o. ChangedAt f o (seated_at (set places at is) at)) sat (subst (λ o. ChangedAt f was o) (sym (get_same_or places at is within)) so);
+}
+
+pub changes_none : {B L : Type 0} (f : ConnectionValue → ConnectionValue) (old new : DeskValue B L) (at : ℕ) → new ≡ old → length old.places ≤ at → Changes f old new at
+changes_none {B} {L} f old new at same past =
+    let free : seated_at old.places at ≡ None = get_or_past old.places at None past in record {
+      before = ap (λ (d : DeskValue B L). d.before) same;
+      seat = ap (λ (d : DeskValue B L). d.seat) same;
+      others = nothing_else old.places new.places at (ap (λ (d : DeskValue B L). d.places) same);
+      changed = subst (λ o. ChangedAt f o (seated_at new.places at)) (sym free) (ap (λ (d : DeskValue B L). seated_at d.places at) same ∙ free);
+    }
+
+pub changed_progress : {B L : Type 0} (f : ConnectionValue → ConnectionValue) → ((c : ConnectionValue) → (f c).progress ≡ c.progress) → (was is : Option (Seated B L)) → ChangedAt f was is → progress_at is ≡ progress_at was
+changed_progress f same None is c = ap progress_at c
+changed_progress f same (Some was) is c = ap progress_at c.1 ∙ ap (λ (x : ConnectionValue). x.progress) c.2.connection ∙ same was.slot.connection
+
+pub changed_some : {B L : Type 0} (f : ConnectionValue → ConnectionValue) (o : Option (Seated B L)) (was is : Seated B L) → o ≡ Some was → IsChanged f was is → ChangedAt f o (Some is)
+changed_some f o was is e c = subst (λ x. ChangedAt f x (Some is)) (sym e) (is, refl, c)
 
 -- ── a turn ──
 
@@ -264,7 +296,7 @@ nobody_past [] (suc n) (suc k) past = nobody_past [] n k (omega arith)
 nobody_past (x ∷ places) n zero past = absurd (omega (arith, past))
 nobody_past (x ∷ places) n (suc k) past = nobody_past places n k (omega (arith, past))
 
-still_there : {B L : Type 0} (places : List (Option (Seated B L))) (n k : ℕ) → seated_at (places ++ replicate n None) k ≡ seated_at places k
+pub still_there : {B L : Type 0} (places : List (Option (Seated B L))) (n k : ℕ) → seated_at (places ++ replicate n None) k ≡ seated_at places k
 still_there places n k = elim (cases_lt k (length places)) [
   | inl within ↦ get_or_append_left places (replicate n None) None k within
   | inr past ↦ nobody_past places n k past ∙ sym (get_or_past places k None past)
@@ -290,19 +322,6 @@ admits {B} {L} old before seat places all at is seated link same reach free sits
 
 -- ── a client is let go ──
 
-pub leaves_it : {B L : Type 0} (old : DeskValue B L) (before seat : SessionSeatValue) (places : List (Option (Seated B L))) (at : ℕ) (seated : Seated B L)
-    → desk before seat places ≡ old → at < length places → Some seated ≡ get_or places at (Some seated) → is_over seated.slot.connection.stage ≡ true → Leaves old (desk before seat (set places at None)) at seated.link
-leaves_it {B} {L} old before seat places at seated same within there over = record {
-  over = over;
-  was = seated;
-  before = ap (λ (d : DeskValue B L). d.before) same;
-  seat = ap (λ (d : DeskValue B L). d.seat) same;
-  sat = ap (λ (d : DeskValue B L). slice_get d.places at) (sym same) ∙ sitting places at (Some seated) within there;
-  link_is = refl;
-  free = get_same places at None within;
-  others = others old.places places at None (ap (λ (d : DeskValue B L). d.places) same);
-}
-
 pub none_goes : (n : ℕ) (p : Progress) → (0 ≤ holds n p) × (0 ≤ opens n p)
 none_goes n p = (omega arith, omega arith)
 
@@ -318,12 +337,6 @@ taken_place before seat places all at was is reach there anew d =
     replaced before seat all at was is (within_reach places all at reach) there (λ n. subst (λ p. holds n p ≤ holds n (progress_at was)) (sym anew) (none_goes n (progress_at was)).0)
     (λ n. subst (λ p. opens n p ≤ opens n (progress_at was)) (sym anew) (none_goes n (progress_at was)).1)
     (subst (λ l. IsDesk before seat l) (sym reach) (more_free before seat places (at + 1 - length places) d))
-
-pub leaves_at : {B L : Type 0} (old : DeskValue B L) (before seat : SessionSeatValue) (places : List (Option (Seated B L))) (at : ℕ) (was is : Option (Seated B L)) (seated : Seated B L)
-    → desk before seat places ≡ old → at < length places → was ≡ get_or places at was → was ≡ Some seated → is ≡ None → is_over_at was ≡ true → Leaves old (desk before seat (set places at is)) at seated.link
-leaves_at {B} {L} old before seat places at was is seated same within there it none over =
-    subst (λ o. Leaves old (desk before seat (set places at o)) at seated.link) (sym none)
-    (leaves_it old before seat places at seated same within (subst (λ o. o ≡ get_or places at o) it there) (subst (λ (o : Option (Seated B L)). is_over_at o ≡ true) it over))
 
 pub nobody_is : {X : Type 0} (o : Option X) (b : Bool) → b ≡ is_some o → b ≡ false → o ≡ None
 nobody_is None b is none = refl

@@ -1,6 +1,7 @@
 -- What contracts see of a desk.
-use Rattle.std.specs.Prelude.{◌≡◌, ◌≢◌, ◌+◌, ◌-◌, ℕ, List, ◌++◌, Option, Some, None, IsSome, true, map, max, length, replicate, get_or, slice_get}
+use Rattle.std.specs.Prelude.{◌≡◌, ◌≢◌, ◌+◌, ◌-◌, ◌<◌, ◌≤◌, ℕ, List, ◌++◌, Option, Some, None, IsSome, true, map, max, length, replicate, get_or, slice_get}
 use Rattle.claim_core.specs.Seats.{SessionSeatValue}
+use Rattle.connection_core.specs.Connections.{ConnectionValue}
 use Rattle.connection_core.specs.declared.progress.Progress.{Progress}
 use Rattle.desk_core.specs.declared.place.NotAdmitted.{NotAdmitted}
 use Rattle.desk_core.specs.declared.place.NotAdmitted.TheVariants.{Memory, Taken}
@@ -12,7 +13,7 @@ use Rattle.desk_core.specs.Effects.{Effect, commands_of, told_of}
 use Rattle.desk_core.specs.Conversations.{Converse, Speaks}
 use Rattle.desk_core.specs.Halting.{FindsEnd, HasHalted}
 use Rattle.desk_core.specs.Histories.{Heeds, Idles}
-use Rattle.desk_core.specs.Places.{is_over, progress_at}
+use Rattle.desk_core.specs.Places.{ChangedAt, is_over, progress_at}
 use Rattle.desk_core.specs.Slots.{IsNew, Served, Unserved, number_at}
 
 -- The seat as it was when the desk was made, as it is, and what sits at the places.
@@ -95,7 +96,14 @@ abbrev pub IsWhy : {B L : Type 0} → List (Option (Seated B L)) → ℕ → Not
 IsWhy places at Taken = IsSome (seated_at places at)
 IsWhy places at Memory = seated_at places at ≡ None
 
--- What sat at that place had ended, and its place is free.
+-- the same places without the free ones at their end
+pub record Trims {X : Type 0} (old new : List (Option X)) : Type 0 where
+  pub free : ℕ
+  pub whole : old ≡ new ++ replicate free None
+  pub last : (k : ℕ) → slice_get new k ≡ Some None → k + 1 < length new
+
+-- What sat at that place had ended, and sits there no more. At any other place nothing has changed. There is no place after the last one
+-- at which somebody sits.
 pub record Leaves {B L : Type 0} (old new : DeskValue B L) (at : ℕ) (link : L) : Type 0 where
   pub was : Seated B L
   pub before : new.before ≡ old.before
@@ -103,8 +111,17 @@ pub record Leaves {B L : Type 0} (old new : DeskValue B L) (at : ℕ) (link : L)
   pub sat : SitsAt old.places at was
   pub over : is_over was.slot.connection.stage ≡ true
   pub link_is : link ≡ was.link
-  pub free : slice_get new.places at ≡ Some None
+  pub free : seated_at new.places at ≡ None
+  pub others : (k : ℕ) → k ≢ at → seated_at new.places k ≡ seated_at old.places k
+  pub count : length new.places ≤ length old.places
+  pub last : (k : ℕ) → slice_get new.places k ≡ Some None → k + 1 < length new.places
+
+-- At that place the connection is changed so, if one sits there, and nothing else is.
+pub record Changes {B L : Type 0} (f : ConnectionValue → ConnectionValue) (old new : DeskValue B L) (at : ℕ) : Type 0 where
+  pub before : new.before ≡ old.before
+  pub seat : new.seat ≡ old.seat
   pub others : Others old.places new.places at
+  pub changed : ChangedAt f (seated_at old.places at) (seated_at new.places at)
 
 -- Nothing was said or sent at any place. Nothing has changed but what the connection at that place is told, which goes on from there with
 -- no effect.

@@ -8,6 +8,7 @@ pub mod Desks
 pub mod Steps
 pub mod Halting
 pub mod Holding
+pub mod Holdings
 pub mod Keeping
 pub mod Histories
 pub mod Places

@@ -1,5 +1,6 @@
 -- What is done at a place of a desk.
 use Rattle.std.specs.Prelude.{◌≡◌, ℕ, List, Bool, true, false, Option, Some, None, is_some}
+use Rattle.connection_core.specs.Connections.{ConnectionValue}
 use Rattle.connection_core.specs.declared.progress.Progress.{Progress}
 use Rattle.connection_core.specs.declared.progress.Progress.TheVariants.{Gone}
 use Rattle.desk_core.specs.declared.place.Seated.{Seated}
@@ -54,6 +55,19 @@ is_over_at (Some seated) = is_over seated.slot.connection.stage
 abbrev pub is_open_at : {B L : Type 0} → Option (Seated B L) → Bool
 is_open_at None = false
 is_open_at (Some seated) = is_some (number_at seated.slot)
+
+-- a connection is changed so, and nothing else of what sits there
+pub record IsChanged {B L : Type 0} (f : ConnectionValue → ConnectionValue) (was is : Seated B L) : Type 0 where
+  pub connection : is.slot.connection ≡ f was.slot.connection
+  pub pending : is.slot.pending ≡ was.slot.pending
+  pub outbox : is.slot.outbox ≡ was.slot.outbox
+  pub kept : is.slot.kept ≡ was.slot.kept
+  pub link : is.link ≡ was.link
+
+-- nobody came or went, and the connection of one who sits there is changed so
+abbrev pub ChangedAt : {B L : Type 0} → (ConnectionValue → ConnectionValue) → Option (Seated B L) → Option (Seated B L) → Type 0
+ChangedAt f None new = new ≡ None
+ChangedAt f (Some was) new = (is : Seated _ _) × (new ≡ Some is) × IsChanged f was is
 
 -- nothing was sent there, nobody came or went, and a connection that sits there goes on from there with no effect
 abbrev pub UnservedAt : {B L : Type 0} → (L → Option (List (List ℕ))) → (L → Option (List ℕ)) → Option (Seated B L) → Option (Seated B L) → Type 0

@@ -189,7 +189,12 @@ impl<B: Bell> Slot<B> {
         ensures takes { TakesStep result seat.old seat.new self.new.pending }
     {
         let window = ringers.window(pending.entry.command().op());
-        let Pending { entry, said, taker } = pending;
+        let Pending {
+            entry,
+            said,
+            taker,
+            bytes,
+        } = pending;
         match speak(ring, seat, &mut self.connection, entry, said, window) {
             Ok(ticket) => {
                 ringers.appended(ticket);
@@ -198,7 +203,15 @@ impl<B: Bell> Slot<B> {
                 }
                 Step::Appended
             }
-            Err((entry, refused)) => self.hold(Pending { entry, said, taker }, refused),
+            Err((entry, refused)) => self.hold(
+                Pending {
+                    entry,
+                    said,
+                    taker,
+                    bytes,
+                },
+                refused,
+            ),
         }
     }
 

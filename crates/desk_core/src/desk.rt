@@ -3,7 +3,9 @@
 ghost use Rattle.std.specs.Prelude.{◌≡◌, IfErr, IfSome, IsNone, OnOk, is_some, length};
 
 use crate::place::{NotAdmitted, Place, Seated};
-use crate::placing::{add_places, give_up_at, lose_at, ping_at, take_place, turn_at, vacate};
+use crate::placing::{
+    add_places, evict_at, give_up_at, lose_at, ping_at, take_place, trim, turn_at, vacate,
+};
 use crate::ringers::Ringers;
 use crate::slot::Slot;
 use crate::turned::Turned;
@@ -42,7 +44,8 @@ impl<B: Bell, L: Link + Drop> Desk<B, L> {
     ghost use Rattle.std.specs.Prelude.{◌≤◌};
     ghost use Rattle.claim_core.specs.Seats.{with_seen};
     ghost use Rattle.desk_core.specs.Conversations.{Converse};
-    ghost use Rattle.desk_core.specs.Desks.{Admits, IsWhy, Leaves, Others, TalkApart, Turns, Touches, desk, seated_at};
+    ghost use Rattle.connection_core.specs.Connections.{evicted, with_given_up, with_lost};
+    ghost use Rattle.desk_core.specs.Desks.{Admits, Changes, IsWhy, Leaves, Others, TalkApart, Turns, Touches, desk, seated_at};
     ghost use Rattle.desk_core.specs.Places.{is_open_at, is_over_at};
 
     /// A desk with no connection. No memory is taken.
@@ -134,9 +137,11 @@ impl<B: Bell, L: Link + Drop> Desk<B, L> {
         ring.look(&mut self.seat)
     }
 
-    /// The connection at that place is over: its link has failed, or took too long. Its next turns end it.
+    /// The connection at that place is over: its link has failed, or took too long. Its next turns append what its client has asked for,
+    /// and its loss, and end it.
     pub fn lose(&mut self, at: usize)
-        ensures { Touches L.sent L.received self.old self.new at }
+        ensures loses { Changes with_lost self.old self.new at }
+        ensures touches { Touches L.sent L.received self.old self.new at }
     {
         if at < self.places.len() {
             lose_at(&mut self.places[at]);
@@ -145,10 +150,21 @@ impl<B: Bell, L: Link + Drop> Desk<B, L> {
 
     /// The connection at that place is given up, since the server ends: its next turns close its link with 1001.
     pub fn give_up(&mut self, at: usize)
-        ensures { Touches L.sent L.received self.old self.new at }
+        ensures gives_up { Changes with_given_up self.old self.new at }
+        ensures touches { Touches L.sent L.received self.old self.new at }
     {
         if at < self.places.len() {
             give_up_at(&mut self.places[at]);
+        }
+    }
+
+    /// The connection at that place is evicted, since the server needs its memory: what its client has asked for and still waits is
+    /// dropped, but for the entry that found the window full. Its next turns append that, and its loss, and end it.
+    pub fn evict(&mut self, alloc: Global, at: usize)
+        ensures { Changes evicted self.old self.new at }
+    {
+        if at < self.places.len() {
+            evict_at(alloc, &mut self.places[at]);
         }
     }
 
@@ -172,8 +188,8 @@ impl<B: Bell, L: Link + Drop> Desk<B, L> {
         }
     }
 
-    /// Lets the connection at that place go, if it has ended, and hands its link back. `None` if there is none, or if it has not ended,
-    /// as its turns say by `Next::Over`: then nothing changes.
+    /// Lets the connection at that place go, if it has ended, and hands its link back. Free places at the end are given back. `None` if
+    /// there is none, or if it has not ended, as its turns say by `Next::Over`: then nothing changes.
     pub fn dismiss(&mut self, at: usize) -> Option<L>
         ensures left { IfSome result (Leaves self.old self.new at) }
         ensures none { IsNone result → self.new ≡ self.old }
@@ -184,6 +200,7 @@ impl<B: Bell, L: Link + Drop> Desk<B, L> {
         }
         let Seated { slot, link } = vacate(&mut self.places[at])?;
         drop(slot);
+        trim(&mut self.places);
         Some(link)
     }
 

@@ -1,17 +1,36 @@
 //! How much a desk keeps for its connections.
 
+ghost use Rattle.std.specs.Prelude.{◌≡◌, ◌≤◌, ◌-◌, ◌^◌, min, true};
+ghost use Rattle.desk_core.specs.Desks.{seated_at};
+ghost use Rattle.desk_core.specs.Holdings.{has_left, kept_at};
+
 use crate::desk::Desk;
+use crate::place::Place;
 use outbox_core::Bell;
 use ws_core::Link;
 
 impl<B: Bell, L: Link + Drop> Desk<B, L> {
     /// How many bytes are kept for the connection at that place. These are what waits in its outbox, the members of open transactions,
-    /// the frame that its client has not finished, and what its link keeps. 0 if there is none, or if its link is over: then it is being
-    /// let go.
-    pub fn held(&self, at: usize) -> u64 {
+    /// the frame that its client has not finished, the frames that wait for the ring, and what its link keeps. 0 if there is none, or if
+    /// its link is over: then it is being let go.
+    pub fn held(&self, at: usize) -> u64
+        ensures least { min (kept_at (seated_at self.now.places at)) (2 ^ 64 - 1) ≤ result }
+        ensures none { has_left (seated_at self.now.places at) ≡ true → result ≡ 0 }
+    {
         match self.places.get(at) {
-            Some(Some(seated)) => seated.held(),
-            _ => 0,
+            Some(place) => held_at(place),
+            None => 0,
         }
+    }
+}
+
+// How many bytes are kept for the connection there.
+fn held_at<B: Bell, L: Link>(place: &Place<B, L>) -> u64
+    ensures least { min (kept_at place.now) (2 ^ 64 - 1) ≤ result }
+    ensures none { has_left place.now ≡ true → result ≡ 0 }
+{
+    match place {
+        Some(seated) => seated.held(),
+        None => 0,
     }
 }

@@ -5,6 +5,7 @@ ghost use Rattle.std.specs.Option.{option_copied};
 ghost use Rattle.desk_core.specs.Desks.{seated_at};
 
 use crate::desk::Desk;
+use crate::place::Place;
 use outbox_core::Bell;
 use ws_core::Link;
 
@@ -14,8 +15,18 @@ impl<B: Bell, L: Link + Drop> Desk<B, L> {
         ensures { option_copied result ≡ option_map (λ seated. seated.link) (seated_at self.now.places at) }
     {
         match self.places.get(at) {
-            Some(Some(seated)) => Some(&seated.link),
-            _ => None,
+            Some(place) => link_at(place),
+            None => None,
         }
+    }
+}
+
+// The link of the connection there.
+fn link_at<B: Bell, L>(place: &Place<B, L>) -> Option<&L>
+    ensures { option_copied result ≡ option_map (λ seated. seated.link) place.now }
+{
+    match place {
+        Some(seated) => Some(&seated.link),
+        None => None,
     }
 }

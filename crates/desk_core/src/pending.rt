@@ -3,6 +3,7 @@
 ghost use Rattle.std.specs.Prelude.{◌≡◌, ◌≢◌, ◌≤◌, [], Some, None, IfOk, IfErr};
 ghost use Rattle.connection_core.specs.Conversations.{role_of, said_of};
 ghost use Rattle.connection_core.specs.Footprints.{charged, total};
+ghost use Rattle.connection_core.specs.Weights.{op_weight};
 ghost use Rattle.connection_core.specs.declared.footprint.TheConstants.{SESSION_BYTES};
 ghost use Rattle.connection_core.specs.declared.progress.Role.TheVariants.{Opens};
 ghost use Rattle.outbox_core.specs.Boxes.{TakerValue};
@@ -10,7 +11,7 @@ ghost use Rattle.desk_core.specs.Boxes.{IsBoxFor, box_of};
 
 use crate::ringers::Ringers;
 use command_core::{Command, Entry};
-use connection_core::{Connection, Role, Said};
+use connection_core::{Connection, Role, Said, weigh_op};
 use outbox_core::{Bell, BoxSize, OutSender, OutTaker, outbox};
 use std::alloc::{AllocError, Global};
 
@@ -22,6 +23,9 @@ pub struct Pending<B: Bell> {
     // What its command is to its session.
     pub(crate) said: Said,
     pub(crate) taker: Option<OutTaker>,
+    // What its command counts for while it waits.
+    pub(crate) bytes: u64,
+    ghost weighs: { op_weight entry.command.op entry.command.receipt ≤ bytes },
     ghost said_is: { said ≡ said_of entry.command },
     ghost opens: { (t : TakerValue) → taker ≡ Some t → (role_of entry.command.op ≡ Opens) × (t.taken ≡ []) },
     ghost one_box: { (t : TakerValue) → taker ≡ Some t → box_of entry.outbox ≡ Some t.box },
@@ -45,8 +49,14 @@ impl<B: Bell> Pending<B> {
             Ok(ends) => ends,
             Err(_) => return Err(command),
         };
+        let bytes = weigh_op(command.op(), command.receipt());
         match Entry::new(alloc, command, sender) {
-            Ok(entry) => Ok(Pending { entry, said, taker }),
+            Ok(entry) => Ok(Pending {
+                entry,
+                said,
+                taker,
+                bytes,
+            }),
             Err((command, sender)) => {
                 drop(sender);
                 drop(taker);
@@ -63,6 +73,7 @@ impl<B: Bell> Pending<B> {
             entry,
             said: _,
             taker,
+            bytes: _,
         } = self;
         let (command, sender) = entry.into_parts();
         drop(sender);

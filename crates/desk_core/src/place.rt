@@ -25,13 +25,16 @@ pub enum NotAdmitted {
 pub(crate) type Place<B, L> = Option<Seated<B, L>>;
 
 impl<B: Bell, L: Link> Seated<B, L> {
-    ghost use Rattle.std.specs.Prelude.{◌≡◌, true};
+    ghost use Rattle.std.specs.Prelude.{◌≡◌, ◌≤◌, ◌-◌, ◌^◌, Some, min, true};
+    ghost use Rattle.connection_core.specs.Connections.{with_given_up, with_lost};
     ghost use Rattle.desk_core.specs.Histories.{Idles};
-    ghost use Rattle.desk_core.specs.Places.{has_no_link};
+    ghost use Rattle.desk_core.specs.Holdings.{kept_at};
+    ghost use Rattle.desk_core.specs.Places.{IsChanged, has_no_link};
     ghost use Rattle.desk_core.specs.Slots.{Unserved};
 
     // Its link is over.
     pub(crate) fn lose(&mut self)
+        ensures is { IsChanged with_lost self.old self.new }
         ensures unserved { Unserved L.sent self.old.slot self.old.link self.new.slot self.new.link }
         ensures lives { Idles L.received self.old.slot self.old.link self.new.slot self.new.link }
     {
@@ -40,6 +43,7 @@ impl<B: Bell, L: Link> Seated<B, L> {
 
     // It is given up.
     pub(crate) fn give_up(&mut self)
+        ensures is { IsChanged with_given_up self.old self.new }
         ensures unserved { Unserved L.sent self.old.slot self.old.link self.new.slot self.new.link }
         ensures lives { Idles L.received self.old.slot self.old.link self.new.slot self.new.link }
     {
@@ -48,7 +52,8 @@ impl<B: Bell, L: Link> Seated<B, L> {
 
     // How many bytes are kept for it, and none once its link is over.
     pub(crate) fn held(&self) -> u64
-        ensures { has_no_link self.now.slot.connection.stage ≡ true → result ≡ 0 }
+        ensures least { min (kept_at (Some self.now)) (2 ^ 64 - 1) ≤ result }
+        ensures none { has_no_link self.now.slot.connection.stage ≡ true → result ≡ 0 }
     {
         match self.slot.connection.stage() {
             Stage::Leaving | Stage::Over(_) => 0,

@@ -1,9 +1,11 @@
 //! What is done at a place of a desk.
 
-ghost use Rattle.std.specs.Prelude.{◌≡◌, Some, None, IfSome, IsNone, IsSome, OnErr, OnOk, true};
+ghost use Rattle.std.specs.Prelude.{◌≡◌, ◌≢◌, ◌-◌, [], length, slice_get, false, Some, None, IfSome, IsNone, IsSome, OnErr, OnOk, true};
+ghost use Rattle.std.specs.Vec.{vec_capacity};
 ghost use Rattle.desk_core.specs.Continues.{Continues};
-ghost use Rattle.desk_core.specs.Desks.{reaching};
-ghost use Rattle.desk_core.specs.Places.{ServedAt, UnservedAt, is_over_at, progress_at};
+ghost use Rattle.connection_core.specs.Connections.{evicted, with_given_up, with_lost};
+ghost use Rattle.desk_core.specs.Desks.{Trims, reaching};
+ghost use Rattle.desk_core.specs.Places.{ChangedAt, ServedAt, UnservedAt, is_over_at, progress_at};
 
 use crate::place::{Place, Seated};
 use crate::ringers::Ringers;
@@ -42,7 +44,8 @@ pub fn turn_at<B: Bell, M: Ringers<B>, L: Link>(
 
 // The link there is over.
 pub fn lose_at<B: Bell, L: Link>(place: &mut Place<B, L>)
-    ensures { UnservedAt L.sent L.received place.old place.new }
+    ensures is { ChangedAt with_lost place.old place.new }
+    ensures unserved { UnservedAt L.sent L.received place.old place.new }
 {
     if let Some(seated) = place {
         seated.lose();
@@ -51,10 +54,20 @@ pub fn lose_at<B: Bell, L: Link>(place: &mut Place<B, L>)
 
 // The connection there is given up.
 pub fn give_up_at<B: Bell, L: Link>(place: &mut Place<B, L>)
-    ensures { UnservedAt L.sent L.received place.old place.new }
+    ensures is { ChangedAt with_given_up place.old place.new }
+    ensures unserved { UnservedAt L.sent L.received place.old place.new }
 {
     if let Some(seated) = place {
         seated.give_up();
+    }
+}
+
+// The connection there is evicted.
+pub fn evict_at<B: Bell, L>(alloc: Global, place: &mut Place<B, L>)
+    ensures { ChangedAt evicted place.old place.new }
+{
+    if let Some(seated) = place {
+        seated.slot.evict(alloc);
     }
 }
 
@@ -88,6 +101,34 @@ fn is_over<B: Bell, L>(place: &Place<B, L>) -> bool
         Some(seated) => seated.slot.is_over(),
         None => false,
     }
+}
+
+// Takes the free places away that are at the end. The list is made shorter once three quarters of it are empty, so that each place costs
+// as much as when it was added.
+pub fn trim<B: Bell, L: Drop>(places: &mut Vec<Place<B, L>>)
+    ensures trims { Trims places.old.items places.new.items }
+    ensures gives_back { places.new.items ≡ [] → vec_capacity places.new ≡ 0 }
+{
+    drop_free(places);
+    if places.len() <= places.capacity() / 4 {
+        places.shrink_to(2 * places.len());
+    }
+}
+
+fn drop_free<B: Bell, L: Drop>(places: &mut Vec<Place<B, L>>)
+    ensures { Trims places.old.items places.new.items }
+{
+    while ends_free(places) {
+        drop(places.pop());
+    }
+}
+
+// Whether the last place is free.
+fn ends_free<B: Bell, L>(places: &[Place<B, L>]) -> bool
+    ensures yes { result ≡ true → slice_get places.now (length places.now - 1) ≡ Some None }
+    ensures no { result ≡ false → slice_get places.now (length places.now - 1) ≢ Some None }
+{
+    matches!(places.last(), Some(None))
 }
 
 // From now on that connection sits there.

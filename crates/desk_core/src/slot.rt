@@ -25,6 +25,9 @@ pub struct Slot<B: Bell> {
 }
 
 impl<B: Bell> Slot<B> {
+    ghost use Rattle.std.specs.Prelude.{◌≤◌, ◌-◌, ◌^◌, min};
+    ghost use Rattle.connection_core.specs.Connections.{evicted};
+    ghost use Rattle.desk_core.specs.Holdings.{kept_by};
     ghost use Rattle.desk_core.specs.Places.{is_over};
     ghost use Rattle.desk_core.specs.Slots.{IsNew};
 
@@ -40,13 +43,29 @@ impl<B: Bell> Slot<B> {
         }
     }
 
-    // How many bytes wait in its outbox, or are kept of what its client said.
-    pub(crate) fn held(&self) -> u64 {
+    // How many bytes wait in its outbox, or are kept of what its client said, with the entry that waits.
+    pub(crate) fn held(&self) -> u64
+        ensures { min (kept_by self.now) (2 ^ 64 - 1) ≤ result }
+    {
         let waiting = match &self.outbox {
             Some(taker) => taker.waiting(),
             None => 0,
         };
-        waiting.saturating_add(self.connection.held())
+        let entry = match &self.pending {
+            Some(pending) => pending.bytes,
+            None => 0,
+        };
+        waiting
+            .saturating_add(self.connection.held())
+            .saturating_add(entry)
+    }
+
+    // It is evicted: its link is over, and what its client has asked for is dropped, but for the entry that waits.
+    pub(crate) fn evict(&mut self, alloc: Global)
+        ensures evicted { self.new.connection ≡ evicted self.old.connection }
+        ensures same { (self.new.pending ≡ self.old.pending) × (self.new.outbox ≡ self.old.outbox) × (self.new.kept ≡ self.old.kept) }
+    {
+        self.connection.evict(alloc);
     }
 
     // Whether its connection has ended.

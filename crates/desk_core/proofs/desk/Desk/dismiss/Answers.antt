@@ -1,7 +1,8 @@
 use Rattle.std.proofs.Common.{◌≡◌, ap, arith, refl, subst, sym, true}
 use Rattle.std.specs.Prelude.{IsSome}
 use Rattle.desk_core.specs.Places.{is_over_at, progress_at}
-use Rattle.desk_core.proofs.Standing.{leaves_at, same_desk, sits_there, unmoved, vacated}
+use Rattle.desk_core.proofs.Standing.{same_desk, sits_there, unmoved}
+use Rattle.desk_core.proofs.Trimming.{leaves_so, left_desk}
 use Rattle.desk_core.proofs.desk.Desk.dismiss.Goals as goal
 
 pub invariant_of-self : goal.invariant_of-self
@@ -11,14 +12,14 @@ invariant_of-self g c =
 
 pub invariant_of-self-2 : goal.invariant_of-self-2
 invariant_of-self-2 g c =
-    vacated c.self.inside.before.value c.self.inside.seat c.self.inside.places.items c.args.at c.index_mut.result.now c.vacate.new.place
-    (omega (arith, c.if-at-len.false, c.len.ensures)) c.index_mut.ensures.value (c.in_ok-slot.ensures.taken refl).1 c.self.invariant
+    left_desk c.self.inside.before.value c.self.inside.seat c.self.inside.places.items c.trim.new.places.items c.args.at c.index_mut.result.now c.vacate.new.place
+    (omega (arith, c.if-at-len.false, c.len.ensures)) c.index_mut.ensures.value (c.in_ok-slot.ensures.taken refl).1 c.trim.ensures.trims c.self.invariant
 
 pub returns-clause-left : goal.returns-clause-left
 returns-clause-left g c =
     let taken = c.in_ok-slot.ensures.taken refl in
-    leaves_at c.args.self.now c.self.inside.before.value c.self.inside.seat c.self.inside.places.items c.args.at c.index_mut.result.now c.vacate.new.place c.in_ok-slot.field-0
-    c.self.view_is (omega (arith, c.if-at-len.false, c.len.ensures)) c.index_mut.ensures.value (sym taken.0) taken.1 taken.2
+    leaves_so c.args.self.now c.self.inside.before.value c.self.inside.seat c.self.inside.places.items c.trim.new.places.items c.args.at c.index_mut.result.now c.vacate.new.place c.in_ok-slot.field-0
+    c.self.view_is (omega (arith, c.if-at-len.false, c.len.ensures)) c.index_mut.ensures.value (sym taken.0) taken.1 taken.2 c.trim.ensures.trims
 
 pub returns-in_err-slot-clause-none : goal.returns-in_err-slot-clause-none
 returns-in_err-slot-clause-none g c = λ none.
