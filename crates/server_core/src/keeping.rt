@@ -30,9 +30,19 @@ impl<'a, R: Wait + Clock + Drop> Service<'a, R> {
         self.mailbox.say_most(self.held.most());
     }
 
-    /// Gives up the client that holds most of all, if it is one of its own. It counts for nothing from then on. The workers look again if
-    /// all clients still hold more than they may.
-    pub(crate) fn give_up_most(&mut self)
+    /// If all clients hold more than they may, evicts the one that holds most, if it is one of its own. This is looked at after each turn
+    /// that may have heard a client: a round of many would hold far more.
+    pub(crate) fn keep_to_memory(&mut self)
+        ensures shared { self.new.shared ≡ self.old.shared }
+    {
+        if self.shared.memory.is_over() {
+            self.evict_most();
+        }
+    }
+
+    // Evicts the client that holds most of all, if it is one of its own. It counts for nothing from then on. The workers look again if
+    // all clients still hold more than they may.
+    fn evict_most(&mut self)
         ensures shared { self.new.shared ≡ self.old.shared }
     {
         let holdings = self.shared.memory.holdings(self.mailbox.desk());
@@ -42,7 +52,7 @@ impl<'a, R: Wait + Clock + Drop> Service<'a, R> {
         self.count(number, 0);
         if self.is_seated(number) {
             self.shared.wakeups.log().count(Kind::TookMost);
-            self.desk.lose(number);
+            self.desk.evict(self.alloc, number);
             self.clients.wake(number);
         } else if self.is_greeted(number) {
             self.shared.wakeups.log().count(Kind::TookMost);

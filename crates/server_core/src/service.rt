@@ -242,9 +242,7 @@ impl<'a, R: Wait + Clock + Drop> Service<'a, R> {
         ensures shared { self.new.shared ≡ self.old.shared }
     {
         self.look_at_timers();
-        if self.shared.memory.is_over() {
-            self.give_up_most();
-        }
+        self.keep_to_memory();
     }
 
     fn look_at_timers(&mut self)
@@ -318,6 +316,7 @@ impl<'a, R: Wait + Clock + Drop> Service<'a, R> {
         for _client in 0..self.clients.count_ready() {
             if let Some((number, standing)) = self.clients.next() {
                 self.give_turn(number, standing);
+                self.keep_to_memory();
             }
             self.let_in();
         }
