@@ -13,7 +13,6 @@ use Rattle.command_core.specs.declared.command.Op.{Op}
 use Rattle.command_core.specs.declared.command.Op.TheVariants as ops
 use Rattle.connection_core.specs.Footprints.{IsWithin, charged, footprint, has_id, is_ended_by, parts_of, standing, total}
 use Rattle.connection_core.specs.declared.footprint.Part.{Part}
-use Rattle.connection_core.specs.declared.footprint.TheConstants.{SESSION_BYTES}
 
 -- ── filters ──
 
@@ -70,37 +69,37 @@ charged_is parts (ops.End how) = sym (append-nil (filter (λ one. true) parts) �
 pub charges : (all : List Op) (op : Op) → standing (all ++ op ∷ []) ≡ charged (standing all) op
 charges all op = standing_more all op ∙ sym (charged_is (standing all) op)
 
-pub fits_else : (parts : List Part) (op : Op) → ((client_id : Option (List ℕ)) → op ≡ ops.Open client_id → ⊥) → ((id destination : List ℕ) (mode : AckMode) (durable : Option (List ℕ)) → op ≡ ops.Subscribe id destination mode durable → ⊥)
-    → total parts ≤ SESSION_BYTES → total (charged parts op) ≤ SESSION_BYTES
-fits_else parts (ops.Open client_id) opened subscribed fits = absurd (opened client_id refl)
-fits_else parts (ops.Subscribe id to mode durable) opened subscribed fits = absurd (subscribed id to mode durable refl)
-fits_else parts (ops.Unsubscribe id durable) opened subscribed fits = omega (arith, fits, total_filter (λ one. not (has_id one.id id)) parts)
-fits_else parts (ops.Send sending) opened subscribed fits = fits
-fits_else parts (ops.Ack delivery) opened subscribed fits = fits
-fits_else parts (ops.Nack delivery) opened subscribed fits = fits
-fits_else parts (ops.Commit members) opened subscribed fits = fits
-fits_else parts ops.Note opened subscribed fits = fits
-fits_else parts (ops.End how) opened subscribed fits = fits
+pub fits_else : (most : ℕ) (parts : List Part) (op : Op) → ((client_id : Option (List ℕ)) → op ≡ ops.Open client_id → ⊥) → ((id destination : List ℕ) (mode : AckMode) (durable : Option (List ℕ)) → op ≡ ops.Subscribe id destination mode durable → ⊥)
+    → total parts ≤ most → total (charged parts op) ≤ most
+fits_else most parts (ops.Open client_id) opened subscribed fits = absurd (opened client_id refl)
+fits_else most parts (ops.Subscribe id to mode durable) opened subscribed fits = absurd (subscribed id to mode durable refl)
+fits_else most parts (ops.Unsubscribe id durable) opened subscribed fits = omega (arith, fits, total_filter (λ one. not (has_id one.id id)) parts)
+fits_else most parts (ops.Send sending) opened subscribed fits = fits
+fits_else most parts (ops.Ack delivery) opened subscribed fits = fits
+fits_else most parts (ops.Nack delivery) opened subscribed fits = fits
+fits_else most parts (ops.Commit members) opened subscribed fits = fits
+fits_else most parts ops.Note opened subscribed fits = fits
+fits_else most parts (ops.End how) opened subscribed fits = fits
 
 -- ── a session keeps within its bytes ──
 
-pub within_none : IsWithin []
-within_none k = subst (λ l. footprint l ≤ SESSION_BYTES) (sym (take_all k [] (omega arith))) (omega arith)
+pub within_none : (most : ℕ) → IsWithin most []
+within_none most k = subst (λ l. footprint l ≤ most) (sym (take_all k [] (omega arith))) (omega arith)
 
-pub within_more : (all : List Op) (op : Op) → IsWithin all → total (charged (standing all) op) ≤ SESSION_BYTES → IsWithin (all ++ op ∷ [])
-within_more all op within fits k = elim (cases_lt k (length all + 1)) [
-  | inl less ↦ subst (λ l. footprint l ≤ SESSION_BYTES) (sym (take-append-le k all (op ∷ []) (omega arith))) (within k)
+pub within_more : (most : ℕ) (all : List Op) (op : Op) → IsWithin most all → total (charged (standing all) op) ≤ most → IsWithin most (all ++ op ∷ [])
+within_more most all op within fits k = elim (cases_lt k (length all + 1)) [
+  | inl less ↦ subst (λ l. footprint l ≤ most) (sym (take-append-le k all (op ∷ []) (omega arith))) (within k)
   | inr least ↦
-      subst (λ l. footprint l ≤ SESSION_BYTES) (sym (take_all k (all ++ op ∷ []) (omega (arith, length-append all (op ∷ [])))))
-      (subst (λ parts. total parts ≤ SESSION_BYTES) (sym (charges all op)) fits)
+      subst (λ l. footprint l ≤ most) (sym (take_all k (all ++ op ∷ []) (omega (arith, length-append all (op ∷ [])))))
+      (subst (λ parts. total parts ≤ most) (sym (charges all op)) fits)
 ]
 
-pub within_less : (all more : List Op) → IsWithin (all ++ more) → IsWithin all
-within_less all more within k = elim (cases_lt k (length all + 1)) [
-  | inl less ↦ subst (λ l. footprint l ≤ SESSION_BYTES) (take-append-le k all more (omega arith)) (within k)
+pub within_less : (most : ℕ) (all more : List Op) → IsWithin most (all ++ more) → IsWithin most all
+within_less most all more within k = elim (cases_lt k (length all + 1)) [
+  | inl less ↦ subst (λ l. footprint l ≤ most) (take-append-le k all more (omega arith)) (within k)
   | inr least ↦
       let whole : take (length all) (all ++ more) ≡ take k all = take-append-le (length all) all more (omega arith) ∙ take_all (length all) all (omega arith) ∙ sym (take_all k all (omega arith)) in
-      subst (λ l. footprint l ≤ SESSION_BYTES) whole (within (length all))
+      subst (λ l. footprint l ≤ most) whole (within (length all))
 ]
 
 -- the end of a session adds nothing to what its commands are

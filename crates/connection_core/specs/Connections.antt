@@ -15,7 +15,8 @@ use Rattle.session_core.specs.Sessions.{HasForm, Hearing, Hears, fresh, is_held}
 use Rattle.connection_core.specs.Conversations.{IsNext, after, asked, over, said_of}
 use Rattle.connection_core.specs.Stages.{given_up, lost, rested}
 use Rattle.connection_core.specs.Tasks.{Tasks, tasks, all_of}
-use Rattle.connection_core.specs.declared.footprint.Part.{Part}
+use Rattle.connection_core.specs.Footprints.{FootprintValue, none_standing, settled}
+use Rattle.connection_core.specs.declared.footprint.Cut.TheVariants as cuts
 use Rattle.connection_core.specs.declared.said.Said.{Said}
 use Rattle.connection_core.specs.declared.said.Wanted.{Wanted}
 use Rattle.connection_core.specs.declared.said.Wanted.TheVariants.{Append, Tell, Done, Rest}
@@ -31,13 +32,13 @@ pub record ConnectionValue : Type 0 where
   pub session : Hearing
   pub acts : Tasks
   pub progress : Progress
-  pub footprint : List Part
+  pub footprint : FootprintValue
   pub last : Option ℕ
   pub stage : Stage
 
--- one that has heard nothing, and asked for nothing
-abbrev pub unheard : ConnectionValue
-unheard = record { session = fresh; acts = tasks None []; progress = New; footprint = []; last = None; stage = Running }
+-- one that has heard nothing, and asked for nothing, at a desk whose sessions may have so many bytes
+abbrev pub unheard : ℕ → ConnectionValue
+unheard limit = record { session = fresh; acts = tasks None []; progress = New; footprint = none_standing limit; last = None; stage = Running }
 
 -- its client may be heard: nothing else is to be done first
 abbrev pub Listens : ConnectionValue → Type 0
@@ -64,7 +65,15 @@ with_given_up c = record c { stage = given_up c.stage }
 
 -- its link is over, and what its client has asked for and still waits is dropped
 abbrev pub evicted : ConnectionValue → ConnectionValue
-evicted c = record c { acts = tasks None []; stage = lost c.stage }
+evicted c = record c { acts = tasks None []; footprint = record c.footprint { cut = cuts.Evicted }; stage = lost c.stage }
+
+-- its next command would pass what it may have: it is given up, and what its client has asked for and still waits is dropped
+abbrev pub filled : ConnectionValue → ConnectionValue
+filled c = record c { acts = tasks None []; footprint = record c.footprint { cut = cuts.Full c.footprint.room }; stage = given_up c.stage }
+
+-- it may have so many bytes
+abbrev pub with_room : ℕ → ConnectionValue → ConnectionValue
+with_room room c = record c { footprint = record c.footprint { room = room } }
 
 -- it is lost, which the broker is to hear
 abbrev pub IsLost : Stage → Type 0
@@ -134,7 +143,7 @@ to_append command = Append command (said_of command)
 -- a command was appended with that ticket
 abbrev pub with_appended : ConnectionValue → Said → ℕ → ConnectionValue
 with_appended old said ticket =
-    record old { progress = after old.progress said.role ticket; last = cond said.is_last (Some ticket) old.last }
+    record old { progress = after old.progress said.role ticket; footprint = settled old.footprint; last = cond said.is_last (Some ticket) old.last }
 
 -- The frame of that command and verb was sent. After an ERROR the connection is closed and nothing more is appended (STOMP 1.2, "ERROR").
 -- After the RECEIPT of the DISCONNECT it is closed ("DISCONNECT").

@@ -1,12 +1,13 @@
 -- What a session adds to each snapshot of the broker, beside the messages that are held.
-use Rattle.std.specs.Prelude.{◌≤◌, ◌+◌, ℕ, List, [], ◌∷◌, ◌++◌, Bool, false, Option, Some, None, filter, not, take}
+use Rattle.std.specs.Prelude.{◌≤◌, ◌+◌, ℕ, List, [], ◌∷◌, ◌++◌, Bool, false, Option, Some, None, filter, max, not, take}
 use Rattle.std.specs.List.{list_any, sum_by}
 use Rattle.std.specs.Str.{bytes_eq}
 use Rattle.command_core.specs.declared.command.Op.{Op}
 use Rattle.command_core.specs.declared.command.Op.TheVariants as ops
 use Rattle.record_core.specs.Sizes.{option_size, text_size}
+use Rattle.connection_core.specs.declared.footprint.Cut.{Cut}
+use Rattle.connection_core.specs.declared.footprint.Cut.TheVariants as cuts
 use Rattle.connection_core.specs.declared.footprint.Part.{Part}
-use Rattle.connection_core.specs.declared.footprint.TheConstants.{SESSION_BYTES}
 
 abbrev pub part : Option (List ℕ) → ℕ → Part
 part id bytes = record { id = id; bytes = bytes }
@@ -42,9 +43,9 @@ total parts = sum_by (λ (one : Part). one.bytes) parts
 abbrev pub footprint : List Op → ℕ
 footprint ops = total (standing ops)
 
--- after each of these commands the session keeps within its bytes
-abbrev pub IsWithin : List Op → Type 0
-IsWithin ops = (k : ℕ) → footprint (take k ops) ≤ SESSION_BYTES
+-- after each of these commands the session keeps within so many bytes
+abbrev pub IsWithin : ℕ → List Op → Type 0
+IsWithin most ops = (k : ℕ) → footprint (take k ops) ≤ most
 
 -- what stands after one more command
 abbrev pub charged : List Part → Op → List Part
@@ -52,3 +53,29 @@ charged parts (ops.Open client_id) = parts ++ parts_of (ops.Open client_id)
 charged parts (ops.Subscribe id destination mode durable) = parts ++ parts_of (ops.Subscribe id destination mode durable)
 charged parts (ops.Unsubscribe id durable) = filter (λ one. not (has_id one.id id)) parts
 charged parts _ = parts
+
+-- What stands of a session; how many bytes its desk counts for that; how many it may have now; how many all sessions of its desk may have
+-- together; and why acts of it were cut off, if they were.
+pub record FootprintValue : Type 0 where
+  pub parts : List Part
+  pub counted : ℕ
+  pub room : ℕ
+  pub limit : ℕ
+  pub cut : Cut
+
+-- what stands is counted, and is within what it may have, as that is within what all may have
+pub record IsFootprint (f : FootprintValue) : Type 0 where
+  pub stands : total f.parts ≤ f.counted
+  pub fits : f.counted ≤ f.room
+  pub least : f.room ≤ f.limit
+
+abbrev pub none_standing : ℕ → FootprintValue
+none_standing limit = record { parts = []; counted = 0; room = limit; limit = limit; cut = cuts.No }
+
+-- A command is to be appended. What an UNSUBSCRIBE ends is counted until it was appended.
+abbrev pub spent : FootprintValue → Op → FootprintValue
+spent f op = record f { parts = charged f.parts op; counted = max f.counted (total (charged f.parts op)) }
+
+-- it was appended
+abbrev pub settled : FootprintValue → FootprintValue
+settled f = record f { counted = total f.parts }

@@ -6,7 +6,7 @@ ghost use Rattle.connection_core.specs.Connections.{closed_behind, loss_of};
 
 use crate::acts::Acts;
 use crate::ended::Ended;
-use crate::footprint::Footprint;
+use crate::footprint::{Cut, Footprint};
 use crate::progress::{Progress, Role};
 use crate::said::{Said, Wanted};
 use crate::stage::Stage;
@@ -49,27 +49,27 @@ impl Connection {
     ghost use Rattle.session_core.specs.declared.act.Act.{Act};
     ghost use Rattle.session_core.specs.declared.act.Act.TheVariants as acts;
     ghost use Rattle.session_core.specs.Sessions.{HasForm, held_in};
-    ghost use Rattle.connection_core.specs.Connections.{Asks, Fails, HasWantedForm, HearsBytes, IsSent, Listens, Takes, Wants, closed_by, evicted, unheard, with_appended, with_given_up, with_lost};
+    ghost use Rattle.connection_core.specs.Connections.{Asks, Fails, HasWantedForm, HearsBytes, IsSent, Listens, Takes, Wants, closed_by, evicted, filled, unheard, with_appended, with_given_up, with_lost, with_room};
     ghost use Rattle.connection_core.specs.Conversations.{number_in, over};
-    ghost use Rattle.connection_core.specs.Footprints.{charged, total};
-    ghost use Rattle.connection_core.specs.declared.footprint.TheConstants.{SESSION_BYTES};
+    ghost use Rattle.connection_core.specs.Footprints.{IsFootprint, charged, spent, total};
     ghost use Rattle.connection_core.specs.Histories.{HasHeard, Went};
-    ghost use Rattle.connection_core.specs.Stages.{given_up, parted, stopped};
+    ghost use Rattle.connection_core.specs.Stages.{parted, stopped};
     ghost use Rattle.connection_core.specs.Tasks.{all_of, tasks};
     ghost use Rattle.connection_core.specs.Weights.{IsWeight, weight_of_all};
     ghost use Rattle.connection_core.specs.declared.stage.Stage.TheVariants.{Closing};
     ghost use Rattle.connection_core.specs.declared.ended.Ended.TheVariants as ended;
 
-    /// A connection whose client was not heard yet. No memory is taken.
-    pub fn new(alloc: Global) -> Connection
-        ensures value { result ≡ unheard }
+    /// A connection whose client was not heard yet. All sessions of its desk together may have `limit` bytes in a snapshot, and `allow`
+    /// says how many it may have. No memory is taken.
+    pub fn new(alloc: Global, limit: u64) -> Connection
+        ensures value { result ≡ unheard limit }
         ensures life { HasHeard [] [] result }
     {
         Connection {
             session: Session::new(alloc),
             acts: Acts::none(alloc),
             progress: Progress::New,
-            footprint: Footprint::new(alloc),
+            footprint: Footprint::new(alloc, limit),
             last_receipt: None,
             stage: Stage::Running,
         }
@@ -157,29 +157,55 @@ impl Connection {
         self.stage = self.stage.given_up();
     }
 
-    /// Whether its session keeps within `SESSION_BYTES` with that command.
+    /// How many bytes are counted for its session in a snapshot. They are at most what it may have.
+    pub fn counted(&self) -> u64
+        ensures value { result ≡ self.now.footprint.counted }
+        ensures form { IsFootprint self.now.footprint }
+    {
+        self.footprint.counted()
+    }
+
+    /// Why acts of its client were cut off, if they were.
+    pub fn cut(&self) -> Cut
+        ensures { result ≡ self.now.footprint.cut }
+    {
+        self.footprint.cut()
+    }
+
+    /// From now on its session may have so many bytes.
+    pub fn allow(&mut self, room: u64)
+        requires least { self.old.footprint.counted ≤ room }
+        requires most { room ≤ self.old.footprint.limit }
+        ensures { self.new ≡ with_room room self.old }
+    {
+        self.footprint.allow(room);
+    }
+
+    /// Whether its session keeps within what it may have with that command.
     pub fn affords(&self, op: &Op) -> bool
-        ensures yes { result ≡ true → total (charged self.now.footprint op.now) ≤ SESSION_BYTES }
-        ensures no { result ≡ false → SESSION_BYTES < total (charged self.now.footprint op.now) }
+        ensures yes { result ≡ true → total (charged self.now.footprint.parts op.now) ≤ self.now.footprint.room }
+        ensures no { result ≡ false → self.now.footprint.room < total (charged self.now.footprint.parts op.now) }
+        ensures form { IsFootprint self.now.footprint }
     {
         self.footprint.admits(op)
     }
 
     /// Counts a command that is to be appended. If memory is refused for that, nothing has changed.
     pub fn charge(&mut self, alloc: Global, op: &Op) -> Result<(), AllocError>
-        requires { total (charged self.old.footprint op.now) ≤ SESSION_BYTES }
-        ensures ok { OnOk result (self.new ≡ record self.old { footprint = charged self.old.footprint op.now }) }
+        requires { total (charged self.old.footprint.parts op.now) ≤ self.old.footprint.room }
+        ensures ok { OnOk result (self.new ≡ record self.old { footprint = spent self.old.footprint op.now }) }
         ensures err { OnErr result (self.new ≡ self.old) }
     {
         self.footprint.charge(alloc, op)
     }
 
-    /// Its next command would make its session pass `SESSION_BYTES`. It is given up, and what its client has asked for and still waits
+    /// Its next command would make its session pass what it may have. It is given up, and what its client has asked for and still waits
     /// is dropped. No memory is taken.
     pub fn cut_off(&mut self, alloc: Global)
-        ensures { self.new ≡ record self.old { acts = tasks None []; stage = given_up self.old.stage } }
+        ensures { self.new ≡ filled self.old }
     {
         drop(mem::replace(&mut self.acts, Acts::none(alloc)));
+        self.footprint.fill();
         self.stage = self.stage.given_up();
     }
 
@@ -189,6 +215,7 @@ impl Connection {
         ensures { self.new ≡ evicted self.old }
     {
         drop(mem::replace(&mut self.acts, Acts::none(alloc)));
+        self.footprint.evict();
         self.stage = self.stage.lost();
     }
 
@@ -291,6 +318,7 @@ impl Connection {
         ensures { self.new ≡ with_appended self.old said ticket }
     {
         self.progress = self.progress.after(said.role, ticket);
+        self.footprint.settle();
         if said.is_last {
             self.last_receipt = Some(ticket);
         }

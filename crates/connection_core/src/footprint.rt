@@ -1,16 +1,17 @@
 //! How many bytes a session has in each snapshot of the broker.
 
-ghost use Rattle.std.specs.Prelude.{◌≡◌, ◌≤◌, ◌++◌, ◌∷◌, [], filter, not, OnOk, OnErr};
-ghost use Rattle.connection_core.specs.Footprints.{has_id, part, parts_of, total};
+ghost use Rattle.std.specs.Prelude.{◌≡◌, ◌≤◌, ◌<◌, ◌++◌, ◌∷◌, ◌^◌, [], filter, not, OnOk, OnErr};
+ghost use Rattle.connection_core.specs.Footprints.{charged, has_id, part, parts_of, total};
 
 use command_core::Op;
 use record_core::{HeaderText, option_size, text_size};
 use std::alloc::{AllocError, Global};
 use std::marker::Model;
 
-/// How many bytes a session may have in a snapshot of the broker, beside the messages that are held. They are its client's name, and
-/// the ids, destinations and durable names of its subscriptions, with the numbers beside them. 16,384 sessions of so many are
-/// 134,217,728 bytes. With all that may be held beside them they fit into each of the two areas of a journal of 512 MiB.
+/// How many bytes the sessions of a desk may have in a snapshot of the broker for each client that may sit there, beside the messages that
+/// are held. They are the clients' names, and the ids, destinations and durable names of subscriptions, with the numbers beside them.
+/// 16,384 sessions of so many are 134,217,728 bytes. With all that may be held beside them they fit into each of the two areas of a
+/// journal of 512 MiB.
 pub const SESSION_BYTES: u64 = 8_192;
 
 /// What one command adds to a snapshot: an Open its session, a SUBSCRIBE its subscription, which has an id.
@@ -20,47 +21,91 @@ pub struct Part {
     bytes: u64,
 }
 
-// What stands of a session in a snapshot: what its commands add, unless an UNSUBSCRIBE has ended it. It is at most
-// `SESSION_BYTES`. Contracts see the list of its parts.
+/// Why acts of a connection were cut off: not done, though its client asked for them and no command before kept them back.
+#[derive(Clone, Copy)]
+pub enum Cut {
+    /// None were.
+    No,
+    /// Its next command would have its session pass so many bytes.
+    Full(u64),
+    /// Its server needed the memory.
+    Evicted,
+}
+
+// What stands of a session in a snapshot: what its commands add, unless an UNSUBSCRIBE has ended it. What is counted for that is at most
+// what it may have, which its desk says anew from turn to turn.
 #[derive(Drop)]
 pub(crate) struct Footprint {
     parts: Vec<Part>,
+    // What stands, or more while an UNSUBSCRIBE waits.
+    counted: u64,
+    // What it may have now.
+    room: u64,
+    // What all of its desk may have together.
+    limit: u64,
+    cut: Cut,
 }
 
 impl Model for Footprint {
-    ghost use Rattle.std.specs.Prelude.{◌≤◌, List};
-    ghost use Rattle.connection_core.specs.Footprints.{total};
-    ghost use Rattle.connection_core.specs.declared.footprint.Part.{Part};
-    ghost use Rattle.connection_core.specs.declared.footprint.TheConstants.{SESSION_BYTES};
+    ghost use Rattle.std.specs.Prelude.{◌≤◌};
+    ghost use Rattle.connection_core.specs.Footprints.{FootprintValue, IsFootprint};
 
-    ghost Value = { List Part };
+    ghost Value = { FootprintValue };
 
-    ghost view = { λ a. a.parts.items };
+    ghost view = { λ a. record { parts = a.parts.items; counted = a.counted; room = a.room; limit = a.limit; cut = a.cut } };
 
-    ghost invariant = { λ a. total a.parts.items ≤ SESSION_BYTES };
+    ghost invariant = { λ a. IsFootprint (record { parts = a.parts.items; counted = a.counted; room = a.room; limit = a.limit; cut = a.cut }) };
 }
 
 impl Footprint {
-    ghost use Rattle.std.specs.Prelude.{◌<◌, true, false};
-    ghost use Rattle.connection_core.specs.Footprints.{charged};
+    ghost use Rattle.std.specs.Prelude.{true, false};
+    ghost use Rattle.connection_core.specs.Footprints.{IsFootprint, none_standing, settled, spent};
 
-    // That of a session that has said nothing. No memory is taken.
-    pub(crate) fn new(alloc: Global) -> Footprint
-        ensures { result ≡ [] }
+    // That of a session that has said nothing, at a desk whose sessions may have so many bytes. No memory is taken.
+    pub(crate) fn new(alloc: Global, limit: u64) -> Footprint
+        ensures { result ≡ none_standing limit }
     {
         Footprint {
             parts: Vec::new(alloc),
+            counted: 0,
+            room: limit,
+            limit,
+            cut: Cut::No,
         }
     }
 
-    // Whether it keeps within `SESSION_BYTES` with that command.
+    // How many bytes are counted for it.
+    pub(crate) fn counted(&self) -> u64
+        ensures value { result ≡ self.now.counted }
+        ensures form { IsFootprint self.now }
+    {
+        self.counted
+    }
+
+    pub(crate) fn cut(&self) -> Cut
+        ensures { result ≡ self.now.cut }
+    {
+        self.cut
+    }
+
+    // It may have so many bytes.
+    pub(crate) fn allow(&mut self, room: u64)
+        requires least { self.old.counted ≤ room }
+        requires most { room ≤ self.old.limit }
+        ensures { self.new ≡ record self.old { room = room } }
+    {
+        self.room = room;
+    }
+
+    // Whether it keeps within what it may have with that command.
     pub(crate) fn admits(&self, op: &Op) -> bool
-        ensures yes { result ≡ true → total (charged self.now op.now) ≤ SESSION_BYTES }
-        ensures no { result ≡ false → SESSION_BYTES < total (charged self.now op.now) }
+        ensures yes { result ≡ true → total (charged self.now.parts op.now) ≤ self.now.room }
+        ensures no { result ≡ false → self.now.room < total (charged self.now.parts op.now) }
+        ensures form { IsFootprint self.now }
     {
         match op {
             Op::Open { .. } | Op::Subscribe { .. } => {
-                total(self.parts.as_slice()) + size_of(op) <= SESSION_BYTES
+                size_of(op) <= self.room - total(self.parts.as_slice())
             }
             _ => true,
         }
@@ -68,19 +113,50 @@ impl Footprint {
 
     // Adds what the command adds, and drops what it ends. If memory is refused, it is as it was; only what adds takes memory.
     pub(crate) fn charge(&mut self, alloc: Global, op: &Op) -> Result<(), AllocError>
-        requires { total (charged self.old op.now) ≤ SESSION_BYTES }
-        ensures ok { OnOk result (self.new ≡ charged self.old op.now) }
+        requires { total (charged self.old.parts op.now) ≤ self.old.room }
+        ensures ok { OnOk result (self.new ≡ spent self.old op.now) }
         ensures err { OnErr result (self.new ≡ self.old) }
     {
-        match op {
-            Op::Open { .. } => push(&mut self.parts, None, size_of(op)),
-            Op::Subscribe { id, .. } => push(&mut self.parts, Some(id.clone()?), size_of(op)),
-            Op::Unsubscribe { id, .. } => {
-                release(&mut self.parts, id);
-                Ok(())
-            }
-            _ => Ok(()),
+        add(alloc, &mut self.parts, op)?;
+        self.counted = self.counted.max(total(self.parts.as_slice()));
+        Ok(())
+    }
+
+    // The command that was counted last was appended.
+    pub(crate) fn settle(&mut self)
+        ensures { self.new ≡ settled self.old }
+    {
+        self.counted = total(self.parts.as_slice());
+    }
+
+    // Its session's acts are cut off, since the next would pass what it may have.
+    pub(crate) fn fill(&mut self)
+        ensures { self.new ≡ record self.old { cut = Cut.Full self.old.room } }
+    {
+        self.cut = Cut::Full(self.room);
+    }
+
+    // Its session's acts are cut off, since the memory is needed.
+    pub(crate) fn evict(&mut self)
+        ensures { self.new ≡ record self.old { cut = Cut.Evicted } }
+    {
+        self.cut = Cut::Evicted;
+    }
+}
+
+// Adds what the command adds, and drops what it ends.
+fn add(alloc: Global, parts: &mut Vec<Part>, op: &Op) -> Result<(), AllocError>
+    ensures ok { OnOk result (parts.new.items ≡ charged parts.old.items op.now) }
+    ensures err { OnErr result (parts.new.items ≡ parts.old.items) }
+{
+    match op {
+        Op::Open { .. } => push(parts, None, size_of(op)),
+        Op::Subscribe { id, .. } => push(parts, Some(id.clone()?), size_of(op)),
+        Op::Unsubscribe { id, .. } => {
+            release(parts, id);
+            Ok(())
         }
+        _ => Ok(()),
     }
 }
 
@@ -109,7 +185,7 @@ fn has_id(one: &Part, id: &Option<HeaderText>) -> bool
 }
 
 fn total(parts: &[Part]) -> u64
-    requires { total parts.now ≤ SESSION_BYTES }
+    requires { total parts.now < 2 ^ 64 }
     ensures { result ≡ total parts.now }
 {
     parts.iter().map(|one| one.bytes).sum()

@@ -13,7 +13,7 @@ mod weights;
 
 pub use connection::Connection;
 pub use ended::Ended;
-pub use footprint::SESSION_BYTES;
+pub use footprint::{Cut, SESSION_BYTES};
 pub use progress::{Progress, Role};
 pub use said::{Said, Wanted};
 pub use stage::Stage;

@@ -4,12 +4,15 @@ use Rattle.std.specs.Prelude.{◌==◌, cond, option_map}
 use Rattle.std.proofs.lemmas.Bool.{cases_eq, cases_lt}
 use Rattle.std.proofs.lemmas.List.{get_or_past}
 use Rattle.std.proofs.lemmas.Option.{get_or_from_slice_get, slice_get-get_or}
+use Rattle.connection_core.specs.Connections.{evicted}
 use Rattle.desk_core.specs.declared.place.Seated.{Seated}
 use Rattle.desk_core.specs.Chains.{AreTaken, Calls, Chain, Lived, deeds_at, deeds_of, last_of}
 use Rattle.desk_core.specs.Effects.{Effect}
 use Rattle.desk_core.specs.Desks.{Admits, DeskValue, SitsAt, seated_at}
 use Rattle.desk_core.specs.Histories.{Heeds}
-use Rattle.desk_core.proofs.Going.{did, heeds_none, heeds_then}
+use Rattle.desk_core.specs.Places.{ChangedAt}
+use Rattle.desk_core.proofs.Evicting.{evicts}
+use Rattle.desk_core.proofs.Going.{heeds_none, heeds_then, lives_anew}
 use Rattle.desk_core.proofs.Lists.{cond_other, cond_same}
 
 one_seated : {X : Type 0} (o : Option (Option X)) (a b : X) → o ≡ Some (Some a) → o ≡ Some (Some b) → a ≡ b
@@ -34,14 +37,18 @@ module _ {B L : Type 0} (sent : L → Option (List (List ℕ))) (received : L �
   at_place old new at (inl turn) s sat taken =
       (turn.1.is, turn.1.sits, subst (λ (w : Seated B L). Heeds received w.slot w.link turn.1.is.slot turn.1.is.link turn.1.effects) (one_seated _ _ _ turn.1.sat sat) turn.1.heeds)
   at_place old new at (inr (inl touch)) s sat taken = let is = touch.unserved s sat in (is.0, is.1, is.3.heeds)
-  at_place old new at (inr (inr (link, inl admits))) s sat taken = absurd (never_free old.places at s admits.was_free sat)
-  at_place old new at (inr (inr (link, inr leaves))) s sat taken = absurd (never_free new.places at taken.0 leaves.free taken.1)
+  at_place old new at (inr (inr (inl changes))) s sat taken =
+      let is = subst (λ o. ChangedAt evicted o (seated_at new.places at)) (get_or_from_slice_get old.places at (Some s) None sat) changes.changed in
+      (is.0, sits_there new.places at is.0 is.1, evicts received s.slot is.0.slot s.link is.0.link (ap received is.2.link) is.2.connection is.2.pending)
+  at_place old new at (inr (inr (inr (link, inl admits)))) s sat taken = absurd (never_free old.places at s admits.was_free sat)
+  at_place old new at (inr (inr (inr (link, inr leaves)))) s sat taken = absurd (never_free new.places at taken.0 leaves.free taken.1)
 
   others_stay : (old new : DeskValue B L) (at : ℕ) → Calls sent received old new at → (k : ℕ) → (k ≡ at → ⊥) → (s : Seated B L) → SitsAt old.places k s → SitsAt new.places k s
   others_stay old new at (inl turn) k other s sat = turn.2.others k other ∙ sat
   others_stay old new at (inr (inl touch)) k other s sat = touch.others.others k other ∙ sat
-  others_stay old new at (inr (inr (link, inl admits))) k other s sat = sits_there new.places k s (admits.others k other ∙ get_or_from_slice_get old.places k (Some s) None sat)
-  others_stay old new at (inr (inr (link, inr leaves))) k other s sat = sits_there new.places k s (leaves.others k other ∙ get_or_from_slice_get old.places k (Some s) None sat)
+  others_stay old new at (inr (inr (inl changes))) k other s sat = changes.others.others k other ∙ sat
+  others_stay old new at (inr (inr (inr (link, inl admits)))) k other s sat = sits_there new.places k s (admits.others k other ∙ get_or_from_slice_get old.places k (Some s) None sat)
+  others_stay old new at (inr (inr (inr (link, inr leaves)))) k other s sat = sits_there new.places k s (leaves.others k other ∙ get_or_from_slice_get old.places k (Some s) None sat)
 
   one_call : (old new : DeskValue B L) (at place : ℕ) (c : Calls sent received old new at) (s : Seated B L) → SitsAt old.places place s → (t : Seated B L) × SitsAt new.places place t
       → Went new place s (cond (at == place) (deeds_of sent received old new at c) [])
@@ -66,10 +73,10 @@ module _ {B L : Type 0} (sent : L → Option (List (List ℕ))) (received : L �
       (all_calls place from (before ++ effects) new others chain.1 so.0 so.1 (heeds_then received from.slot s.slot so.0.slot from.link s.link so.0.link before effects h so.2) taken.1 is sits)
 
   pub lives : (old first : DeskValue B L) (link : L) (place : ℕ) (others : List (DeskValue B L)) (chain : Chain sent received first others) → Admits old first link place → AreTaken place others → (is : Seated B L)
-      → SitsAt (last_of first others).places place is → Lived received link is.link (deeds_at sent received place first others chain)
+      → SitsAt (last_of first others).places place is → Lived received link is (deeds_at sent received place first others chain)
   lives old first link place others chain admits taken is sits =
       let h = all_calls place admits.seated [] first others chain admits.seated admits.sits (heeds_none received admits.seated.slot admits.seated.link).heeds taken is sits in record {
         got = h.got;
         read = h.read ∙ ap (λ l. option_map (λ bytes. bytes ++ h.got) (received l)) admits.link_is;
-        did = did admits.seated.slot is.slot h.got (deeds_at sent received place first others chain) admits.is_new h.lives;
+        lives = lives_anew old.limit admits.seated.slot is.slot h.got (deeds_at sent received place first others chain) admits.is_new h.lives;
       }

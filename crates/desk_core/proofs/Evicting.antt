@@ -1,14 +1,25 @@
 -- What an evicted connection keeps.
-use Rattle.std.proofs.Common.{◌≡◌, Option, Some, ap, refl, subst, sym, ◌∙◌, true}
-use Rattle.command_core.specs.Commands.{CommandValue}
-use Rattle.connection_core.specs.Connections.{ConnectionValue, evicted}
+use Rattle.std.proofs.Common.{◌≡◌, ◌++◌, ◌∷◌, [], ℕ, List, Option, None, append_assoc, append-nil, ap, inl, inr, refl, subst, sym, ◌∙◌, ◌⊎◌}
+use Rattle.std.specs.List.{AllByRecursion}
+use Rattle.command_core.specs.declared.command.Op.{Op}
+use Rattle.session_core.specs.declared.act.Act.{Act}
+use Rattle.connection_core.specs.Connections.{ConnectionValue, evicted, with_lost}
 use Rattle.connection_core.specs.Stages.{Executes, lost}
+use Rattle.connection_core.specs.Tasks.{all_of, tasks}
+use Rattle.connection_core.specs.declared.footprint.Cut.TheVariants as cuts
+use Rattle.connection_core.specs.declared.said.Wanted.{Wanted}
 use Rattle.connection_core.specs.declared.ended.Ended.TheVariants.{Bye, Bad, Lost, Stopped}
 use Rattle.connection_core.specs.declared.stage.Stage.{Stage}
 use Rattle.connection_core.specs.declared.stage.Stage.TheVariants.{Running, GivingUp, Closing, Parting, Leaving, Over}
+use Rattle.desk_core.specs.Effects.{Effect}
+use Rattle.desk_core.specs.Histories.{Heeds, IsLoss, Lives, LivesAt, act_of, wanted_of}
 use Rattle.desk_core.specs.Keeping.{KeepsOwn, WaitsNext, is_next}
 use Rattle.desk_core.specs.declared.kept.Kept.{Kept}
+use Rattle.desk_core.specs.Spending.{Spends, waiting_of}
 use Rattle.desk_core.specs.declared.pending.Pending.{Pending}
+use Rattle.desk_core.specs.declared.slot.Slot.{Slot}
+use Rattle.desk_core.proofs.Going.{by_deeds}
+use Rattle.desk_core.proofs.Living.{loses, restays}
 
 pub lost_not_running : (stage : Stage) → lost stage ≡ Running → ⊥
 lost_not_running Running e = cc
@@ -38,3 +49,85 @@ evicted_waits old new p same w = λ it some e.
 
 pub evicted_own : (old new : ConnectionValue) (k : Kept) → new ≡ evicted old → KeepsOwn new k
 evicted_own old new k same = λ out e runs. absurd (lost_not_running old.stage (sym (ap (λ (c : ConnectionValue). c.stage) same) ∙ runs))
+
+-- ── what it does then of what was asked for ──
+
+-- of two ways to cut one list one is the shorter in front
+splits : {X : Type 0} (xs ys zs ws : List X) → xs ++ ys ≡ zs ++ ws → ((m : List X) × (xs ≡ zs ++ m) × (ws ≡ m ++ ys)) ⊎ ((m : List X) × (zs ≡ xs ++ m) × (ys ≡ m ++ ws))
+splits xs ys [] ws e = inl (xs, refl, sym e)
+splits [] ys (z ∷ zs) ws e = inr (z ∷ zs, refl, e)
+splits (x ∷ xs) ys (z ∷ zs) ws e = elim (splits xs ys zs ws (tail e)) [
+  | inl l ↦ inl (l.0, ap (λ a. x ∷ a) l.1 ∙ ap (λ a. a ∷ (zs ++ l.0)) (head e), l.2)
+  | inr r ↦ inr (r.0, ap (λ a. z ∷ a) r.1 ∙ ap (λ a. a ∷ (xs ++ r.0)) (sym (head e)), r.2)
+]
+  where
+    tail : x ∷ (xs ++ ys) ≡ z ∷ (zs ++ ws) → xs ++ ys ≡ zs ++ ws
+    tail f = cc
+
+    head : x ∷ (xs ++ ys) ≡ z ∷ (zs ++ ws) → x ≡ z
+    head f = cc
+
+all_front : {X : Type 0} (P : X → Type 0) (xs ys : List X) → AllByRecursion P (xs ++ ys) → AllByRecursion P xs
+all_front P [] ys all = tt
+all_front P (x ∷ xs) ys all = (all.0, all_front P xs ys all.1)
+
+-- what waits is dropped
+abbrev dropped : ConnectionValue → ConnectionValue
+dropped c = record c { acts = tasks None []; footprint = record c.footprint { cut = cuts.Evicted } }
+
+drops_so : (bytes : List ℕ) (effects : List Effect) (c : ConnectionValue) (wanted : Wanted) (l : Lives bytes effects c wanted) (asked cut losses : List Act) → (c.stage ≡ Running → ⊥) → l.all ≡ asked ++ cut → AllByRecursion IsLoss losses
+    → asked ++ losses ≡ l.done ++ (act_of wanted ++ l.left) → Lives bytes effects (dropped c) wanted
+drops_so bytes effects c wanted l asked cut losses over halves are_losses split = record {
+  heard = l.heard;
+  unheard = l.unheard;
+  whole = l.whole;
+  all = l.all;
+  session = l.session;
+  hears = l.hears;
+  asked_for = asked;
+  cut = cut;
+  halves = halves;
+  losses = losses;
+  are_losses = are_losses;
+  done = l.done;
+  left = l.left;
+  split = split ∙ ap (λ a. l.done ++ (act_of wanted ++ a)) (sym (append-nil l.left));
+  cut_for = inr tt;
+  reached = l.reached;
+  does = l.does;
+  none_untold = l.none_untold;
+  none_unheard = λ r. absurd (over r);
+  none_lost = λ r. absurd (over r);
+  none_cut = λ r. absurd (over r);
+  phase = λ r. absurd (over r);
+  rest = λ r on. absurd (over r);
+  none_left = l.none_left;
+  stands = l.stands;
+  next = l.next;
+  stood = l.stood;
+  last = l.last;
+  ended = l.ended;
+}
+
+drops_it : (bytes : List ℕ) (effects : List Effect) (c : ConnectionValue) (wanted : Wanted) → (c.stage ≡ Running → ⊥) → Lives bytes effects c wanted → Lives bytes effects (dropped c) wanted
+drops_it bytes effects c wanted over l =
+    let front : List Act = l.done ++ (act_of wanted ++ l.left) in
+    let all : l.asked_for ++ l.losses ≡ front ++ all_of c.acts =
+    l.split ∙ ap (λ a. l.done ++ a) (sym (append_assoc (act_of wanted) l.left (all_of c.acts))) ∙ sym (append_assoc l.done (act_of wanted ++ l.left) (all_of c.acts)) in
+    elim (splits l.asked_for l.losses front (all_of c.acts) all) [
+      | inl m ↦ drops_so bytes effects c wanted l front (m.0 ++ l.cut) [] over (l.halves ∙ ap (λ a. a ++ l.cut) m.1 ∙ append_assoc front m.0 l.cut) tt (append-nil front)
+      | inr m ↦ drops_so bytes effects c wanted l l.asked_for l.cut m.0 over l.halves (all_front IsLoss m.0 (all_of c.acts) (subst (AllByRecursion IsLoss) m.2 l.are_losses)) (sym m.1)
+    ]
+
+spends_evicted : (effects : List Effect) (waiting : List Op) (c : ConnectionValue) → Spends effects c waiting → Spends effects (evicted c) waiting
+spends_evicted effects waiting c s = record { within = s.within; stands = λ e. s.stands (lost_executes c.stage e); counted = s.counted }
+
+evicts_it : (bytes : List ℕ) (effects : List Effect) (c : ConnectionValue) (wanted : Wanted) → Lives bytes effects c wanted → Lives bytes effects (evicted c) wanted
+evicts_it bytes effects c wanted l = drops_it bytes effects (with_lost c) wanted (lost_not_running c.stage) (restays bytes effects c (with_lost c) wanted (loses c (with_lost c) refl).restaged l)
+
+pub evicts : {B L : Type 0} (received : L → Option (List ℕ)) (was is : Slot B) (from to : L) → received to ≡ received from → is.connection ≡ evicted was.connection → is.pending ≡ was.pending → Heeds received was from is to []
+evicts received was is from to unread same pending = by_deeds received was is from to [] unread
+    (λ bytes before x. subst (λ d. LivesAt bytes d is) (sym (append-nil before))
+    (subst (λ p. Lives bytes before is.connection (wanted_of p) × Spends before is.connection (waiting_of p)) (sym pending)
+    (subst (λ c. Lives bytes before c (wanted_of was.pending) × Spends before c (waiting_of was.pending)) (sym same)
+    (evicts_it bytes before was.connection (wanted_of was.pending) x.0, spends_evicted before (waiting_of was.pending) was.connection x.1))))

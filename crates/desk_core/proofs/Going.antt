@@ -10,12 +10,10 @@ use Rattle.claim_core.specs.Seats.{SessionSeatValue, with_seen}
 use Rattle.claim_core.specs.declared.refusals.Refused.{Refused}
 use Rattle.claim_core.specs.declared.refusals.Refused.TheVariants as refusals
 use Rattle.session_core.specs.declared.act.Act.{Act}
-use Rattle.connection_core.specs.Connections.{ConnectionValue, Fails, HearsBytes, Listens, Wants, WantsBy, to_append, with_appended}
+use Rattle.connection_core.specs.Connections.{ConnectionValue, Fails, HearsBytes, Listens, Wants, WantsBy, filled, to_append, with_appended, with_room}
 use Rattle.connection_core.specs.Conversations.{said_of}
-use Rattle.connection_core.specs.Footprints.{charged, total}
-use Rattle.connection_core.specs.Stages.{Executes, IsEnding, given_up, stopped}
-use Rattle.connection_core.specs.declared.footprint.TheConstants.{SESSION_BYTES}
-use Rattle.connection_core.specs.Tasks.{all_of, tasks}
+use Rattle.connection_core.specs.Footprints.{FootprintValue, IsFootprint, charged, spent, total}
+use Rattle.connection_core.specs.Stages.{Executes, IsEnding, stopped}
 use Rattle.connection_core.specs.declared.progress.Progress.{Progress}
 use Rattle.connection_core.specs.declared.said.Wanted.{Wanted}
 use Rattle.connection_core.specs.declared.said.Wanted.TheVariants.{Append, Tell, Done, Rest}
@@ -27,18 +25,29 @@ use Rattle.desk_core.specs.Conversations.{StaysOrEnds}
 use Rattle.desk_core.specs.Effects.{Effect, Said, Told, Untold, Tells, commands_of, told_of, untold_of}
 use Rattle.desk_core.specs.Steps.{GoesOn, SaysNext, TellsIt}
 use Rattle.desk_core.specs.Halting.{FindsEnd, HasHalted, IsFinal}
-use Rattle.desk_core.specs.Histories.{Did, DoesWanted, HasTold, Heeds, Idles, Lives, LivesAt, LivesOn, Restaged, Steady, act_of, wanted_of}
+use Rattle.desk_core.specs.Histories.{DoesWanted, HasTold, Heeds, Idles, Lives, LivesAt, LivesOn, Restaged, Steady, act_of, wanted_of}
 use Rattle.desk_core.specs.Relays.{ReadsMark}
-use Rattle.desk_core.specs.Spending.{Spends, ops_of, waiting_of}
+use Rattle.desk_core.specs.Spending.{IsEvicted, KeepsRoom, Spends, waiting_of}
 use Rattle.desk_core.specs.Slots.{IsNew, Served, Stays, Unserved}
 use Rattle.desk_core.specs.declared.pending.Pending.{Pending}
 use Rattle.desk_core.specs.declared.slot.Slot.{Slot}
 use Rattle.desk_core.proofs.Doing.{commands_append, told_append}
 use Rattle.desk_core.proofs.Living.{again_next, begins, halted_giving, hears_more, leaves_it, not_halted, restages, same_stage, says_it, stopped_over, stops, tells_it, tells_none, wants_halts, wants_next}
-use Rattle.desk_core.proofs.Spending.{counts_it, cut_by_count, cuts_it, spends_as, spends_charged, spends_new, spends_no_more, spends_on, spends_said, spends_wanted}
+use Rattle.desk_core.proofs.Spending.{counts_it, cut_by_count, cuts_it, spends_as, spends_charged, spends_filled, spends_new, spends_no_more, spends_on, spends_room, spends_said, spends_wanted}
 use Rattle.desk_core.proofs.Messages.{quiet, restay, reserve, served, still, unserved, wants_no_other}
 use Rattle.desk_core.proofs.Talking.{ends_so, joined, reads_so, stays}
-use Rattle.connection_core.proofs.Footprints.{within_less}
+
+-- ── what it may have stays ──
+
+pub keeps_same : (old new : ConnectionValue) → new.footprint ≡ old.footprint → KeepsRoom old new
+keeps_same old new same = record {
+  room = ap (λ (f : FootprintValue). f.room) same;
+  limit = ap (λ (f : FootprintValue). f.limit) same;
+  evicted = λ e. subst (λ (f : FootprintValue). IsEvicted f.cut) same e;
+}
+
+keeps_then : (old mid new : ConnectionValue) → KeepsRoom old mid → KeepsRoom mid new → KeepsRoom old new
+keeps_then old mid new a b = record { room = b.room ∙ a.room; limit = b.limit ∙ a.limit; evicted = λ e. a.evicted (b.evicted e) }
 
 -- ── what is heard and done ──
 
@@ -66,6 +75,7 @@ heeds_quietly received was is from to unread steady pending = let restaged = ste
         as_before (bytes ++ []) before is (was.pending) pending (restages bytes [] before was.connection is.connection (wanted_of was.pending) restaged (λ r. refl) l.0)
         (spends_on before (waiting_of was.pending) was.connection is.connection restaged.executes restaged.footprint l.1);
   };
+  footprint = restaged.footprint;
   halts = steady.halts;
 }
 
@@ -93,6 +103,7 @@ goes_then sent received was mid is s t u l m n a b = record {
   continues = joined was.connection.progress mid.connection.progress is.connection.progress s t u a.continues b.continues;
   served = subst (λ frames. Served sent frames was l is n) (sym (told_append a.effects b.effects)) (served sent (told_of a.effects) (told_of b.effects) was mid is l m n a.served b.served);
   heeds = heeds_then received was mid is l m n a.effects b.effects a.heeds b.heeds;
+  keeps = keeps_then was.connection mid.connection is.connection a.keeps b.keeps;
   halts = λ before h. b.halts (λ m. a.halts before m) h;
 }
 
@@ -108,6 +119,7 @@ goes_quietly sent received was is s l m u h = record {
   continues = stands was.connection.progress is.connection.progress s s u.progress refl;
   served = unserved sent was is l m u;
   heeds = h.heeds;
+  keeps = keeps_same was.connection is.connection h.footprint;
   halts = λ before e. before (h.halts e);
 }
 
@@ -127,11 +139,12 @@ goes_reading sent received was is s t l m ends reads served idles = record {
   continues = reads_so was.connection.progress was.connection.progress is.connection.progress s s t t.seen (stays was.connection.progress s) ends reads.seen;
   served = served;
   heeds = idles.heeds;
+  keeps = keeps_same was.connection is.connection idles.footprint;
   halts = λ before e. found_later s t t.seen reads.seen reads.no_less (before (idles.halts e));
 }
 
 -- with what was wanted and done, and no bytes
-by_deeds : {B L : Type 0} (received : L → Option (List ℕ)) (was is : Slot B) (l m : L) (effects : List Effect) → received m ≡ received l
+pub by_deeds : {B L : Type 0} (received : L → Option (List ℕ)) (was is : Slot B) (l m : L) (effects : List Effect) → received m ≡ received l
     → ((bytes : List ℕ) (before : List Effect) → LivesAt bytes before was → LivesAt bytes (before ++ effects) is) → Heeds received was l is m effects
 by_deeds received was is l m effects unread lives = record {
   got = [];
@@ -140,31 +153,17 @@ by_deeds received was is l m effects unread lives = record {
 }
 
 -- the whole life of a connection
-pub did : {B : Type 0} (was is : Slot B) (got : List ℕ) (effects : List Effect) → IsNew was → ((bytes : List ℕ) (before : List Effect) → LivesAt bytes before was → LivesAt (bytes ++ got) (before ++ effects) is) → Did got effects
-did was is got effects anew lives =
-    let spends = spends_new was.connection (ap (λ (c : ConnectionValue). c.footprint) anew.connection) in
-    let both : LivesAt got effects is =
-    lives [] [] (subst (λ p. Lives [] [] was.connection (wanted_of p) × Spends [] was.connection (waiting_of p)) (sym anew.pending) (begins was.connection anew.connection, spends)) in
-    let last = both.0 in record {
-      heard = last.heard;
-      unheard = last.unheard;
-      whole = last.whole;
-      all = last.all;
-      session = last.session;
-      hears = last.hears;
-      asked_for = last.asked_for;
-      cut = last.cut;
-      halves = last.halves;
-      losses = last.losses;
-      are_losses = last.are_losses;
-      done = last.done;
-      cut_for = last.cut_for;
-      within = within_less (ops_of (commands_of effects)) (waiting_of is.pending) both.1.within;
-      left = act_of (wanted_of is.pending) ++ (last.left ++ all_of is.connection.acts);
-      split = last.split;
-      reached = last.reached;
-      does = last.does;
-    }
+pub lives_anew : {B : Type 0} (limit : ℕ) (was is : Slot B) (got : List ℕ) (effects : List Effect) → IsNew limit was → ((bytes : List ℕ) (before : List Effect) → LivesAt bytes before was → LivesAt (bytes ++ got) (before ++ effects) is) → LivesAt got effects is
+lives_anew limit was is got effects anew lives =
+    let spends = spends_new limit was.connection (ap (λ (c : ConnectionValue). c.footprint) anew.connection) in
+    lives [] [] (subst (λ p. Lives [] [] was.connection (wanted_of p) × Spends [] was.connection (waiting_of p)) (sym anew.pending) (begins limit was.connection anew.connection, spends))
+
+-- where what it may have has changed
+pub allowed : {B : Type 0} (room : ℕ) (was mid : Slot B) (bytes : List ℕ) (before : List Effect) → mid.connection ≡ with_room room was.connection → mid.pending ≡ was.pending → LivesAt bytes before was → LivesAt bytes before mid
+allowed room was mid bytes before is pending l =
+    subst (λ p. Lives bytes before mid.connection (wanted_of p) × Spends before mid.connection (waiting_of p)) (sym pending)
+    (subst (λ c. Lives bytes before c (wanted_of was.pending) × Spends before c (waiting_of was.pending)) (sym is)
+    (counts_it bytes before was.connection (record was.connection.footprint { room = room }) (wanted_of was.pending) refl l.0, spends_room room before (waiting_of was.pending) was.connection l.1))
 
 -- ── what a link gave ──
 
@@ -184,6 +183,7 @@ heeds_unheard received was is from to got read over steady pending = let restage
         as_before (bytes ++ got) before is was.pending pending (restages bytes got before was.connection is.connection (wanted_of was.pending) restaged (λ r. absurd (over r)) l.0)
         (spends_on before (waiting_of was.pending) was.connection is.connection restaged.executes restaged.footprint l.1);
   };
+  footprint = restaged.footprint;
   halts = steady.halts;
 }
 
@@ -223,6 +223,7 @@ heeds_bytes received was is from to got (Ok x) listens none heard failed read pe
         (spends_on before [] was.connection is.connection (λ e. subst Executes (sym listens.0) tt) (ap (λ (c : ConnectionValue). c.footprint) heard.same)
         (subst (λ p. Spends before was.connection (waiting_of p)) none l.1));
   };
+  footprint = ap (λ (c : ConnectionValue). c.footprint) heard.same;
   halts = λ h. subst HasHalted (ap (λ (c : ConnectionValue). c.stage) heard.same) h;
 }
 heeds_bytes received was is from to got (Err e) listens none heard failed read pending =
@@ -247,7 +248,7 @@ held_so old new p pending same kept = λ bytes before l s.
 pub stopped_so : {B : Type 0} (old new : ConnectionValue) (p : Option (Pending B)) (wanted : Wanted) (waiting : List Op) → new ≡ record old { stage = stopped old.stage } → p ≡ None → LivesOn wanted waiting old new p []
 stopped_so old new p wanted waiting same none = λ bytes before l s.
     none_more_waits bytes before new p none (leaves_it bytes before old new wanted (stops old new same) (stopped_over old new same) l)
-    (spends_no_more before waiting old new (stopped_over old new same) s)
+    (spends_no_more before waiting old new (stopped_over old new same) (ap (λ (x : ConnectionValue). x.footprint) same) s)
 
 pub said_so : {B : Type 0} (old new : ConnectionValue) (p : Option (Pending B)) (c : CommandValue) (ticket : ℕ) → Executes old.stage → new ≡ with_appended old (said_of c) ticket → p ≡ None → LivesOn (to_append c) (c.op ∷ []) old new p (Said (ticket, c) ∷ [])
 said_so old new p c ticket executes same none = λ bytes before l s.
@@ -266,12 +267,12 @@ again_so old new p wanted act executes first is_act same none = λ bytes before 
     none_more_waits bytes before new p none (again_next bytes before old new wanted act executes first is_act same l)
     (spends_on before [] old new (λ e. executes) (ap (λ (x : ConnectionValue). x.footprint) same) s)
 
-pub nothing_wanted : {B : Type 0} (wanted : Wanted) (old new : ConnectionValue) (p : Option (Pending B)) (waiting : List Op) (s t : SessionSeatValue) → t.own ≡ s.own → (HasHalted new.stage → HasHalted old.stage ⊎ FindsEnd t) → LivesOn wanted waiting old new p [] → DoesWanted wanted waiting old s new p t
-nothing_wanted wanted old new p waiting s t own halts lives = record { effects = []; added = own ∙ sym (append-nil s.own); none_told = refl; halts = halts; lives = lives }
+pub nothing_wanted : {B : Type 0} (wanted : Wanted) (old new : ConnectionValue) (p : Option (Pending B)) (waiting : List Op) (s t : SessionSeatValue) → t.own ≡ s.own → KeepsRoom old new → (HasHalted new.stage → HasHalted old.stage ⊎ FindsEnd t) → LivesOn wanted waiting old new p [] → DoesWanted wanted waiting old s new p t
+nothing_wanted wanted old new p waiting s t own keeps halts lives = record { effects = []; added = own ∙ sym (append-nil s.own); none_told = refl; keeps = keeps; halts = halts; lives = lives }
 
 pub said_it : {B : Type 0} (window : ℕ) (old new : ConnectionValue) (p : Option (Pending B)) (s t : SessionSeatValue) (c : CommandValue) (ticket : ℕ) → Executes old.stage → Appends window s t ticket c → new ≡ with_appended old (said_of c) ticket → p ≡ None
     → DoesWanted (to_append c) (c.op ∷ []) old s new p t
-said_it window old new p s t c ticket executes a same none = record { effects = Said (ticket, c) ∷ []; added = ap (λ (x : SessionSeatValue). x.own) a.added; none_told = refl; halts = λ h. inl (subst HasHalted (ap (λ (x : ConnectionValue). x.stage) same) h); lives = said_so old new p c ticket executes same none }
+said_it window old new p s t c ticket executes a same none = record { effects = Said (ticket, c) ∷ []; added = ap (λ (x : SessionSeatValue). x.own) a.added; none_told = refl; keeps = subst (λ x. KeepsRoom old x) (sym same) record { room = refl; limit = refl; evicted = λ e. e }; halts = λ h. inl (subst HasHalted (ap (λ (x : ConnectionValue). x.stage) same) h); lives = said_so old new p c ticket executes same none }
 
 pub said_next : {B : Type 0} (old new : ConnectionValue) (p : Option (Pending B)) (s t : SessionSeatValue) (c : CommandValue) (ticket : ℕ) → Executes old.stage → SaysNext c old s new t ticket → p ≡ None → DoesWanted (to_append c) (c.op ∷ []) old s new p t
 said_next old new p s t c ticket executes so none = said_it WINDOW old new p s t c ticket executes so.appends so.connection none
@@ -286,23 +287,23 @@ found_so window refusals.Stopped s t is final = inl (ap (λ (x : SessionSeatValu
 found_so window refusals.Exhausted s t is final = inr is.1
 found_so window (refusals.Busy mark) s t is final = absurd final
 
-pub refused_so : {B : Type 0} (window : ℕ) (refused : Refused) (old mid new : ConnectionValue) (p : Option (Pending B)) (s t : SessionSeatValue) (c d : CommandValue) → Refuses window s t refused → mid ≡ old → d ≡ c → (HasHalted new.stage → HasHalted mid.stage ⊎ IsFinal refused) → LivesOn (to_append d) (d.op ∷ []) mid new p []
+pub refused_so : {B : Type 0} (window : ℕ) (refused : Refused) (old mid new : ConnectionValue) (p : Option (Pending B)) (s t : SessionSeatValue) (c d : CommandValue) → Refuses window s t refused → mid ≡ old → d ≡ c → new.footprint ≡ mid.footprint → (HasHalted new.stage → HasHalted mid.stage ⊎ IsFinal refused) → LivesOn (to_append d) (d.op ∷ []) mid new p []
     → DoesWanted (to_append c) (c.op ∷ []) old s new p t
-refused_so window refused old mid new p s t c d is same command halts lives =
-    nothing_wanted (to_append c) old new p (c.op ∷ []) s t (own_refused window refused s t is)
+refused_so window refused old mid new p s t c d is same command counted halts lives =
+    nothing_wanted (to_append c) old new p (c.op ∷ []) s t (own_refused window refused s t is) (keeps_same old new (counted ∙ ap (λ (x : ConnectionValue). x.footprint) same))
     (λ h. elim (halts h) [ inl before ↦ inl (subst (λ (x : ConnectionValue). HasHalted x.stage) same before) | inr final ↦ inr (found_so window refused s t is final) ])
     (subst (λ (x : CommandValue). LivesOn (to_append x) (x.op ∷ []) old new p []) command (subst (λ x. LivesOn (to_append d) (d.op ∷ []) x new p []) same lives))
 
 -- the command would have the session pass its bytes, and is dropped with all that waits behind it
-pub cut_so : {B : Type 0} (old new : ConnectionValue) (p : Option (Pending B)) (s : SessionSeatValue) (c : CommandValue) → Executes old.stage → SESSION_BYTES < total (charged old.footprint c.op) → new ≡ record old { acts = tasks None []; stage = given_up old.stage } → p ≡ None
+pub cut_so : {B : Type 0} (old new : ConnectionValue) (p : Option (Pending B)) (s : SessionSeatValue) (c : CommandValue) → Executes old.stage → IsFootprint old.footprint → old.footprint.room < total (charged old.footprint.parts c.op) → new ≡ filled old → p ≡ None
     → DoesWanted (to_append c) [] old s new p s
-cut_so old new p s c executes passes same none = nothing_wanted (to_append c) old new p [] s s refl (λ h. inl (halted_giving old.stage (subst HasHalted (ap (λ (x : ConnectionValue). x.stage) same) h))) (λ bytes before l spends.
-    let by = cut_by_count before old c.op executes spends passes in
+cut_so old new p s c executes form passes same none = nothing_wanted (to_append c) old new p [] s s refl (subst (λ x. KeepsRoom old x) (sym same) record { room = refl; limit = refl; evicted = λ e. absurd e }) (λ h. inl (halted_giving old.stage (subst HasHalted (ap (λ (x : ConnectionValue). x.stage) same) h))) (λ bytes before l spends.
+    let by = cut_by_count before old c.op executes form spends passes in
     none_more_waits bytes before new p none (cuts_it bytes before old new c executes same by.0 by.1 l)
-    (spends_on before [] old new (λ e. executes) (ap (λ (x : ConnectionValue). x.footprint) same) spends))
+    (spends_filled before old new executes same spends))
 
 -- the command is counted first
-pub charged_so : {B : Type 0} (old mid new : ConnectionValue) (p : Option (Pending B)) (s t : SessionSeatValue) (c d : CommandValue) → Executes old.stage → total (charged old.footprint c.op) ≤ SESSION_BYTES → mid ≡ record old { footprint = charged old.footprint c.op } → d ≡ c
+pub charged_so : {B : Type 0} (old mid new : ConnectionValue) (p : Option (Pending B)) (s t : SessionSeatValue) (c d : CommandValue) → Executes old.stage → total (charged old.footprint.parts c.op) ≤ old.footprint.limit → mid ≡ record old { footprint = spent old.footprint c.op } → d ≡ c
     → (Executes mid.stage → DoesWanted (to_append d) (d.op ∷ []) mid s new p t) → DoesWanted (to_append c) [] old s new p t
 charged_so {B} old mid new p s t c d executes fits counted command does =
     let own : DoesWanted (to_append c) (c.op ∷ []) mid s new p t =
@@ -310,9 +311,10 @@ charged_so {B} old mid new p s t c d executes fits counted command does =
       effects = own.effects;
       added = own.added;
       none_told = own.none_told;
+      keeps = keeps_then old mid new (subst (λ x. KeepsRoom old x) (sym counted) record { room = refl; limit = refl; evicted = λ e. e }) own.keeps;
       halts = λ h. elim (own.halts h) [ inl before ↦ inl (subst HasHalted (ap (λ (x : ConnectionValue). x.stage) counted) before) | inr found ↦ inr found ];
       lives = λ bytes before l spends.
-          own.lives bytes before (subst (λ x. Lives bytes before x (to_append c)) (sym counted) (counts_it bytes before old (charged old.footprint c.op) (to_append c) l))
+          own.lives bytes before (subst (λ x. Lives bytes before x (to_append c)) (sym counted) (counts_it bytes before old (spent old.footprint c.op) (to_append c) refl l))
           (spends_charged before old mid c.op executes fits (ap (λ (x : ConnectionValue). x.footprint) counted) spends);
     }
 
@@ -324,8 +326,9 @@ wanting bytes before c p none l = subst (λ x. Lives bytes before c (wanted_of x
 
 -- the command of an entry that waited, or the next that was wanted
 goes_doing : {B L : Type 0} (sent : L → Option (List (List ℕ))) (received : L → Option (List ℕ)) (was is : Slot B) (s t : SessionSeatValue) (l : L) (effects : List Effect) → t.own ≡ s.own ++ commands_of effects → told_of effects ≡ []
-    → Continues was.connection.progress s is.connection.progress t → Stays was is → ((bytes : List ℕ) (before : List Effect) → LivesAt bytes before was → LivesAt bytes (before ++ effects) is) → (HasHalted is.connection.stage → FindsEnd t) → GoesOn sent received was s l is t l
-goes_doing sent received was is s t l effects added none_told continues same lives halts = record {
+    → Continues was.connection.progress s is.connection.progress t → Stays was is → KeepsRoom was.connection is.connection → ((bytes : List ℕ) (before : List Effect) → LivesAt bytes before was → LivesAt bytes (before ++ effects) is) → (HasHalted is.connection.stage → FindsEnd t) → GoesOn sent received was s l is t l
+goes_doing sent received was is s t l effects added none_told continues same keeps lives halts = record {
+  keeps = keeps;
   effects = effects;
   added = added;
   continues = continues;
@@ -344,6 +347,7 @@ pub goes_wanted : {B L : Type 0} (sent : L → Option (List (List ℕ))) (receiv
 goes_wanted sent received was mid is s t l wanted executes still_so none w outbox kept continues same d =
     let progress = wants_no_other was.connection mid.connection wanted w in
     goes_doing sent received was is s t l d.effects d.added d.none_told (subst (λ p. Continues p s is.connection.progress t) progress continues) (restay was mid is progress outbox kept same)
+    (keeps_then was.connection mid.connection is.connection (keeps_same was.connection mid.connection (ap (λ (c : ConnectionValue). c.footprint) w.taken.same)) d.keeps)
     (λ bytes before x. d.lives bytes before (wants_next bytes before was.connection mid.connection wanted executes w (wanting bytes before was.connection was.pending none x.0))
     (spends_wanted before [] was.connection mid.connection wanted executes w (spending before was.connection was.pending none x.1)))
     (λ h. only_found mid.connection.stage t still_so (d.halts h))
@@ -354,6 +358,7 @@ pub goes_pending : {B L : Type 0} (sent : L → Option (List (List ℕ))) (recei
 goes_pending sent received was mid is s t l pending executes some connection outbox kept continues same d =
     let progress = ap (λ (c : ConnectionValue). c.progress) connection in
     goes_doing sent received was is s t l d.effects d.added d.none_told (subst (λ p. Continues p s is.connection.progress t) progress continues) (restay was mid is progress outbox kept same)
+    (keeps_then was.connection mid.connection is.connection (keeps_same was.connection mid.connection (ap (λ (c : ConnectionValue). c.footprint) connection)) d.keeps)
     (λ bytes before x. d.lives bytes before (subst (λ c. Lives bytes before c (to_append pending.entry.command)) (sym connection) (subst (λ p. Lives bytes before was.connection (wanted_of p)) some x.0))
     (subst (λ c. Spends before c (pending.entry.command.op ∷ [])) (sym connection) (subst (λ p. Spends before was.connection (waiting_of p)) some x.1)))
     (λ h. only_found mid.connection.stage t (subst (λ (c : ConnectionValue). Executes c.stage) (sym connection) executes) (d.halts h))
@@ -367,6 +372,7 @@ goes_telling sent received was mid is s l m frame executes still_so none w outbo
       added = sym (append-nil s.own) ∙ ap (λ x. s.own ++ x) (sym t.none_said);
       continues = ends_so was.connection.progress was.connection.progress is.connection.progress s s (stays was.connection.progress s) (subst (λ p. StaysOrEnds p is.connection.progress) progress same);
       served = reserve sent (told_of t.effects) was mid is l m progress outbox kept t.served;
+      keeps = keeps_then was.connection mid.connection is.connection (keeps_same was.connection mid.connection (ap (λ (c : ConnectionValue). c.footprint) w.taken.same)) t.keeps;
       heeds = by_deeds received was is l m t.effects unread
           (λ bytes before x. t.lives still_so bytes before (wants_next bytes before was.connection mid.connection (Tell frame) executes w (wanting bytes before was.connection was.pending none x.0))
           (spends_wanted before [] was.connection mid.connection (Tell frame) executes w (spending before was.connection was.pending none x.1)));
@@ -411,7 +417,7 @@ pub goes_done : {B L : Type 0} (sent : L → Option (List (List ℕ))) (received
     → Wants was.connection is.connection Done → GoesOn sent received was s l is s l
 goes_done sent received was is s l executes none still_none outbox kept w =
     let progress = wants_no_other was.connection is.connection Done w in
-    goes_doing sent received was is s s l [] (sym (append-nil s.own)) refl (stands was.connection.progress is.connection.progress s s progress refl) (still was is progress outbox kept)
+    goes_doing sent received was is s s l [] (sym (append-nil s.own)) refl (stands was.connection.progress is.connection.progress s s progress refl) (still was is progress outbox kept) (keeps_same was.connection is.connection (ap (λ (c : ConnectionValue). c.footprint) w.taken.same))
     (λ bytes before x. none_more_waits bytes before is.connection is.pending still_none
     (done_rest bytes before is.connection (wants_next bytes before was.connection is.connection Done executes w (wanting bytes before was.connection was.pending none x.0)))
     (spends_wanted before [] was.connection is.connection Done executes w (spending before was.connection was.pending none x.1)))
@@ -421,7 +427,7 @@ pub goes_rest : {B L : Type 0} (sent : L → Option (List (List ℕ))) (received
     → Wants was.connection is.connection Rest → GoesOn sent received was s l is s l
 goes_rest sent received was is s l executes none still_none outbox kept w =
     let progress = wants_no_other was.connection is.connection Rest w in
-    goes_doing sent received was is s s l [] (sym (append-nil s.own)) refl (stands was.connection.progress is.connection.progress s s progress refl) (still was is progress outbox kept)
+    goes_doing sent received was is s s l [] (sym (append-nil s.own)) refl (stands was.connection.progress is.connection.progress s s progress refl) (still was is progress outbox kept) (keeps_same was.connection is.connection (ap (λ (c : ConnectionValue). c.footprint) w.taken.same))
     (λ bytes before x. none_more_waits bytes before is.connection is.pending still_none
     (wants_next bytes before was.connection is.connection Rest executes w (wanting bytes before was.connection was.pending none x.0))
     (spends_wanted before [] was.connection is.connection Rest executes w (spending before was.connection was.pending none x.1)))
@@ -451,9 +457,10 @@ still_executes old new wanted executes w outside = subst Executes (sym (same_sta
 
 -- The link took it; it was over, now or before; or memory was refused, and it is wanted again.
 pub tells_told : {B L : Type 0} (sent : L → Option (List (List ℕ))) (frame : Frame) (was is : Slot B) (l m : L) → was.pending ≡ None → is.pending ≡ was.pending → (Executes was.connection.stage → Steady was.connection is.connection)
-    → Served sent (frame ∷ []) was l is m → TellsIt sent frame was l is m
-tells_told sent frame was is l m none pending steady s = record {
+    → KeepsRoom was.connection is.connection → Served sent (frame ∷ []) was l is m → TellsIt sent frame was l is m
+tells_told sent frame was is l m none pending steady keeps s = record {
   halts = λ executes. (steady executes).halts;
+  keeps = keeps;
   effects = Told frame ∷ [];
   none_said = refl;
   served = s;
@@ -464,11 +471,12 @@ pub tells_nobody : {B L : Type 0} (sent : L → Option (List (List ℕ))) (frame
     → (Executes was.connection.stage → HasTold is.connection.stage → ⊥) → Served sent [] was l is m → TellsIt sent frame was l is m
 tells_nobody sent frame was is l m none pending steady over s = record {
   halts = λ executes. steady.halts;
+  keeps = keeps_same was.connection is.connection steady.restaged.footprint;
   effects = Untold frame ∷ [];
   none_said = refl;
   served = s;
   lives = λ executes. told_so was.connection is.connection is.pending frame (Untold frame) executes steady.restaged (inr refl) (λ t. absurd (over executes t)) (pending ∙ none);
 }
 
-pub tells_later : {B L : Type 0} (sent : L → Option (List (List ℕ))) (frame : Frame) (was is : Slot B) (l m : L) → Served sent [] was l is m → (HasHalted is.connection.stage → HasHalted was.connection.stage) → (Executes was.connection.stage → LivesOn (Tell frame) [] was.connection is.connection is.pending []) → TellsIt sent frame was l is m
-tells_later sent frame was is l m s halts lives = record { halts = λ executes. halts; effects = []; none_said = refl; served = s; lives = lives }
+pub tells_later : {B L : Type 0} (sent : L → Option (List (List ℕ))) (frame : Frame) (was is : Slot B) (l m : L) → Served sent [] was l is m → KeepsRoom was.connection is.connection → (HasHalted is.connection.stage → HasHalted was.connection.stage) → (Executes was.connection.stage → LivesOn (Tell frame) [] was.connection is.connection is.pending []) → TellsIt sent frame was l is m
+tells_later sent frame was is l m s keeps halts lives = record { keeps = keeps; halts = λ executes. halts; effects = []; none_said = refl; served = s; lives = lives }

@@ -1,5 +1,6 @@
 pub mod Answering
 pub mod Chaining
+pub mod Counting
 pub mod Doing
 pub mod Evicting
 pub mod Going

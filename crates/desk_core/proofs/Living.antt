@@ -15,8 +15,9 @@ use Rattle.session_core.specs.declared.act.CloseCode.TheVariants.{NormalClosure,
 use Rattle.session_core.specs.Sessions.{Hearing, Hears, IsOver, fresh}
 use Rattle.connection_core.specs.Connections.{ConnectionValue, HearsBytes, IsLost, IsSent, Listens, Takes, Wants, WantsBy, closed_by, loss_of, to_append, unheard, with_appended}
 use Rattle.connection_core.specs.Conversations.{IsDone, IsFinished, IsNext, after, asked, is_farewell, over, role_of, said_of}
-use Rattle.connection_core.specs.Footprints.{footprint}
-use Rattle.connection_core.specs.declared.footprint.TheConstants.{SESSION_BYTES}
+use Rattle.connection_core.specs.Footprints.{FootprintValue, footprint}
+use Rattle.connection_core.specs.declared.footprint.Cut.{Cut}
+use Rattle.connection_core.specs.declared.footprint.Cut.TheVariants as cuts
 use Rattle.connection_core.specs.Histories.{HasHeard}
 use Rattle.connection_core.specs.Stages.{Executes, IsEnding, IsOwnEnd, given_up, lost, parted, rested, stopped}
 use Rattle.connection_core.specs.Tasks.{Tasks, all_of}
@@ -49,8 +50,8 @@ use Rattle.desk_core.proofs.Lists.{all_append}
 
 -- ── a connection begins ──
 
-pub begins : (c : ConnectionValue) → c ≡ unheard → Lives [] [] c Rest
-begins c is = subst (λ x. Lives [] [] x Rest) (sym is) record {
+pub begins : (limit : ℕ) (c : ConnectionValue) → c ≡ unheard limit → Lives [] [] c Rest
+begins limit c is = subst (λ x. Lives [] [] x Rest) (sym is) record {
   heard = [];
   unheard = [];
   whole = refl;
@@ -124,6 +125,9 @@ goes_on_then (Closing ended) e i = e
 goes_on_then (Parting ended) e i = e
 goes_on_then (Over ended) e i = e
 
+cut_as : (f g : FootprintValue) (asked cut done : List Act) (said : List Pair) → g ≡ f → IsCut f.cut asked cut done said → IsCut g.cut asked cut done said
+cut_as f g asked cut done said same c = subst (λ (x : FootprintValue). IsCut x.cut asked cut done said) (sym same) c
+
 -- with bytes that came and were not heard, where it does not run
 pub restages : (bytes got : List ℕ) (effects : List Effect) (old new : ConnectionValue) (wanted : Wanted) → Restaged old new → (new.stage ≡ Running → got ≡ []) → Lives bytes effects old wanted → Lives (bytes ++ got) effects new wanted
 restages bytes got effects old new wanted r none l = record {
@@ -141,7 +145,7 @@ restages bytes got effects old new wanted r none l = record {
   done = l.done;
   left = l.left;
   split = l.split ∙ ap (λ (t : Tasks). l.done ++ (act_of wanted ++ (l.left ++ all_of t))) (sym r.acts);
-  cut_for = l.cut_for;
+  cut_for = cut_as old.footprint new.footprint l.asked_for l.cut l.done (commands_of effects) r.footprint l.cut_for;
   reached = l.reached;
   does = l.does;
   none_untold = λ t. l.none_untold (r.told t);
@@ -243,16 +247,18 @@ hears_more bytes got effects old new listens is l = record {
 
 -- ── where it is cut off ──
 
-cut_more : (asked cut done acts : List Act) (said after_it : List Pair) → after_it ≡ said → IsCut asked cut done said → IsCut asked cut (done ++ acts) after_it
-cut_more asked cut done acts said after_it same (inl none) = inl none
-cut_more asked cut done acts said after_it same (inr c) = inr record {
+cut_more : (why : Cut) (asked cut done acts : List Act) (said after_it : List Pair) → after_it ≡ said → IsCut why asked cut done said → IsCut why asked cut (done ++ acts) after_it
+cut_more why asked cut done acts said after_it same (inl none) = inl none
+cut_more cuts.No asked cut done acts said after_it same (inr c) = absurd c
+cut_more cuts.Evicted asked cut done acts said after_it same (inr c) = inr tt
+cut_more (cuts.Full room) asked cut done acts said after_it same (inr c) = inr record {
   op = c.op;
   receipt = c.receipt;
   others = c.others;
   first = c.first;
   more = c.more ++ acts;
   before = ap (λ l. l ++ acts) c.before ∙ append_assoc asked c.more acts;
-  passes = subst (λ l. SESSION_BYTES < footprint (ops_of l ++ c.op ∷ [])) (sym same) c.passes;
+  passes = subst (λ l. room < footprint (ops_of l ++ c.op ∷ [])) (sym same) c.passes;
 }
 
 same_front : {X : Type 0} (xs ys zs : List X) → xs ++ ys ≡ xs ++ zs → ys ≡ zs
@@ -267,10 +273,12 @@ end_of : (op : Op) (receipt : Option (List ℕ)) → Do op receipt ≡ Do (ops.E
 end_of op receipt e = cc
 
 -- what is appended behind the last act before the cut is the session's end
-cut_end : (asked cut done others losses : List Act) (said : List Pair) (ticket : ℕ) (c : CommandValue) → AllByRecursion IsLoss losses → asked ++ losses ≡ done ++ (Do c.op c.receipt ∷ others) → IsCut asked cut done said
-    → IsCut asked cut (done ++ Do c.op c.receipt ∷ []) (said ++ (ticket, c) ∷ [])
-cut_end asked cut done others losses said ticket c are_losses split (inl none) = inl none
-cut_end asked cut done others losses said ticket c are_losses split (inr k) =
+cut_end : (why : Cut) (asked cut done others losses : List Act) (said : List Pair) (ticket : ℕ) (c : CommandValue) → AllByRecursion IsLoss losses → asked ++ losses ≡ done ++ (Do c.op c.receipt ∷ others) → IsCut why asked cut done said
+    → IsCut why asked cut (done ++ Do c.op c.receipt ∷ []) (said ++ (ticket, c) ∷ [])
+cut_end why asked cut done others losses said ticket c are_losses split (inl none) = inl none
+cut_end cuts.No asked cut done others losses said ticket c are_losses split (inr k) = absurd k
+cut_end cuts.Evicted asked cut done others losses said ticket c are_losses split (inr k) = inr tt
+cut_end (cuts.Full room) asked cut done others losses said ticket c are_losses split (inr k) =
     let behind : losses ≡ k.more ++ (Do c.op c.receipt ∷ others) =
     same_front asked losses (k.more ++ (Do c.op c.receipt ∷ others)) (split ∙ ap (λ l. l ++ (Do c.op c.receipt ∷ others)) k.before ∙ append_assoc asked k.more (Do c.op c.receipt ∷ others)) in
     let end : c.op ≡ ops.End ends.Lost = end_of c.op c.receipt (loss_in k.more losses others (Do c.op c.receipt) are_losses behind) in
@@ -282,8 +290,8 @@ cut_end asked cut done others losses said ticket c are_losses split (inr k) =
       first = k.first;
       more = k.more ++ Do c.op c.receipt ∷ [];
       before = ap (λ l. l ++ Do c.op c.receipt ∷ []) k.before ∙ append_assoc asked k.more (Do c.op c.receipt ∷ []);
-      passes = subst (λ l. SESSION_BYTES < footprint (l ++ k.op ∷ [])) (sym all)
-          (subst (λ n. SESSION_BYTES < n) (sym (nothing_by_end (ops_of said) ends.Lost k.op)) k.passes);
+      passes = subst (λ l. room < footprint (l ++ k.op ∷ [])) (sym all)
+          (subst (λ n. room < n) (sym (nothing_by_end (ops_of said) ends.Lost k.op)) k.passes);
     }
 
 pub tells_none : (effects : List Effect) (frame : Frame) (effect : Effect) → Tells frame effect → commands_of (effects ++ effect ∷ []) ≡ commands_of effects
@@ -334,6 +342,7 @@ record Next (bytes : List ℕ) (effects : List Effect) (old new : ConnectionValu
   phase : new.stage ≡ Running → lives.session.phase ≡ new.session.phase
   rest : new.stage ≡ Running → (IsOver new.session.phase → ⊥) → lives.session ≡ new.session
   progress : new.progress ≡ lives.reached
+  footprint : new.footprint ≡ old.footprint
   last : IsLast new
   ended : IsEnding new.stage → IsDone new.progress
 
@@ -352,7 +361,7 @@ wants_it bytes effects old new act wanted n is asked_for same = record {
   losses = n.losses;
   are_losses = n.are_losses;
   done = n.lives.done;
-  cut_for = n.lives.cut_for;
+  cut_for = cut_as old.footprint new.footprint n.lives.asked_for n.lives.cut n.lives.done (commands_of effects) n.footprint n.lives.cut_for;
   left = [];
   split = n.split ∙ ap (λ l. n.lives.done ++ (l ++ ([] ++ all_of new.acts))) (sym is);
   reached = n.lives.reached;
@@ -386,7 +395,8 @@ passes_it bytes effects old new act wanted n is asked_for silent same = record {
   losses = n.losses;
   are_losses = n.are_losses;
   done = n.lives.done ++ act ∷ [];
-  cut_for = cut_more n.lives.asked_for n.lives.cut n.lives.done (act ∷ []) (commands_of effects) (commands_of effects) refl n.lives.cut_for;
+  cut_for = cut_more new.footprint.cut n.lives.asked_for n.lives.cut n.lives.done (act ∷ []) (commands_of effects) (commands_of effects) refl
+      (cut_as old.footprint new.footprint n.lives.asked_for n.lives.cut n.lives.done (commands_of effects) n.footprint n.lives.cut_for);
   left = [];
   split = done_further n.lives.asked_for n.losses n.lives.done (all_of new.acts) act n.split ∙ ap (λ l. (n.lives.done ++ act ∷ []) ++ (l ++ ([] ++ all_of new.acts))) (sym is);
   reached = n.lives.reached;
@@ -418,8 +428,9 @@ by_act bytes effects old new (Direct frame) wanted n by same = subst (λ w. Live
 by_act bytes effects old new (Close code) wanted n by same = subst (λ w. Lives bytes effects new w) (sym by.0) (passes_it bytes effects old new (Close code) Done n refl (λ p. tt) (λ p e. tt) same)
 
 first_next : (bytes : List ℕ) (effects : List Effect) (old new : ConnectionValue) (act : Act) (others : List Act) → Lives bytes effects old Rest → Executes old.stage → all_of old.acts ≡ act ∷ others → all_of new.acts ≡ others → new.session ≡ old.session
-    → (new.stage ≡ Running → old.stage ≡ Running) → (HasTold new.stage → HasTold old.stage) → new.progress ≡ old.progress → new.last ≡ old.last → (IsEnding new.stage → IsDone old.progress) → Next bytes effects old new act
-first_next bytes effects old new act others l executes first now session runs told progress last ended = record {
+    → (new.stage ≡ Running → old.stage ≡ Running) → (HasTold new.stage → HasTold old.stage) → new.progress ≡ old.progress → new.last ≡ old.last → (IsEnding new.stage → IsDone old.progress) → new.footprint ≡ old.footprint → Next bytes effects old new act
+first_next bytes effects old new act others l executes first now session runs told progress last ended same = record {
+  footprint = same;
   lives = l;
   losses = l.losses;
   are_losses = l.are_losses;
@@ -436,8 +447,9 @@ first_next bytes effects old new act others l executes first now session runs to
 }
 
 loss_next : (bytes : List ℕ) (effects : List Effect) (old new : ConnectionValue) (act : Act) → Lives bytes effects old Rest → Executes old.stage → IsLoss act → all_of old.acts ≡ [] → all_of new.acts ≡ []
-    → (new.stage ≡ Running → ⊥) → (HasTold new.stage → HasTold old.stage) → new.progress ≡ old.progress → new.last ≡ old.last → (IsEnding new.stage → IsDone old.progress) → Next bytes effects old new act
-loss_next bytes effects old new act l executes loss none now lost told progress last ended = record {
+    → (new.stage ≡ Running → ⊥) → (HasTold new.stage → HasTold old.stage) → new.progress ≡ old.progress → new.last ≡ old.last → (IsEnding new.stage → IsDone old.progress) → new.footprint ≡ old.footprint → Next bytes effects old new act
+loss_next bytes effects old new act l executes loss none now lost told progress last ended same = record {
+  footprint = same;
   lives = l;
   losses = l.losses ++ act ∷ [];
   are_losses = all_append IsLoss l.losses (act ∷ []) l.are_losses (loss, tt);
@@ -456,8 +468,8 @@ loss_next bytes effects old new act l executes loss none now lost told progress 
 
 -- nothing was next
 rests_so : (bytes : List ℕ) (effects : List Effect) (old new : ConnectionValue) (wanted : Wanted) → Lives bytes effects old Rest → Executes old.stage → WantsBy old new None wanted → all_of old.acts ≡ [] → all_of new.acts ≡ []
-    → (new.stage ≡ Running → (old.stage ≡ Running) × (new.session ≡ old.session)) → (HasTold new.stage → HasTold old.stage) → new.progress ≡ old.progress → new.last ≡ old.last → (IsEnding new.stage → IsDone old.progress) → Lives bytes effects new wanted
-rests_so bytes effects old new wanted l executes by none now runs told progress last ended = subst (λ w. Lives bytes effects new w) (sym by.0) record {
+    → (new.stage ≡ Running → (old.stage ≡ Running) × (new.session ≡ old.session)) → (HasTold new.stage → HasTold old.stage) → new.progress ≡ old.progress → new.last ≡ old.last → (IsEnding new.stage → IsDone old.progress) → new.footprint ≡ old.footprint → Lives bytes effects new wanted
+rests_so bytes effects old new wanted l executes by none now runs told progress last ended same = subst (λ w. Lives bytes effects new w) (sym by.0) record {
   heard = l.heard;
   unheard = l.unheard;
   whole = l.whole;
@@ -471,7 +483,7 @@ rests_so bytes effects old new wanted l executes by none now runs told progress 
   are_losses = l.are_losses;
   done = l.done;
   left = [];
-  cut_for = l.cut_for;
+  cut_for = cut_as old.footprint new.footprint l.asked_for l.cut l.done (commands_of effects) same l.cut_for;
   split = l.split ∙ ap (λ a. l.done ++ a) (ap (λ a. a ++ all_of old.acts) (l.none_left executes) ∙ none ∙ sym now);
   reached = l.reached;
   does = l.does;
@@ -562,16 +574,19 @@ wants_next bytes effects old new wanted executes w l = by_list (all_of old.acts)
     last : new.last ≡ old.last
     last = ap (λ (c : ConnectionValue). c.last) w.taken.same
 
+    same : new.footprint ≡ old.footprint
+    same = ap (λ (c : ConnectionValue). c.footprint) w.taken.same
+
     ended : IsEnding new.stage → IsDone old.progress
     ended = still_ends old new w.act wanted executes w.asked_for (none_lost_yet old (record new { stage = old.stage }) w.act w.taken)
 
     rests : all_of old.acts ≡ [] → all_of new.acts ≡ [] → (new.stage ≡ Running → ⊥) → w.act ≡ None → Lives bytes effects new wanted
-    rests none now lost is = rests_so bytes effects old new wanted l executes (subst (λ a. WantsBy old new a wanted) is w.asked_for) none now (λ r. absurd (lost r)) told progress last ended
+    rests none now lost is = rests_so bytes effects old new wanted l executes (subst (λ a. WantsBy old new a wanted) is w.asked_for) none now (λ r. absurd (lost r)) told progress last ended same
 
     by_loss : (p : Progress) → all_of old.acts ≡ [] → all_of new.acts ≡ [] → (new.stage ≡ Running → ⊥) → w.act ≡ loss_of p → Lives bytes effects new wanted
     by_loss New none now lost is = rests none now lost is
     by_loss (Open number) none now lost is =
-        by_act bytes effects old new (Do (ops.End ends.Lost) None) wanted (loss_next bytes effects old new (Do (ops.End ends.Lost) None) l executes refl none now lost told progress last ended)
+        by_act bytes effects old new (Do (ops.End ends.Lost) None) wanted (loss_next bytes effects old new (Do (ops.End ends.Lost) None) l executes refl none now lost told progress last ended same)
         (subst (λ a. WantsBy old new a wanted) is w.asked_for) (sym progress)
     by_loss (Finished number) none now lost is = rests none now lost is
     by_loss Gone none now lost is = rests none now lost is
@@ -579,14 +594,14 @@ wants_next bytes effects old new wanted executes w l = by_list (all_of old.acts)
     by_list : (a : List Act) → all_of old.acts ≡ a → Lives bytes effects new wanted
     by_list (act ∷ others) e =
         let is = w.taken.first act others e in
-        by_act bytes effects old new act wanted (first_next bytes effects old new act others l executes e is.1 is.2 runs told progress last ended) (subst (λ a. WantsBy old new a wanted) is.0 w.asked_for) (sym progress)
+        by_act bytes effects old new act wanted (first_next bytes effects old new act others l executes e is.1 is.2 runs told progress last ended same) (subst (λ a. WantsBy old new a wanted) is.0 w.asked_for) (sym progress)
     by_list [] e = elim (lost_or_not old.stage) [
       | inl lost ↦
           let is = w.taken.loss e lost in
           by_loss old.progress e is.1 (λ r. lost_runs old.stage lost (runs r)) is.0
       | inr goes ↦
           let is = w.taken.none e goes in
-          rests_so bytes effects old new wanted l executes (subst (λ a. WantsBy old new a wanted) is.0 w.asked_for) e is.1 (λ r. (runs r, is.2)) told progress last ended
+          rests_so bytes effects old new wanted l executes (subst (λ a. WantsBy old new a wanted) is.0 w.asked_for) e is.1 (λ r. (runs r, is.2)) told progress last ended same
     ]
 
 -- ── what is wanted is done ──
@@ -609,8 +624,8 @@ says_it bytes effects old new c ticket executes is l =
       losses = l.losses;
       are_losses = l.are_losses;
       done = l.done ++ Do c.op c.receipt ∷ [];
-      cut_for = subst (λ said. IsCut l.asked_for l.cut (l.done ++ Do c.op c.receipt ∷ []) said) (sym (commands_append effects (Said (ticket, c) ∷ [])))
-          (cut_end l.asked_for l.cut l.done (l.left ++ all_of old.acts) l.losses (commands_of effects) ticket c l.are_losses l.split l.cut_for);
+      cut_for = subst (λ said. IsCut old.footprint.cut l.asked_for l.cut (l.done ++ Do c.op c.receipt ∷ []) said) (sym (commands_append effects (Said (ticket, c) ∷ [])))
+          (cut_end old.footprint.cut l.asked_for l.cut l.done (l.left ++ all_of old.acts) l.losses (commands_of effects) ticket c l.are_losses l.split l.cut_for);
       left = l.left;
       split = l.split ∙ sym (append_assoc l.done (Do c.op c.receipt ∷ []) (l.left ++ all_of old.acts));
       reached = after l.reached (role_of c.op) ticket;
@@ -682,7 +697,7 @@ tells_it bytes effects old new frame effect r executes tells none m =
       losses = l.losses;
       are_losses = l.are_losses;
       done = l.done ++ Direct frame ∷ [];
-      cut_for = cut_more l.asked_for l.cut l.done (Direct frame ∷ []) (commands_of effects) (commands_of (effects ++ effect ∷ [])) (tells_none effects frame effect tells) l.cut_for;
+      cut_for = cut_more new.footprint.cut l.asked_for l.cut l.done (Direct frame ∷ []) (commands_of effects) (commands_of (effects ++ effect ∷ [])) (tells_none effects frame effect tells) l.cut_for;
       left = l.left;
       split = l.split ∙ sym (append_assoc l.done (Direct frame ∷ []) (l.left ++ all_of new.acts));
       reached = l.reached;

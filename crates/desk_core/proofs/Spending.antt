@@ -1,7 +1,8 @@
 -- How a connection at a seat keeps within its session's bytes, and how it is cut off.
-use Rattle.std.proofs.Common.{◌≡◌, ◌<◌, ◌≤◌, ◌++◌, ◌∷◌, [], ℕ, List, Option, None, length, refl, sym, ap, ◌∙◌, subst, arith, inr, append_assoc, append-nil}
+use Rattle.std.proofs.Common.{◌≡◌, ◌<◌, ◌≤◌, ◌++◌, ◌∷◌, [], ℕ, List, Option, refl, sym, ap, ◌∙◌, subst, arith, inr, append_assoc, append-nil}
+use Rattle.std.specs.Prelude.{max}
 use Rattle.std.specs.List.{AllByRecursion}
-use Rattle.std.proofs.lemmas.List.{map-append, take_all}
+use Rattle.std.proofs.lemmas.List.{map-append}
 use Rattle.command_core.specs.Commands.{CommandValue}
 use Rattle.command_core.specs.declared.command.Op.{Op}
 use Rattle.command_core.specs.declared.command.Op.TheVariants as ops
@@ -9,12 +10,11 @@ use Rattle.command_core.specs.declared.command.End.TheVariants as ends
 use Rattle.claim_core.specs.Counts.{Pair}
 use Rattle.session_core.specs.declared.act.Act.{Act}
 use Rattle.session_core.specs.declared.act.Act.TheVariants.{Do}
-use Rattle.connection_core.specs.Connections.{ConnectionValue, Wants, to_append}
-use Rattle.connection_core.specs.Footprints.{IsWithin, charged, footprint, standing, total}
+use Rattle.connection_core.specs.Connections.{ConnectionValue, Wants, filled, to_append, with_room}
+use Rattle.connection_core.specs.Footprints.{FootprintValue, IsFootprint, IsWithin, charged, footprint, none_standing, settled, spent, standing, total}
 use Rattle.connection_core.specs.Stages.{Executes, IsEnding, given_up}
-use Rattle.connection_core.specs.Tasks.{all_of, tasks}
+use Rattle.connection_core.specs.Tasks.{all_of}
 use Rattle.connection_core.specs.declared.footprint.Part.{Part}
-use Rattle.connection_core.specs.declared.footprint.TheConstants.{SESSION_BYTES}
 use Rattle.connection_core.specs.declared.said.Wanted.{Wanted}
 use Rattle.connection_core.specs.declared.said.Wanted.TheVariants.{Rest}
 use Rattle.connection_core.specs.declared.stage.Stage.{Stage}
@@ -22,51 +22,78 @@ use Rattle.connection_core.specs.declared.stage.Stage.TheVariants.{Running, Givi
 use Rattle.connection_core.proofs.Footprints.{charges, within_less, within_more, within_none}
 use Rattle.desk_core.specs.Effects.{Effect, Said, commands_of}
 use Rattle.desk_core.specs.Histories.{IsLoss, Lives}
-use Rattle.desk_core.specs.Spending.{Spends, ops_of}
+use Rattle.desk_core.specs.Spending.{IsCut, Spends, ops_of}
 use Rattle.desk_core.proofs.Doing.{commands_append}
 use Rattle.desk_core.proofs.Living.{untold_giving}
 
 -- ── what is counted ──
 
-pub spends_new : (c : ConnectionValue) → c.footprint ≡ [] → Spends [] c []
-spends_new c none = record { within = within_none; counted = λ e. none }
+pub spends_new : (limit : ℕ) (c : ConnectionValue) → c.footprint ≡ none_standing limit → Spends [] c []
+spends_new limit c none = record { within = within_none c.footprint.limit; stands = λ e. ap (λ (f : FootprintValue). f.parts) none; counted = omega arith }
 
 pub spends_on : (effects : List Effect) (waiting : List Op) (old new : ConnectionValue) → (Executes new.stage → Executes old.stage) → new.footprint ≡ old.footprint → Spends effects old waiting → Spends effects new waiting
-spends_on effects waiting old new executes same s = record { within = s.within; counted = λ e. same ∙ s.counted (executes e) }
+spends_on effects waiting old new executes same s = record {
+  within = subst (λ (f : FootprintValue). IsWithin f.limit (ops_of (commands_of effects) ++ waiting)) (sym same) s.within;
+  stands = λ e. ap (λ (f : FootprintValue). f.parts) same ∙ s.stands (executes e);
+  counted = subst (λ (f : FootprintValue). footprint (ops_of (commands_of effects)) ≤ f.counted) (sym same) s.counted;
+}
+
+-- it may have more now, or less
+pub spends_room : (room : ℕ) (effects : List Effect) (waiting : List Op) (c : ConnectionValue) → Spends effects c waiting → Spends effects (with_room room c) waiting
+spends_room room effects waiting c s = record { within = s.within; stands = s.stands; counted = s.counted }
 
 pub spends_as : (effects others : List Effect) (waiting : List Op) (c : ConnectionValue) → commands_of others ≡ commands_of effects → Spends effects c waiting → Spends others c waiting
 spends_as effects others waiting c same s = record {
-  within = subst (λ l. IsWithin (ops_of l ++ waiting)) (sym same) s.within;
-  counted = λ e. s.counted e ∙ ap (λ l. standing (ops_of l ++ waiting)) (sym same);
+  within = subst (λ l. IsWithin c.footprint.limit (ops_of l ++ waiting)) (sym same) s.within;
+  stands = λ e. s.stands e ∙ ap (λ l. standing (ops_of l ++ waiting)) (sym same);
+  counted = subst (λ l. footprint (ops_of l) ≤ c.footprint.counted) (sym same) s.counted;
 }
 
 pub spends_wanted : (effects : List Effect) (waiting : List Op) (old new : ConnectionValue) (wanted : Wanted) → Executes old.stage → Wants old new wanted → Spends effects old waiting → Spends effects new waiting
 spends_wanted effects waiting old new wanted executes w s = spends_on effects waiting old new (λ e. executes) (ap (λ (c : ConnectionValue). c.footprint) w.taken.same) s
 
 -- the command that is counted is appended
-pub spends_said : (effects : List Effect) (old new : ConnectionValue) (c : CommandValue) (ticket : ℕ) → Executes old.stage → new.footprint ≡ old.footprint → Spends effects old (c.op ∷ []) → Spends (effects ++ Said (ticket, c) ∷ []) new []
+pub spends_said : (effects : List Effect) (old new : ConnectionValue) (c : CommandValue) (ticket : ℕ) → Executes old.stage → new.footprint ≡ settled old.footprint → Spends effects old (c.op ∷ []) → Spends (effects ++ Said (ticket, c) ∷ []) new []
 spends_said effects old new c ticket executes same s =
     let all : ops_of (commands_of (effects ++ Said (ticket, c) ∷ [])) ++ [] ≡ ops_of (commands_of effects) ++ c.op ∷ [] =
     append-nil (ops_of (commands_of (effects ++ Said (ticket, c) ∷ []))) ∙ ap ops_of (commands_append effects (Said (ticket, c) ∷ [])) ∙ map-append (λ (p : Pair). p.1.op) (commands_of effects) ((ticket, c) ∷ []) in record {
-      within = subst IsWithin (sym all) s.within;
-      counted = λ e. same ∙ s.counted executes ∙ ap standing (sym all);
+      within = subst (λ (f : FootprintValue). IsWithin f.limit (ops_of (commands_of (effects ++ Said (ticket, c) ∷ [])) ++ [])) (sym same) (subst (λ l. IsWithin old.footprint.limit l) (sym all) s.within);
+      stands = λ e. ap (λ (f : FootprintValue). f.parts) same ∙ s.stands executes ∙ ap standing (sym all);
+      counted =
+          let now : footprint (ops_of (commands_of (effects ++ Said (ticket, c) ∷ []))) ≡ total old.footprint.parts =
+          ap footprint (sym (append-nil (ops_of (commands_of (effects ++ Said (ticket, c) ∷ [])))) ∙ all) ∙ ap total (sym (s.stands executes)) in
+          let is : new.footprint.counted ≡ total old.footprint.parts = ap (λ (f : FootprintValue). f.counted) same in
+          omega (arith, now, is);
     }
 
 -- a command is counted
-pub spends_charged : (effects : List Effect) (old new : ConnectionValue) (op : Op) → Executes old.stage → total (charged old.footprint op) ≤ SESSION_BYTES → new.footprint ≡ charged old.footprint op → Spends effects old [] → Spends effects new (op ∷ [])
+pub spends_charged : (effects : List Effect) (old new : ConnectionValue) (op : Op) → Executes old.stage → total (charged old.footprint.parts op) ≤ old.footprint.limit → new.footprint ≡ spent old.footprint op → Spends effects old [] → Spends effects new (op ∷ [])
 spends_charged effects old new op executes fits same s =
     let all : List Op = ops_of (commands_of effects) in
-    let counted : old.footprint ≡ standing all = s.counted executes ∙ ap standing (append-nil all) in record {
-      within = within_more all op (subst IsWithin (append-nil all) s.within) (subst (λ (parts : List Part). total (charged parts op) ≤ SESSION_BYTES) counted fits);
-      counted = λ e. same ∙ ap (λ parts. charged parts op) counted ∙ sym (charges all op);
+    let stands : old.footprint.parts ≡ standing all = s.stands executes ∙ ap standing (append-nil all) in
+    let more : IsWithin old.footprint.limit (all ++ op ∷ []) =
+    within_more old.footprint.limit all op (subst (λ l. IsWithin old.footprint.limit l) (append-nil all) s.within) (subst (λ (parts : List Part). total (charged parts op) ≤ old.footprint.limit) stands fits) in record {
+      within = subst (λ (f : FootprintValue). IsWithin f.limit (all ++ op ∷ [])) (sym same) more;
+      stands = λ e. ap (λ (f : FootprintValue). f.parts) same ∙ ap (λ parts. charged parts op) stands ∙ sym (charges all op);
+      counted =
+          let is : new.footprint.counted ≡ max old.footprint.counted (total (charged old.footprint.parts op)) = ap (λ (f : FootprintValue). f.counted) same in
+          omega (arith, is, s.counted);
     }
 
+-- it is cut off
+pub spends_filled : (effects : List Effect) (old new : ConnectionValue) → Executes old.stage → new ≡ filled old → Spends effects old [] → Spends effects new []
+spends_filled effects old new executes same s =
+    subst (λ c. Spends effects c []) (sym same) record { within = s.within; stands = λ e. s.stands executes; counted = s.counted }
+
 -- what waited is dropped, and nothing more is appended
-pub spends_no_more : (effects : List Effect) (waiting : List Op) (old new : ConnectionValue) → (Executes new.stage → ⊥) → Spends effects old waiting → Spends effects new []
-spends_no_more effects waiting old new over s = record {
-  within = subst IsWithin (sym (append-nil (ops_of (commands_of effects)))) (within_less (ops_of (commands_of effects)) waiting s.within);
-  counted = λ e. absurd (over e);
-}
+pub spends_no_more : (effects : List Effect) (waiting : List Op) (old new : ConnectionValue) → (Executes new.stage → ⊥) → new.footprint ≡ old.footprint → Spends effects old waiting → Spends effects new []
+spends_no_more effects waiting old new over same s =
+    let all : List Op = ops_of (commands_of effects) in record {
+      within = subst (λ (f : FootprintValue). IsWithin f.limit (all ++ [])) (sym same)
+          (subst (λ l. IsWithin old.footprint.limit l) (sym (append-nil all)) (within_less old.footprint.limit all waiting s.within));
+      stands = λ e. absurd (over e);
+      counted = subst (λ (f : FootprintValue). footprint all ≤ f.counted) (sym same) s.counted;
+    }
 
 -- ── it is cut off ──
 
@@ -85,9 +112,6 @@ not_ending Leaving e i = i
 not_ending (Closing ended) e i = e
 not_ending (Parting ended) e i = e
 not_ending (Over ended) e i = e
-
-within_all : (all : List Op) → IsWithin all → footprint all ≤ SESSION_BYTES
-within_all all within = subst (λ l. footprint l ≤ SESSION_BYTES) (take_all (length all) all (omega arith)) (within (length all))
 
 head_of : (a b : Act) (xs ys : List Act) → a ∷ xs ≡ b ∷ ys → a ≡ b
 head_of a b xs ys e = cc
@@ -112,18 +136,18 @@ op_in : (op : Op) (receipt : Option (List ℕ)) → IsLoss (Do op receipt) → o
 op_in op receipt e = cc
 
 -- the session's end passes nothing
-no_loss : (all : List Op) (op : Op) (receipt : Option (List ℕ)) → footprint all ≤ SESSION_BYTES → SESSION_BYTES < footprint (all ++ op ∷ []) → IsLoss (Do op receipt) → ⊥
-no_loss all op receipt fits passes loss =
+no_loss : (room : ℕ) (all : List Op) (op : Op) (receipt : Option (List ℕ)) → footprint all ≤ room → room < footprint (all ++ op ∷ []) → IsLoss (Do op receipt) → ⊥
+no_loss room all op receipt fits passes loss =
     let same : footprint (all ++ ops.End ends.Lost ∷ []) ≡ footprint all = ap total (charges all (ops.End ends.Lost)) in
-    let more : SESSION_BYTES < footprint (all ++ ops.End ends.Lost ∷ []) = subst (λ o. SESSION_BYTES < footprint (all ++ o ∷ [])) (op_in op receipt loss) passes in
+    let more : room < footprint (all ++ ops.End ends.Lost ∷ []) = subst (λ o. room < footprint (all ++ o ∷ [])) (op_in op receipt loss) passes in
     absurd (omega (arith, same, more, fits))
 
-pub cuts_it : (bytes : List ℕ) (effects : List Effect) (old new : ConnectionValue) (c : CommandValue) → Executes old.stage → new ≡ record old { acts = tasks None []; stage = given_up old.stage }
-    → footprint (ops_of (commands_of effects)) ≤ SESSION_BYTES → SESSION_BYTES < footprint (ops_of (commands_of effects) ++ c.op ∷ []) → Lives bytes effects old (to_append c) → Lives bytes effects new Rest
+pub cuts_it : (bytes : List ℕ) (effects : List Effect) (old new : ConnectionValue) (c : CommandValue) → Executes old.stage → new ≡ filled old
+    → footprint (ops_of (commands_of effects)) ≤ old.footprint.room → old.footprint.room < footprint (ops_of (commands_of effects) ++ c.op ∷ []) → Lives bytes effects old (to_append c) → Lives bytes effects new Rest
 cuts_it bytes effects old new c executes is fits passes l =
     let act : Act = Do c.op c.receipt in
     let split : l.asked_for ++ l.losses ≡ l.done ++ (act ∷ (l.left ++ all_of old.acts)) = l.split in
-    let rest = stands_in l.asked_for l.losses l.done (l.left ++ all_of old.acts) act l.are_losses (no_loss (ops_of (commands_of effects)) c.op c.receipt fits passes) split in
+    let rest = stands_in l.asked_for l.losses l.done (l.left ++ all_of old.acts) act l.are_losses (no_loss old.footprint.room (ops_of (commands_of effects)) c.op c.receipt fits passes) split in
     subst (λ x. Lives bytes effects x Rest) (sym is) record {
       heard = l.heard;
       unheard = l.unheard;
@@ -157,19 +181,19 @@ cuts_it bytes effects old new c executes is fits passes l =
     }
 
 -- by what is counted
-pub cut_by_count : (effects : List Effect) (old : ConnectionValue) (op : Op) → Executes old.stage → Spends effects old [] → SESSION_BYTES < total (charged old.footprint op)
-    → (footprint (ops_of (commands_of effects)) ≤ SESSION_BYTES) × (SESSION_BYTES < footprint (ops_of (commands_of effects) ++ op ∷ []))
-cut_by_count effects old op executes s passes =
+pub cut_by_count : (effects : List Effect) (old : ConnectionValue) (op : Op) → Executes old.stage → IsFootprint old.footprint → Spends effects old [] → old.footprint.room < total (charged old.footprint.parts op)
+    → (footprint (ops_of (commands_of effects)) ≤ old.footprint.room) × (old.footprint.room < footprint (ops_of (commands_of effects) ++ op ∷ []))
+cut_by_count effects old op executes form s passes =
     let all : List Op = ops_of (commands_of effects) in
-    let counted : old.footprint ≡ standing all = s.counted executes ∙ ap standing (append-nil all) in (
-      within_all all (subst IsWithin (append-nil all) s.within),
-      subst (λ n. SESSION_BYTES < n) (ap (λ (parts : List Part). total (charged parts op)) counted ∙ ap total (sym (charges all op))) passes,
+    let stands : old.footprint.parts ≡ standing all = s.stands executes ∙ ap standing (append-nil all) in (
+      omega (arith, s.counted, form.fits),
+      subst (λ n. old.footprint.room < n) (ap (λ (parts : List Part). total (charged parts op)) stands ∙ ap total (sym (charges all op))) passes,
     )
 
 -- ── what is counted has changed, and nothing else ──
 
-pub counts_it : (bytes : List ℕ) (effects : List Effect) (old : ConnectionValue) (parts : List Part) (wanted : Wanted) → Lives bytes effects old wanted → Lives bytes effects (record old { footprint = parts }) wanted
-counts_it bytes effects old parts wanted l = record {
+pub counts_it : (bytes : List ℕ) (effects : List Effect) (old : ConnectionValue) (f : FootprintValue) (wanted : Wanted) → f.cut ≡ old.footprint.cut → Lives bytes effects old wanted → Lives bytes effects (record old { footprint = f }) wanted
+counts_it bytes effects old f wanted same l = record {
   heard = l.heard;
   unheard = l.unheard;
   whole = l.whole;
@@ -184,7 +208,7 @@ counts_it bytes effects old parts wanted l = record {
   done = l.done;
   left = l.left;
   split = l.split;
-  cut_for = l.cut_for;
+  cut_for = subst (λ why. IsCut why l.asked_for l.cut l.done (commands_of effects)) (sym same) l.cut_for;
   reached = l.reached;
   does = l.does;
   none_untold = l.none_untold;

@@ -18,11 +18,11 @@ use Rattle.desk_core.specs.declared.turned.Turned.{Turned}
 use Rattle.desk_core.specs.Answers.{Answers}
 use Rattle.desk_core.specs.Continues.{Continues}
 use Rattle.desk_core.specs.Conversations.{Converse, IsPart, Speaks, holds, number_of, opens, part_of}
-use Rattle.desk_core.specs.Desks.{Admits, AreApart, Changes, DeskValue, IsDesk, Others, TalkApart, Touches, Turns, desk, reaching, seated_at, stand_of}
+use Rattle.desk_core.specs.Desks.{Admits, AreApart, Changes, DeskValue, IsCounted, IsDesk, Others, TalkApart, Touches, Turns, counted_in, desk, reaching, seated_at, stand_of}
 use Rattle.desk_core.specs.Effects.{commands_of}
 use Rattle.desk_core.specs.Halting.{FindsEnd}
 use Rattle.desk_core.specs.Histories.{Idles}
-use Rattle.desk_core.specs.Places.{ChangedAt, IsChanged, ServedAt, UnservedAt, progress_at}
+use Rattle.desk_core.specs.Places.{ChangedAt, IsChanged, ServedAt, UnservedAt, counted_at, progress_at}
 use Rattle.desk_core.specs.Slots.{IsNew, Unserved}
 use Rattle.desk_core.proofs.Lists.{cond_same}
 use Rattle.desk_core.proofs.Going.{heeds_none}
@@ -46,10 +46,10 @@ fresh before seat places same none = record {
 pub looked : {B L : Type 0} (before seat after : SessionSeatValue) (mark : ℕ) (places : List (Option (Seated B L))) → after ≡ with_seen seat mark → IsDesk before seat places → IsDesk before after places
 looked before seat after mark places is d = subst (λ s. IsDesk before s places) (sym is) (record { ring = d.ring; number = d.number; speaks = d.speaks })
 
-pub looks : {B L : Type 0} (old : DeskValue B L) (before seat after : SessionSeatValue) (mark : ℕ) (places : List (Option (Seated B L)))
-    → desk before seat places ≡ old → after ≡ with_seen seat mark → desk before after places ≡ desk old.before (with_seen old.seat mark) old.places
-looks {B} {L} old before seat after mark places same is =
-    ap (λ s. desk before s places) is ∙ ap (λ (d : DeskValue B L). desk d.before (with_seen d.seat mark) d.places) same
+pub looks : {B L : Type 0} (old : DeskValue B L) (limit : ℕ) (before seat after : SessionSeatValue) (mark : ℕ) (places : List (Option (Seated B L)))
+    → desk limit before seat places ≡ old → after ≡ with_seen seat mark → desk limit before after places ≡ desk old.limit old.before (with_seen old.seat mark) old.places
+looks {B} {L} old limit before seat after mark places same is =
+    ap (λ s. desk limit before s places) is ∙ ap (λ (d : DeskValue B L). desk d.limit d.before (with_seen d.seat mark) d.places) same
 
 -- ── at one place ──
 
@@ -159,8 +159,13 @@ apart before own places d i j n s t si tj ns nt =
           absurd (omega (arith, two n (stand_of places) i j (progress_at (Some s)) (progress_at (Some t)) other si' tj' (holds_its n s.slot.connection.progress ns) (holds_its n t.slot.connection.progress nt), (d.parts n).most))
     ]
 
-pub talk_apart : {B L : Type 0} (before seat : SessionSeatValue) (places : List (Option (Seated B L))) → IsDesk before seat places → TalkApart (desk before seat places)
-talk_apart before seat places d = record { converse = converses before.own seat.own (stand_of places) d.speaks; apart = apart before.own seat.own places d.speaks }
+pub talk_apart : {B L : Type 0} (limit counted : ℕ) (before seat : SessionSeatValue) (places : List (Option (Seated B L))) → IsDesk before seat places → IsCounted limit counted places → TalkApart (desk limit before seat places)
+talk_apart limit counted before seat places d c = record {
+  converse = converses before.own seat.own (stand_of places) d.speaks;
+  apart = apart before.own seat.own places d.speaks;
+  within = omega (arith, c.sum, c.within);
+  limits = c.limits;
+}
 
 pub get_other : {X : Type 0} (xs : List X) (i k : ℕ) (y : X) → (k ≡ i → ⊥) → slice_get (set xs i y) k ≡ slice_get xs k
 get_other [] i k y other = refl
@@ -210,11 +215,12 @@ sitting places at was within there = slice_get-get_or places at was within ∙ a
 same_of : {X : Type 0} (x y : X) → Some x ≡ Some y → x ≡ y
 same_of x y e = cc
 
-pub touches : {B L : Type 0} (sent : L → Option (List (List ℕ))) (received : L → Option (List ℕ)) (old : DeskValue B L) (before seat : SessionSeatValue) (places : List (Option (Seated B L))) (at : ℕ) (was is : Option (Seated B L))
-    → desk before seat places ≡ old → at < length places → was ≡ get_or places at was → UnservedAt sent received was is → Touches sent received old (desk before seat (set places at is)) at
-touches {B} {L} sent received old before seat places at was is same within there u = record {
+pub touches : {B L : Type 0} (sent : L → Option (List (List ℕ))) (received : L → Option (List ℕ)) (old : DeskValue B L) (limit : ℕ) (before seat : SessionSeatValue) (places : List (Option (Seated B L))) (at : ℕ) (was is : Option (Seated B L))
+    → desk limit before seat places ≡ old → at < length places → was ≡ get_or places at was → UnservedAt sent received was is → Touches sent received old (desk limit before seat (set places at is)) at
+touches {B} {L} sent received old limit before seat places at was is same within there u = record {
   before = ap (λ (d : DeskValue B L). d.before) same;
   seat = ap (λ (d : DeskValue B L). d.seat) same;
+  limit = ap (λ (d : DeskValue B L). d.limit) same;
   others = others old.places places at is (ap (λ (d : DeskValue B L). d.places) same);
   unserved = λ w sat.
       let it : was ≡ Some w = same_of _ _ (sym (sitting places at was within there) ∙ ap (λ (d : DeskValue B L). slice_get d.places at) same ∙ sat) in
@@ -226,6 +232,7 @@ pub touches_none : {B L : Type 0} (sent : L → Option (List (List ℕ))) (recei
 touches_none {B} {L} sent received old new at same = record {
   before = ap (λ (d : DeskValue B L). d.before) same;
   seat = ap (λ (d : DeskValue B L). d.seat) same;
+  limit = ap (λ (d : DeskValue B L). d.limit) same;
   others = nothing_else old.places new.places at (ap (λ (d : DeskValue B L). d.places) same);
   unserved = λ w sat. (w, ap (λ (d : DeskValue B L). slice_get d.places at) same ∙ sat, record { progress = refl; pending = refl; outbox = refl; kept = refl; sent = refl }, heeds_none received w.slot w.link);
 }
@@ -235,11 +242,12 @@ pub unserved_some : {B L : Type 0} (sent : L → Option (List (List ℕ))) (rece
 unserved_some sent received o was is e u h = subst (λ x. UnservedAt sent received x (Some is)) (sym e) (is, refl, u, h)
 
 -- what the connection at a place is told
-pub changes : {B L : Type 0} (f : ConnectionValue → ConnectionValue) (old : DeskValue B L) (before seat : SessionSeatValue) (places : List (Option (Seated B L))) (at : ℕ) (was is : Option (Seated B L))
-    → desk before seat places ≡ old → at < length places → was ≡ get_or places at was → ChangedAt f was is → Changes f old (desk before seat (set places at is)) at
-changes {B} {L} f old before seat places at was is same within there so = record {
+pub changes : {B L : Type 0} (f : ConnectionValue → ConnectionValue) (old : DeskValue B L) (limit : ℕ) (before seat : SessionSeatValue) (places : List (Option (Seated B L))) (at : ℕ) (was is : Option (Seated B L))
+    → desk limit before seat places ≡ old → at < length places → was ≡ get_or places at was → ChangedAt f was is → Changes f old (desk limit before seat (set places at is)) at
+changes {B} {L} f old limit before seat places at was is same within there so = record {
   before = ap (λ (d : DeskValue B L). d.before) same;
   seat = ap (λ (d : DeskValue B L). d.seat) same;
+  limit = ap (λ (d : DeskValue B L). d.limit) same;
   others = others old.places places at is (ap (λ (d : DeskValue B L). d.places) same);
   changed =
       let sat : was ≡ seated_at old.places at = sym (get_or_from_slice_get places at was None (sitting places at was within there)) ∙ ap (λ (d : DeskValue B L). seated_at d.places at) same in
@@ -251,6 +259,7 @@ changes_none {B} {L} f old new at same past =
     let free : seated_at old.places at ≡ None = get_or_past old.places at None past in record {
       before = ap (λ (d : DeskValue B L). d.before) same;
       seat = ap (λ (d : DeskValue B L). d.seat) same;
+      limit = ap (λ (d : DeskValue B L). d.limit) same;
       others = nothing_else old.places new.places at (ap (λ (d : DeskValue B L). d.places) same);
       changed = subst (λ o. ChangedAt f o (seated_at new.places at)) (sym free) (ap (λ (d : DeskValue B L). seated_at d.places at) same ∙ free);
     }
@@ -264,21 +273,27 @@ changed_some f o was is e c = subst (λ x. ChangedAt f x (Some is)) (sym e) (is,
 
 -- ── a turn ──
 
-pub turns : {B L : Type 0} (sent : L → Option (List (List ℕ))) (received : L → Option (List ℕ)) (old : DeskValue B L) (before seat after : SessionSeatValue) (places : List (Option (Seated B L))) (at : ℕ) (was is : Option (Seated B L)) (turned : Turned)
-    → desk before seat places ≡ old → at < length places → was ≡ get_or places at was → Continues (progress_at was) seat (progress_at is) after → ServedAt sent received was seat is after turned
-    → Turns sent received old (desk before after (set places at is)) at turned
-turns {B} {L} sent received old before seat after places at was is turned same within there c s = record {
+pub turns : {B L : Type 0} (sent : L → Option (List (List ℕ))) (received : L → Option (List ℕ)) (old : DeskValue B L) (limit : ℕ) (before seat after : SessionSeatValue) (places : List (Option (Seated B L))) (at : ℕ) (was is : Option (Seated B L)) (turned : Turned) (counted : ℕ)
+    → desk limit before seat places ≡ old → at < length places → was ≡ get_or places at was → Continues (progress_at was) seat (progress_at is) after → ServedAt sent received (limit - counted + counted_at was) was seat is after turned → counted_at was ≤ counted → IsCounted limit counted places
+    → Turns sent received old (desk limit before after (set places at is)) at turned
+turns {B} {L} sent received old limit before seat after places at was is turned counted same within there c s less n = record {
   was = s.was;
   is = s.is;
   sat = ap (λ (d : DeskValue B L). slice_get d.places at) (sym same) ∙ sitting places at was within there ∙ ap (λ x. Some x) s.sat;
   sits = get_same places at is within ∙ ap (λ x. Some x) s.sits;
-  effects = s.goes.effects;
-  added = s.goes.added ∙ ap (λ (d : DeskValue B L). d.seat.own ++ commands_of s.goes.effects) same;
-  of_it = subst (λ p. AllByRecursion (λ (x : Pair). number_in p ≡ Some (number_of x)) (commands_of s.goes.effects)) (ap progress_at s.sits)
-      (subst (λ l. AllByRecursion (λ (x : Pair). number_in (progress_at is) ≡ Some (number_of x)) l) (cancel seat.own c.said (commands_of s.goes.effects) (sym c.added ∙ s.goes.added)) c.of_it);
-  served = s.goes.served;
-  heeds = s.goes.heeds;
-  halts = λ before h. s.goes.halts (λ m. subst (λ (d : DeskValue B L). FindsEnd d.seat) (sym same) (before m)) h;
+  limit = ap (λ (d : DeskValue B L). d.limit) same;
+  effects = s.effects;
+  added = s.added ∙ ap (λ (d : DeskValue B L). d.seat.own ++ commands_of s.effects) same;
+  of_it = subst (λ p. AllByRecursion (λ (x : Pair). number_in p ≡ Some (number_of x)) (commands_of s.effects)) (ap progress_at s.sits)
+      (subst (λ l. AllByRecursion (λ (x : Pair). number_in (progress_at is) ≡ Some (number_of x)) l) (cancel seat.own c.said (commands_of s.effects) (sym c.added ∙ s.added)) c.of_it);
+  served = s.served;
+  heeds = s.heeds;
+  room =
+      let its : counted_at was ≡ s.was.slot.connection.footprint.counted = ap counted_at s.sat in
+      let all : counted_in places ≡ counted_in old.places = ap (λ (d : DeskValue B L). counted_in d.places) same in
+      omega (arith, s.has_room, its, all, n.sum, n.within, less, ap (λ (d : DeskValue B L). d.limit) same);
+  evicted = s.evicted;
+  halts = λ before h. s.halts (λ m. subst (λ (d : DeskValue B L). FindsEnd d.seat) (sym same) (before m)) h;
   answers = subst (λ (x : SessionSeatValue). Answers received turned x s.was.link s.is.slot after s.is.link) (ap (λ (d : DeskValue B L). d.seat) same) s.answers;
 }
 
@@ -302,15 +317,16 @@ still_there places n k = elim (cases_lt k (length places)) [
   | inr past ↦ nobody_past places n k past ∙ sym (get_or_past places k None past)
 ]
 
-pub admits : {B L : Type 0} (old : DeskValue B L) (before seat : SessionSeatValue) (places all : List (Option (Seated B L))) (at : ℕ) (is : Option (Seated B L)) (seated : Seated B L) (link : L)
-    → desk before seat places ≡ old → all ≡ reaching at places → seated_at old.places at ≡ None → is ≡ Some seated → seated.link ≡ link → IsNew seated.slot → Admits old (desk before seat (set all at is)) link at
-admits {B} {L} old before seat places all at is seated link same reach free sits link_is is_new =
+pub admits : {B L : Type 0} (old : DeskValue B L) (limit : ℕ) (before seat : SessionSeatValue) (places all : List (Option (Seated B L))) (at : ℕ) (is : Option (Seated B L)) (seated : Seated B L) (link : L)
+    → desk limit before seat places ≡ old → all ≡ reaching at places → seated_at old.places at ≡ None → is ≡ Some seated → seated.link ≡ link → IsNew old.limit seated.slot → Admits old (desk limit before seat (set all at is)) link at
+admits {B} {L} old limit before seat places all at is seated link same reach free sits link_is is_new =
     let long : length all ≡ length places + (at + 1 - length places) =
     ap length reach ∙ length-append places (replicate (at + 1 - length places) None) ∙ ap (λ n. length places + n) (length-replicate (at + 1 - length places) None) in
     let of_old : length places ≡ length old.places = ap (λ (d : DeskValue B L). length d.places) same in record {
       seated = seated;
       before = ap (λ (d : DeskValue B L). d.before) same;
       seat = ap (λ (d : DeskValue B L). d.seat) same;
+      limit = ap (λ (d : DeskValue B L). d.limit) same;
       was_free = free;
       sits = get_same all at is (within_reach places all at reach) ∙ ap (λ x. Some x) sits;
       link_is = link_is;
@@ -343,12 +359,12 @@ nobody_is None b is none = refl
 nobody_is (Some x) b is none = absurd (let e : true ≡ false = sym is ∙ none in cc)
 
 -- where nobody sits nothing is done
-pub same_desk : {B L : Type 0} (old : DeskValue B L) (before seat after : SessionSeatValue) (places : List (Option (Seated B L))) (at : ℕ) (was is : Option (Seated B L))
-    → desk before seat places ≡ old → was ≡ get_or places at was → is ≡ was → after ≡ seat → desk before after (set places at is) ≡ old
-same_desk {B} {L} old before seat after places at was is same there e s =
-    ap (λ x. desk before x (set places at is)) s ∙ ap (λ o. desk before seat (set places at o)) (e ∙ there) ∙ ap (λ l. desk before seat l) (set-get_or places at was) ∙ same
+pub same_desk : {B L : Type 0} (old : DeskValue B L) (limit : ℕ) (before seat after : SessionSeatValue) (places : List (Option (Seated B L))) (at : ℕ) (was is : Option (Seated B L))
+    → desk limit before seat places ≡ old → was ≡ get_or places at was → is ≡ was → after ≡ seat → desk limit before after (set places at is) ≡ old
+same_desk {B} {L} old limit before seat after places at was is same there e s =
+    ap (λ x. desk limit before x (set places at is)) s ∙ ap (λ o. desk limit before seat (set places at o)) (e ∙ there) ∙ ap (λ l. desk limit before seat l) (set-get_or places at was) ∙ same
 
-pub sits_there : {B L : Type 0} (old : DeskValue B L) (before seat : SessionSeatValue) (places : List (Option (Seated B L))) (at : ℕ) (was : Option (Seated B L))
-    → desk before seat places ≡ old → at < length places → was ≡ get_or places at was → seated_at old.places at ≡ was
-sits_there {B} {L} old before seat places at was same within there =
+pub sits_there : {B L : Type 0} (old : DeskValue B L) (limit : ℕ) (before seat : SessionSeatValue) (places : List (Option (Seated B L))) (at : ℕ) (was : Option (Seated B L))
+    → desk limit before seat places ≡ old → at < length places → was ≡ get_or places at was → seated_at old.places at ≡ was
+sits_there {B} {L} old limit before seat places at was same within there =
     ap (λ (d : DeskValue B L). seated_at d.places at) (sym same) ∙ get_or_from_slice_get places at was None (sitting places at was within there)

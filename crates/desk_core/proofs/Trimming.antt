@@ -1,5 +1,5 @@
 -- What stands at a desk once free places at its end are taken away.
-use Rattle.std.proofs.Common.{◌≡◌, ℕ, zero, suc, ◌+◌, ◌-◌, ◌<◌, ◌≤◌, List, [], ◌∷◌, ◌++◌, Option, Some, None, length, replicate, set, get_or, inl, inr, refl, sym, ap, ◌∙◌, subst, append_assoc, append-nil, arith}
+use Rattle.std.proofs.Common.{◌≡◌, ℕ, zero, suc, ◌+◌, ◌-◌, ◌<◌, List, [], ◌∷◌, ◌++◌, Option, Some, None, length, replicate, set, get_or, inl, inr, refl, sym, ap, ◌∙◌, subst, append_assoc, append-nil, arith}
 use Rattle.std.specs.Prelude.{◌≢◌, MatchOption, option_to_list, slice_get, true}
 use Rattle.std.specs.List.{sum_by}
 use Rattle.std.proofs.lemmas.Bool.{cases_eq}
@@ -93,15 +93,16 @@ pub left_desk : {B L : Type 0} (before seat : SessionSeatValue) (places new : Li
     → is ≡ None → Trims (set places at is) new → IsDesk before seat places → IsDesk before seat new
 left_desk before seat places new at was is within there none t d = trimmed_desk before seat (set places at is) new t (vacated before seat places at was is within there none d)
 
-pub leaves_so : {B L : Type 0} (old : DeskValue B L) (before seat : SessionSeatValue) (places new : List (Option (Seated B L))) (at : ℕ) (was is : Option (Seated B L)) (seated : Seated B L)
-    → desk before seat places ≡ old → at < length places → was ≡ get_or places at was → was ≡ Some seated → is ≡ None → is_over_at was ≡ true → Trims (set places at is) new → Leaves old (desk before seat new) at seated.link
-leaves_so {B} {L} old before seat places new at was is seated same within there it none over t =
+pub leaves_so : {B L : Type 0} (old : DeskValue B L) (limit : ℕ) (before seat : SessionSeatValue) (places new : List (Option (Seated B L))) (at : ℕ) (was is : Option (Seated B L)) (seated : Seated B L)
+    → desk limit before seat places ≡ old → at < length places → was ≡ get_or places at was → was ≡ Some seated → is ≡ None → is_over_at was ≡ true → Trims (set places at is) new → Leaves old (desk limit before seat new) at seated.link
+leaves_so {B} {L} old limit before seat places new at was is seated same within there it none over t =
     let seen : (k : ℕ) → seated_at new k ≡ seated_at (set places at is) k = λ k. sym (still_there new t.free k) ∙ ap (λ l. seated_at l k) (sym t.whole) in
     let long : length (set places at is) ≡ length new + t.free = ap length t.whole ∙ length-append new (replicate t.free None) ∙ ap (λ n. length new + n) (length-replicate t.free None) in
     let of_old : length places ≡ length old.places = ap (λ (d : DeskValue B L). length d.places) same in record {
       was = seated;
       before = ap (λ (d : DeskValue B L). d.before) same;
       seat = ap (λ (d : DeskValue B L). d.seat) same;
+      limit = ap (λ (d : DeskValue B L). d.limit) same;
       sat = ap (λ (d : DeskValue B L). slice_get d.places at) (sym same) ∙ sitting places at was within there ∙ ap (λ x. Some x) it;
       over = subst (λ (o : Option (Seated B L)). is_over_at o ≡ true) it over;
       link_is = refl;

@@ -2,16 +2,17 @@
 use Rattle.std.specs.Prelude.{◌≡◌, ◌==◌, ◌⊎◌, ◌++◌, ℕ, List, [], ◌∷◌, Option, cond, option_map}
 use Rattle.std.proofs.Common.{inl, inr}
 use Rattle.std.specs.List.{AllByRecursion}
+use Rattle.connection_core.specs.Connections.{evicted}
 use Rattle.desk_core.specs.declared.place.Seated.{Seated}
 use Rattle.desk_core.specs.declared.turned.Turned.{Turned}
 use Rattle.desk_core.specs.Effects.{Effect}
-use Rattle.desk_core.specs.Desks.{Admits, DeskValue, Leaves, Others, SitsAt, Touches, Turns}
-use Rattle.desk_core.specs.Histories.{Did}
+use Rattle.desk_core.specs.Desks.{Admits, Changes, DeskValue, Leaves, Others, SitsAt, Touches, Turns}
+use Rattle.desk_core.specs.Histories.{LivesAt}
 
 module _ {B L : Type 0} (sent : L → Option (List (List ℕ))) (received : L → Option (List ℕ)) where
-  -- One call for a place of a desk: a turn there; a ping or a loss; or a client comes, or goes.
+  -- One call for a place of a desk: a turn there; a ping or a loss; an eviction; or a client comes, or goes.
   abbrev pub Calls : DeskValue B L → DeskValue B L → ℕ → Type 0
-  Calls old new at = ((turned : Turned) × Turns sent received old new at turned × Others old.places new.places at) ⊎ (Touches sent received old new at ⊎ ((link : L) × (Admits old new link at ⊎ Leaves old new at link)))
+  Calls old new at = ((turned : Turned) × Turns sent received old new at turned × Others old.places new.places at) ⊎ (Touches sent received old new at ⊎ (Changes evicted old new at ⊎ ((link : L) × (Admits old new link at ⊎ Leaves old new at link))))
 
   -- from one desk to others, each by one call
   abbrev pub Chain : DeskValue B L → List (DeskValue B L) → Type 0
@@ -36,8 +37,8 @@ last_of first (next ∷ others) = last_of next others
 abbrev pub AreTaken : {B L : Type 0} → ℕ → List (DeskValue B L) → Type 0
 AreTaken {B} {L} place desks = AllByRecursion (λ (d : DeskValue B L). (seated : Seated B L) × SitsAt d.places place seated) desks
 
--- The link has given these bytes since, and these effects are what they ask for.
-pub record Lived {L : Type 0} (received : L → Option (List ℕ)) (from to : L) (effects : List Effect) : Type 0 where
+-- The link has given these bytes since, and with these effects the connection lives by them.
+pub record Lived {B L : Type 0} (received : L → Option (List ℕ)) (from : L) (is : Seated B L) (effects : List Effect) : Type 0 where
   pub got : List ℕ
-  pub read : received to ≡ option_map (λ bytes. bytes ++ got) (received from)
-  pub did : Did got effects
+  pub read : received is.link ≡ option_map (λ bytes. bytes ++ got) (received from)
+  pub lives : LivesAt got effects is.slot

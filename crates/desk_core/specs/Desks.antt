@@ -1,5 +1,6 @@
 -- What contracts see of a desk.
 use Rattle.std.specs.Prelude.{◌≡◌, ◌≢◌, ◌+◌, ◌-◌, ◌<◌, ◌≤◌, ℕ, List, ◌++◌, Option, Some, None, IsSome, true, map, max, length, replicate, get_or, slice_get}
+use Rattle.std.specs.List.{sum_by}
 use Rattle.claim_core.specs.Seats.{SessionSeatValue}
 use Rattle.connection_core.specs.Connections.{ConnectionValue}
 use Rattle.connection_core.specs.declared.progress.Progress.{Progress}
@@ -13,17 +14,34 @@ use Rattle.desk_core.specs.Effects.{Effect, commands_of, told_of}
 use Rattle.desk_core.specs.Conversations.{Converse, Speaks}
 use Rattle.desk_core.specs.Halting.{FindsEnd, HasHalted}
 use Rattle.desk_core.specs.Histories.{Heeds, Idles}
-use Rattle.desk_core.specs.Places.{ChangedAt, is_over, progress_at}
+use Rattle.desk_core.specs.Places.{ChangedAt, HasLimit, counted_at, is_over, progress_at}
 use Rattle.desk_core.specs.Slots.{IsNew, Served, Unserved, number_at}
+use Rattle.desk_core.specs.Spending.{IsEvicted}
 
--- The seat as it was when the desk was made, as it is, and what sits at the places.
+-- The seat as it was when the desk was made, as it is, what sits at the places, and how many bytes all sessions there may have together in
+-- a snapshot of the broker.
 pub record DeskValue (B L : Type 0) : Type 0 where
   pub before : SessionSeatValue
   pub seat : SessionSeatValue
   pub places : List (Option (Seated B L))
+  pub limit : ℕ
 
-abbrev pub desk : {B L : Type 0} → SessionSeatValue → SessionSeatValue → List (Option (Seated B L)) → DeskValue B L
-desk before seat places = record { before = before; seat = seat; places = places }
+abbrev pub desk : {B L : Type 0} → ℕ → SessionSeatValue → SessionSeatValue → List (Option (Seated B L)) → DeskValue B L
+desk limit before seat places = record { before = before; seat = seat; places = places; limit = limit }
+
+-- the connection that sits there, if one does
+abbrev pub seated_at : {B L : Type 0} → List (Option (Seated B L)) → ℕ → Option (Seated B L)
+seated_at places at = get_or places at None
+
+-- how many bytes are counted for all sessions
+abbrev pub counted_in : {B L : Type 0} → List (Option (Seated B L)) → ℕ
+counted_in places = sum_by counted_at places
+
+-- This is counted for all sessions, which are within what they may have together; each knows that.
+pub record IsCounted {B L : Type 0} (limit counted : ℕ) (places : List (Option (Seated B L))) : Type 0 where
+  pub sum : counted ≡ counted_in places
+  pub within : counted ≤ limit
+  pub limits : (k : ℕ) → HasLimit limit (seated_at places k)
 
 -- how far the conversations have come
 abbrev pub stand_of : {B L : Type 0} → List (Option (Seated B L)) → List Progress
@@ -44,23 +62,22 @@ pub record Others {B L : Type 0} (old new : List (Option (Seated B L))) (at : �
 abbrev pub SitsAt : {B L : Type 0} → List (Option (Seated B L)) → ℕ → Seated B L → Type 0
 SitsAt places at seated = slice_get places at ≡ Some (Some seated)
 
--- the connection that sits there, if one does
-abbrev pub seated_at : {B L : Type 0} → List (Option (Seated B L)) → ℕ → Option (Seated B L)
-seated_at places at = get_or places at None
-
 -- These effects were done at that place. The seat got the commands among them, which are of its own session. Its client was sent the
--- frames among them, beside outputs of that session. They are what it has next of what its bytes ask for. It is stopped only if the seat
--- has found that the ring takes nothing more. The turn answers so.
+-- frames among them, beside outputs of that session. They are what it has next of what its bytes ask for. Its session might have what
+-- the others left. It is stopped only if the seat has found that the ring takes nothing more. The turn answers so.
 pub record Turns {B L : Type 0} (sent : L → Option (List (List ℕ))) (received : L → Option (List ℕ)) (old new : DeskValue B L) (at : ℕ) (turned : Turned) : Type 0 where
   pub was : Seated B L
   pub is : Seated B L
   pub sat : SitsAt old.places at was
   pub sits : SitsAt new.places at is
   pub effects : List Effect
+  pub limit : new.limit ≡ old.limit
   pub added : new.seat.own ≡ old.seat.own ++ commands_of effects
   pub of_it : AreSaid is.slot.connection.progress (commands_of effects)
   pub served : Served sent (told_of effects) was.slot was.link is.slot is.link
   pub heeds : Heeds received was.slot was.link is.slot is.link effects
+  pub room : is.slot.connection.footprint.room + counted_in old.places ≡ old.limit + was.slot.connection.footprint.counted
+  pub evicted : IsEvicted is.slot.connection.footprint.cut → IsEvicted was.slot.connection.footprint.cut
   pub halts : (HasHalted was.slot.connection.stage → FindsEnd old.seat) → HasHalted is.slot.connection.stage → FindsEnd new.seat
   pub answers : Answers received turned old.seat was.link is.slot new.seat is.link
 
@@ -69,10 +86,12 @@ abbrev pub AreApart : {B L : Type 0} → List (Option (Seated B L)) → Type 0
 AreApart places = (i j n : ℕ) (s t : Seated _ _) → SitsAt places i s → SitsAt places j t → number_at s.slot ≡ Some n → number_at t.slot ≡ Some n → i ≡ j
 
 -- What holds for each desk: after what was its seat's own before, what belongs to each session is one conversation, and no two
--- connections have one session.
+-- connections have one session. All sessions together are counted for no more than they may have.
 pub record TalkApart {B L : Type 0} (d : DeskValue B L) : Type 0 where
   pub converse : Converse d.before.own d.seat.own
   pub apart : AreApart d.places
+  pub within : counted_in d.places ≤ d.limit
+  pub limits : (k : ℕ) → HasLimit d.limit (seated_at d.places k)
 
 -- the same places, and free ones up to that
 abbrev pub reaching : {B L : Type 0} → ℕ → List (Option (Seated B L)) → List (Option (Seated B L))
@@ -83,11 +102,12 @@ reaching at places = places ++ replicate (at + 1 - length places) None
 pub record Admits {B L : Type 0} (old new : DeskValue B L) (link : L) (at : ℕ) : Type 0 where
   pub seated : Seated B L
   pub before : new.before ≡ old.before
+  pub limit : new.limit ≡ old.limit
   pub seat : new.seat ≡ old.seat
   pub was_free : seated_at old.places at ≡ None
   pub sits : SitsAt new.places at seated
   pub link_is : seated.link ≡ link
-  pub is_new : IsNew seated.slot
+  pub is_new : IsNew old.limit seated.slot
   pub others : (k : ℕ) → k ≢ at → seated_at new.places k ≡ seated_at old.places k
   pub count : length new.places ≡ max (length old.places) (at + 1)
 
@@ -107,6 +127,7 @@ pub record Trims {X : Type 0} (old new : List (Option X)) : Type 0 where
 pub record Leaves {B L : Type 0} (old new : DeskValue B L) (at : ℕ) (link : L) : Type 0 where
   pub was : Seated B L
   pub before : new.before ≡ old.before
+  pub limit : new.limit ≡ old.limit
   pub seat : new.seat ≡ old.seat
   pub sat : SitsAt old.places at was
   pub over : is_over was.slot.connection.stage ≡ true
@@ -119,6 +140,7 @@ pub record Leaves {B L : Type 0} (old new : DeskValue B L) (at : ℕ) (link : L)
 -- At that place the connection is changed so, if one sits there, and nothing else is.
 pub record Changes {B L : Type 0} (f : ConnectionValue → ConnectionValue) (old new : DeskValue B L) (at : ℕ) : Type 0 where
   pub before : new.before ≡ old.before
+  pub limit : new.limit ≡ old.limit
   pub seat : new.seat ≡ old.seat
   pub others : Others old.places new.places at
   pub changed : ChangedAt f (seated_at old.places at) (seated_at new.places at)
@@ -127,6 +149,7 @@ pub record Changes {B L : Type 0} (f : ConnectionValue → ConnectionValue) (old
 -- no effect.
 pub record Touches {B L : Type 0} (sent : L → Option (List (List ℕ))) (received : L → Option (List ℕ)) (old new : DeskValue B L) (at : ℕ) : Type 0 where
   pub before : new.before ≡ old.before
+  pub limit : new.limit ≡ old.limit
   pub seat : new.seat ≡ old.seat
   pub others : Others old.places new.places at
   pub unserved : (was : Seated B L) → SitsAt old.places at was → (is : Seated B L) × SitsAt new.places at is × Unserved sent was.slot was.link is.slot is.link × Idles received was.slot was.link is.slot is.link

@@ -10,7 +10,6 @@ use Rattle.session_core.specs.declared.act.Act.TheVariants.{Do, Direct}
 use Rattle.session_core.specs.Sessions.{Hearing, Hears, IsOver, fresh}
 use Rattle.connection_core.specs.Connections.{ConnectionValue, to_append}
 use Rattle.connection_core.specs.Conversations.{IsDone, IsFinished, IsNext, asked}
-use Rattle.connection_core.specs.Footprints.{IsWithin}
 use Rattle.connection_core.specs.Stages.{Executes, IsEnding}
 use Rattle.connection_core.specs.Tasks.{all_of}
 use Rattle.connection_core.specs.declared.progress.Progress.{Progress}
@@ -24,7 +23,7 @@ use Rattle.connection_core.specs.declared.stage.Stage.TheVariants.{Running, Givi
 use Rattle.desk_core.specs.Conversations.{StaysOrEnds}
 use Rattle.desk_core.specs.Effects.{Effect, Does, commands_of, told_of, untold_of}
 use Rattle.desk_core.specs.Halting.{FindsEnd, HasHalted}
-use Rattle.desk_core.specs.Spending.{IsCut, Spends, ops_of, waiting_of}
+use Rattle.desk_core.specs.Spending.{IsCut, KeepsRoom, Spends, waiting_of}
 use Rattle.desk_core.specs.declared.pending.Pending.{Pending}
 use Rattle.desk_core.specs.declared.slot.Slot.{Slot}
 
@@ -65,8 +64,8 @@ abbrev pub IsLast : ConnectionValue → Type 0
 IsLast c = (c.last ≡ None) ⊎ IsFinished c.progress
 
 -- These bytes came of its client. Of all that they ask for this was done: what the first acts ask for, and, if the connection was lost, its
--- session's end. While it runs, no byte is left out. While it may append, no act is left out, but for those that are cut off because its
--- session would pass its bytes. The others wait, first the one that is wanted. While it runs or is given up, and if it ends because an
+-- session's end. While it runs, no byte is left out. While it may append, no act is left out, but for those that are cut off: its
+-- session would pass what it may have, or it was evicted. The others wait, first the one that is wanted. While it runs or is given up, and if it ends because an
 -- ERROR was sent, no frame was left untold. If it ends, its session has ended: none was opened, its End was appended, or its client was
 -- sent an ERROR.
 pub record Lives (bytes : List ℕ) (effects : List Effect) (c : ConnectionValue) (wanted : Wanted) : Type 0 where
@@ -84,7 +83,7 @@ pub record Lives (bytes : List ℕ) (effects : List Effect) (c : ConnectionValue
   pub done : List Act
   pub left : List Act
   pub split : asked_for ++ losses ≡ done ++ (act_of wanted ++ (left ++ all_of c.acts))
-  pub cut_for : IsCut asked_for cut done (commands_of effects)
+  pub cut_for : IsCut c.footprint.cut asked_for cut done (commands_of effects)
   pub reached : Progress
   pub does : Does New done effects reached
   pub none_untold : HasTold c.stage → untold_of effects ≡ []
@@ -105,7 +104,7 @@ abbrev pub wanted_of : {B : Type 0} → Option (Pending B) → Wanted
 wanted_of None = Rest
 wanted_of (Some pending) = to_append pending.entry.command
 
--- a slot has come so far, and keeps within its session's bytes
+-- a slot has come so far, and keeps within the bytes of its desk
 abbrev pub LivesAt : {B : Type 0} → List ℕ → List Effect → Slot B → Type 0
 LivesAt bytes effects slot = Lives bytes effects slot.connection (wanted_of slot.pending) × Spends effects slot.connection (waiting_of slot.pending)
 
@@ -133,33 +132,11 @@ pub record Heeds {B L : Type 0} (received : L → Option (List ℕ)) (was : Slot
   pub read : received to ≡ option_map (λ bytes. bytes ++ got) (received from)
   pub lives : (bytes : List ℕ) (before : List Effect) → LivesAt bytes before was → LivesAt (bytes ++ got) (before ++ effects) is
 
--- it goes on so with no effect, and is not stopped if it was not before
+-- it goes on so with no effect, what is counted of it stays, and it is not stopped if it was not before
 pub record Idles {B L : Type 0} (received : L → Option (List ℕ)) (was : Slot B) (from : L) (is : Slot B) (to : L) : Type 0 where
   pub heeds : Heeds received was from is to []
+  pub footprint : is.connection.footprint ≡ was.connection.footprint
   pub halts : HasHalted is.connection.stage → HasHalted was.connection.stage
-
--- This is what the first of all acts ask for that those bytes ask for: only of the first bytes, if the others came once nothing more was
--- heard. Then comes the session's end, if the connection was lost. After each command the session keeps within its bytes. Acts are cut off
--- only from a command on that would have it pass them.
-pub record Did (bytes : List ℕ) (effects : List Effect) : Type 0 where
-  pub heard : List ℕ
-  pub unheard : List ℕ
-  pub whole : bytes ≡ heard ++ unheard
-  pub all : List Act
-  pub session : Hearing
-  pub hears : Hears fresh heard all session
-  pub asked_for : List Act
-  pub cut : List Act
-  pub halves : all ≡ asked_for ++ cut
-  pub losses : List Act
-  pub are_losses : AllByRecursion IsLoss losses
-  pub done : List Act
-  pub left : List Act
-  pub split : asked_for ++ losses ≡ done ++ left
-  pub cut_for : IsCut asked_for cut done (commands_of effects)
-  pub within : IsWithin (ops_of (commands_of effects))
-  pub reached : Progress
-  pub does : Does New done effects reached
 
 -- it goes on so from where it wants this, and this is counted beside what was appended, with these effects
 abbrev pub LivesOn : {B : Type 0} → Wanted → List Op → ConnectionValue → ConnectionValue → Option (Pending B) → List Effect → Type 0
@@ -172,5 +149,6 @@ pub record DoesWanted {B : Type 0} (wanted : Wanted) (waiting : List Op) (old : 
   pub effects : List Effect
   pub added : is.own ≡ was.own ++ commands_of effects
   pub none_told : told_of effects ≡ []
+  pub keeps : KeepsRoom old new
   pub halts : HasHalted new.stage → HasHalted old.stage ⊎ FindsEnd is
   pub lives : LivesOn wanted waiting old new pending effects

@@ -1,17 +1,21 @@
 -- What is done at a place of a desk.
-use Rattle.std.specs.Prelude.{◌≡◌, ℕ, List, Bool, true, false, Option, Some, None, is_some}
+use Rattle.std.specs.Prelude.{◌≡◌, ◌≤◌, ◌+◌, ◌++◌, ℕ, List, Bool, true, false, Option, Some, None, is_some}
 use Rattle.connection_core.specs.Connections.{ConnectionValue}
+use Rattle.connection_core.specs.declared.footprint.Cut.{Cut}
+use Rattle.connection_core.specs.declared.footprint.Cut.TheVariants as cuts
 use Rattle.connection_core.specs.declared.progress.Progress.{Progress}
 use Rattle.connection_core.specs.declared.progress.Progress.TheVariants.{Gone}
 use Rattle.desk_core.specs.declared.place.Seated.{Seated}
 use Rattle.claim_core.specs.Seats.{SessionSeatValue}
 use Rattle.desk_core.specs.declared.turned.Turned.{Turned}
 use Rattle.desk_core.specs.Answers.{Answers}
-use Rattle.desk_core.specs.Steps.{GoesOn}
-use Rattle.desk_core.specs.Histories.{Idles}
+use Rattle.desk_core.specs.Effects.{Effect, commands_of, told_of}
+use Rattle.desk_core.specs.Halting.{FindsEnd, HasHalted}
+use Rattle.desk_core.specs.Histories.{Heeds, Idles}
+use Rattle.desk_core.specs.Spending.{IsEvicted}
 use Rattle.connection_core.specs.declared.stage.Stage.{Stage}
 use Rattle.connection_core.specs.declared.stage.Stage.TheVariants.{Running, GivingUp, Closing, Parting, Leaving, Over}
-use Rattle.desk_core.specs.Slots.{Unserved, number_at}
+use Rattle.desk_core.specs.Slots.{Served, Unserved, number_at}
 
 -- how far the conversation has come of what sits at a place
 abbrev pub progress_at : {B L : Type 0} → Option (Seated B L) → Progress
@@ -19,14 +23,38 @@ progress_at None = Gone
 progress_at (Some seated) = seated.slot.connection.progress
 
 -- The connection there goes on. Its client is served, and what its seat got is what it has next of what its client's bytes ask for. The
--- turn answers so.
-pub record ServedAt {B L : Type 0} (sent : L → Option (List (List ℕ))) (received : L → Option (List ℕ)) (old : Option (Seated B L)) (before : SessionSeatValue) (new : Option (Seated B L)) (after : SessionSeatValue) (turned : Turned) : Type 0 where
+-- turn answers so. Its session might have so many bytes.
+pub record ServedAt {B L : Type 0} (sent : L → Option (List (List ℕ))) (received : L → Option (List ℕ)) (room : ℕ) (old : Option (Seated B L)) (before : SessionSeatValue) (new : Option (Seated B L)) (after : SessionSeatValue) (turned : Turned) : Type 0 where
   pub was : Seated B L
   pub is : Seated B L
   pub sat : old ≡ Some was
   pub sits : new ≡ Some is
-  pub goes : GoesOn sent received was.slot before was.link is.slot after is.link
+  pub effects : List Effect
+  pub added : after.own ≡ before.own ++ commands_of effects
+  pub served : Served sent (told_of effects) was.slot was.link is.slot is.link
+  pub heeds : Heeds received was.slot was.link is.slot is.link effects
+  pub has_room : is.slot.connection.footprint.room ≡ room
+  pub evicted : IsEvicted is.slot.connection.footprint.cut → IsEvicted was.slot.connection.footprint.cut
+  pub halts : (HasHalted was.slot.connection.stage → FindsEnd before) → HasHalted is.slot.connection.stage → FindsEnd after
   pub answers : Answers received turned before was.link is.slot after is.link
+
+-- how many bytes are counted for the session at a place
+abbrev pub counted_at : {B L : Type 0} → Option (Seated B L) → ℕ
+counted_at None = 0
+counted_at (Some seated) = seated.slot.connection.footprint.counted
+
+-- the session at a place knows how many bytes all of its desk may have together
+abbrev pub HasLimit : {B L : Type 0} → ℕ → Option (Seated B L) → Type 0
+HasLimit limit None = Unit {0}
+HasLimit limit (Some seated) = seated.slot.connection.footprint.limit ≡ limit
+
+-- so many bytes are counted for all sessions of its desk, no more than they may have, and among them those of the session at a place
+abbrev pub KeepsWithin : {B L : Type 0} → (limit counted : ℕ) → Option (Seated B L) → Type 0
+KeepsWithin limit counted place = (counted_at place ≤ counted) × (counted ≤ limit) × HasLimit limit place
+
+-- what is counted for all has changed by what is counted for that session
+abbrev pub Recounts : {B L : Type 0} → (limit counted : ℕ) → Option (Seated B L) → ℕ → Option (Seated B L) → Type 0
+Recounts limit counted old recounted new = (recounted + counted_at old ≡ counted + counted_at new) × KeepsWithin limit recounted new
 
 -- it has ended
 abbrev pub is_over : Stage → Bool
@@ -63,6 +91,11 @@ pub record IsChanged {B L : Type 0} (f : ConnectionValue → ConnectionValue) (w
   pub outbox : is.slot.outbox ≡ was.slot.outbox
   pub kept : is.slot.kept ≡ was.slot.kept
   pub link : is.link ≡ was.link
+
+-- why acts of the connection at a place were cut off
+abbrev pub cut_at : {B L : Type 0} → Option (Seated B L) → Cut
+cut_at None = cuts.No
+cut_at (Some seated) = seated.slot.connection.footprint.cut
 
 -- nobody came or went, and the connection of one who sits there is changed so
 abbrev pub ChangedAt : {B L : Type 0} → (ConnectionValue → ConnectionValue) → Option (Seated B L) → Option (Seated B L) → Type 0

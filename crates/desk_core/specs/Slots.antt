@@ -14,8 +14,8 @@ use Rattle.desk_core.specs.declared.kept.Kept.TheVariants as kept
 use Rattle.desk_core.specs.declared.slot.Slot.{Slot}
 
 -- a connection that was not heard yet: nothing waits for the ring, and there is no outbox
-pub record IsNew {B : Type 0} (slot : Slot B) : Type 0 where
-  pub connection : slot.connection ≡ unheard
+pub record IsNew {B : Type 0} (limit : ℕ) (slot : Slot B) : Type 0 where
+  pub connection : slot.connection ≡ unheard limit
   pub pending : slot.pending ≡ None
   pub outbox : slot.outbox ≡ None
   pub kept : slot.kept ≡ kept.Nothing

@@ -17,6 +17,7 @@ use Rattle.desk_core.specs.Effects.{Effect, commands_of, told_of}
 use Rattle.desk_core.specs.Halting.{FindsEnd, HasHalted}
 use Rattle.desk_core.specs.Histories.{DoesWanted, Heeds, LivesOn}
 use Rattle.desk_core.specs.Slots.{Served}
+use Rattle.desk_core.specs.Spending.{KeepsRoom}
 use Rattle.desk_core.specs.declared.appending.Step.{Step}
 use Rattle.desk_core.specs.declared.pending.Pending.{Pending}
 use Rattle.desk_core.specs.declared.slot.Slot.{Slot}
@@ -37,19 +38,24 @@ pub record TakesStep {B : Type 0} (step : Step) (old new : SessionSeatValue) (pe
   pub grows : Grows step old new
   pub leaves : Leaves step pending
 
+-- no command was appended, and none was counted
+abbrev pub IsUnsaid : ConnectionValue → ConnectionValue → Type 0
+IsUnsaid old new = (new.progress ≡ old.progress) × (new.footprint ≡ old.footprint)
+
 -- what was wanted is done, beside which so much waits, if the slot appended yet
 abbrev pub CarriesOut : {B : Type 0} → Wanted → List Op → Slot B → SessionSeatValue → Slot B → SessionSeatValue → Type 0
 CarriesOut wanted waiting was old is new = Executes was.connection.stage → DoesWanted wanted waiting was.connection old is.connection is.pending new
 
 -- These effects were done at a slot, of what its client's bytes ask for next. Its seat got the commands among them, and nothing
--- else, which go on with its own conversation. Its link was sent the frames among them, beside its own session's outputs. It is
--- stopped only if its seat has found that the ring takes nothing more.
+-- else, which go on with its own conversation. Its link was sent the frames among them, beside its own session's outputs. What it may have
+-- stays. It is stopped only if its seat has found that the ring takes nothing more.
 pub record GoesOn {B L : Type 0} (sent : L → Option (List (List ℕ))) (received : L → Option (List ℕ)) (was : Slot B) (old : SessionSeatValue) (from : L) (is : Slot B) (new : SessionSeatValue) (to : L) : Type 0 where
   pub effects : List Effect
   pub added : new.own ≡ old.own ++ commands_of effects
   pub continues : Continues was.connection.progress old is.connection.progress new
   pub served : Served sent (told_of effects) was from is to
   pub heeds : Heeds received was from is to effects
+  pub keeps : KeepsRoom was.connection is.connection
   pub halts : (HasHalted was.connection.stage → FindsEnd old) → HasHalted is.connection.stage → FindsEnd new
 
 -- what became of a frame that the connection wanted to be told
@@ -57,5 +63,6 @@ pub record TellsIt {B L : Type 0} (sent : L → Option (List (List ℕ))) (frame
   pub effects : List Effect
   pub none_said : commands_of effects ≡ []
   pub served : Served sent (told_of effects) was from is to
+  pub keeps : KeepsRoom was.connection is.connection
   pub halts : Executes was.connection.stage → HasHalted is.connection.stage → HasHalted was.connection.stage
   pub lives : Executes was.connection.stage → LivesOn (Tell frame) [] was.connection is.connection is.pending effects

@@ -75,7 +75,7 @@ impl<B: Bell> Slot<B> {
     ghost use Rattle.desk_core.specs.Conversations.{StaysOrEnds};
     ghost use Rattle.desk_core.specs.Halting.{HasHalted, IsFinal};
     ghost use Rattle.desk_core.specs.Holding.{Holds};
-    ghost use Rattle.desk_core.specs.Steps.{CarriesOut, GoesOn, MayAppend, TakesStep, TellsIt};
+    ghost use Rattle.desk_core.specs.Steps.{CarriesOut, GoesOn, IsUnsaid, MayAppend, TakesStep, TellsIt};
     ghost use Rattle.desk_core.specs.Histories.{LivesOn};
     ghost use Rattle.desk_core.specs.Slots.{Stays};
 
@@ -139,7 +139,7 @@ impl<B: Bell> Slot<B> {
     }
 
     // Makes the entry of a command and appends it. If memory is refused, the connection wants the command again. If its session would
-    // pass its bytes by the command, the connection is given up: the command is dropped, with all that waits after it.
+    // pass what it may have by the command, the connection is given up: the command is dropped, with all that waits after it.
     fn prepare<M: Ringers<B>>(
         &mut self,
         alloc: Global,
@@ -219,7 +219,7 @@ impl<B: Bell> Slot<B> {
     // connection.
     fn hold(&mut self, pending: Pending<B>, refused: Refused) -> Step
         requires { IsNext self.old.connection.progress pending.entry.command }
-        ensures same { self.new.connection.progress ≡ self.old.connection.progress }
+        ensures same { IsUnsaid self.old.connection self.new.connection }
         ensures stays { (self.new.outbox ≡ self.old.outbox) × (self.new.kept ≡ self.old.kept) }
         ensures holds { Holds pending refused self.new.pending result }
         ensures halts { HasHalted self.new.connection.stage → HasHalted self.old.connection.stage ⊎ IsFinal refused }

@@ -10,6 +10,7 @@ use crate::ringers::Ringers;
 use crate::slot::Slot;
 use crate::turned::Turned;
 use claim_core::{BrokerRing, BrokerSeat};
+use connection_core::Cut;
 use outbox_core::{Bell, OutSender};
 use std::alloc::Global;
 use std::marker::Model;
@@ -27,16 +28,19 @@ pub struct Desk<B: Bell, L> {
     pub(crate) places: Vec<Place<B, L>>,
     // The seat as it was when the desk was made.
     before: Snapshot<BrokerSeat<OutSender<B>>>,
+    // How many bytes all sessions may have together in a snapshot of the broker, and how many are counted for them.
+    limit: u64,
+    counted: u64,
 }
 
 impl<B: Bell, L> Model for Desk<B, L> {
-    ghost use Rattle.desk_core.specs.Desks.{DeskValue, IsDesk, desk};
+    ghost use Rattle.desk_core.specs.Desks.{DeskValue, IsCounted, IsDesk, desk};
 
     ghost Value = { DeskValue B L };
 
-    ghost view = { λ a. desk a.before.value a.seat a.places.items };
+    ghost view = { λ a. desk a.limit a.before.value a.seat a.places.items };
 
-    ghost invariant = { λ a. IsDesk a.before.value a.seat a.places.items };
+    ghost invariant = { λ a. IsDesk a.before.value a.seat a.places.items × IsCounted a.limit a.counted a.places.items };
 }
 
 impl<B: Bell, L: Link + Drop> Desk<B, L> {
@@ -46,16 +50,18 @@ impl<B: Bell, L: Link + Drop> Desk<B, L> {
     ghost use Rattle.desk_core.specs.Conversations.{Converse};
     ghost use Rattle.connection_core.specs.Connections.{evicted, with_given_up, with_lost};
     ghost use Rattle.desk_core.specs.Desks.{Admits, Changes, IsWhy, Leaves, Others, TalkApart, Turns, Touches, desk, seated_at};
-    ghost use Rattle.desk_core.specs.Places.{is_open_at, is_over_at};
+    ghost use Rattle.desk_core.specs.Places.{cut_at, is_open_at, is_over_at};
 
-    /// A desk with no connection. No memory is taken.
-    pub fn new(alloc: Global, seat: BrokerSeat<OutSender<B>>) -> Desk<B, L>
-        ensures { result ≡ desk seat seat [] }
+    /// A desk with no connection, whose sessions may have so many bytes together in a snapshot of the broker. No memory is taken.
+    pub fn new(alloc: Global, seat: BrokerSeat<OutSender<B>>, limit: u64) -> Desk<B, L>
+        ensures { result ≡ desk limit seat seat [] }
     {
         Desk {
             before: Snapshot::of(&seat),
             seat,
             places: Vec::new(alloc),
+            limit,
+            counted: 0,
         }
     }
 
@@ -81,7 +87,7 @@ impl<B: Bell, L: Link + Drop> Desk<B, L> {
         }
         match add_places(&mut self.places, at) {
             Ok(()) => {
-                let slot = Slot::new(alloc);
+                let slot = Slot::new(alloc, self.limit);
                 take_place(&mut self.places[at], Seated { slot, link });
                 Ok(())
             }
@@ -102,8 +108,8 @@ impl<B: Bell, L: Link + Drop> Desk<B, L> {
         }
     }
 
-    /// Lets the connection at that place go on by one turn, as `Slot::turn` says; `None` if there is none. All other connections, with
-    /// their links and what those sent, stay as they are.
+    /// Lets the connection at that place go on by one turn, as `Slot::turn` says; `None` if there is none. Its session may have what the
+    /// others leave of the desk's bytes. All other connections, with their links and what those sent, stay as they are.
     pub fn turn<M: Ringers<B>>(
         &mut self,
         alloc: Global,
@@ -123,14 +129,23 @@ impl<B: Bell, L: Link + Drop> Desk<B, L> {
         if at >= self.places.len() {
             return None;
         }
-        turn_at(alloc, ring, &mut self.seat, &mut self.places[at], ringers)
+        let (seat, place) = (&mut self.seat, &mut self.places[at]);
+        turn_at(
+            alloc,
+            ring,
+            seat,
+            place,
+            ringers,
+            &mut self.counted,
+            self.limit,
+        )
     }
 
     /// Reads the ring's mark, and answers it: every number under it is published. The seat has then seen it, and nothing else has
     /// changed. The mark never falls.
     pub fn look(&mut self, ring: &BrokerRing<OutSender<B>>) -> u64
         requires { self.old.seat.ring ≡ ring.now }
-        ensures looks { self.new ≡ desk self.old.before (with_seen self.old.seat result) self.old.places }
+        ensures looks { self.new ≡ desk self.old.limit self.old.before (with_seen self.old.seat result) self.old.places }
         ensures no_less { self.old.seat.seen ≤ result }
         ensures apart { TalkApart self.new }
     {
@@ -188,6 +203,16 @@ impl<B: Bell, L: Link + Drop> Desk<B, L> {
         }
     }
 
+    /// Why acts of the client at that place were cut off, if they were; `Cut::No` if there is none.
+    pub fn cut(&self, at: usize) -> Cut
+        ensures { result ≡ cut_at (seated_at self.now.places at) }
+    {
+        match self.places.get(at) {
+            Some(Some(seated)) => seated.slot.connection.cut(),
+            _ => Cut::No,
+        }
+    }
+
     /// Lets the connection at that place go, if it has ended, and hands its link back. Free places at the end are given back. `None` if
     /// there is none, or if it has not ended, as its turns say by `Next::Over`: then nothing changes.
     pub fn dismiss(&mut self, at: usize) -> Option<L>
@@ -199,6 +224,7 @@ impl<B: Bell, L: Link + Drop> Desk<B, L> {
             return None;
         }
         let Seated { slot, link } = vacate(&mut self.places[at])?;
+        self.counted -= slot.counted();
         drop(slot);
         trim(&mut self.places);
         Some(link)
@@ -214,6 +240,8 @@ impl<B: Bell, L: Link + Drop> Desk<B, L> {
             seat,
             places,
             before,
+            limit: _,
+            counted: _,
         } = self;
         drop(places);
         drop(before);

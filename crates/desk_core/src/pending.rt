@@ -2,9 +2,8 @@
 
 ghost use Rattle.std.specs.Prelude.{◌≡◌, ◌≢◌, ◌≤◌, [], Some, None, IfOk, IfErr};
 ghost use Rattle.connection_core.specs.Conversations.{role_of, said_of};
-ghost use Rattle.connection_core.specs.Footprints.{charged, total};
+ghost use Rattle.connection_core.specs.Footprints.{charged, spent, total};
 ghost use Rattle.connection_core.specs.Weights.{op_weight};
-ghost use Rattle.connection_core.specs.declared.footprint.TheConstants.{SESSION_BYTES};
 ghost use Rattle.connection_core.specs.declared.progress.Role.TheVariants.{Opens};
 ghost use Rattle.outbox_core.specs.Boxes.{TakerValue};
 ghost use Rattle.desk_core.specs.Boxes.{IsBoxFor, box_of};
@@ -91,10 +90,10 @@ pub fn charge<B: Bell, M: Ringers<B>>(
     command: Command,
     said: Said,
 ) -> Result<Pending<B>, Command>
-    requires fits { total (charged connection.old.footprint command.op) ≤ SESSION_BYTES }
+    requires fits { total (charged connection.old.footprint.parts command.op) ≤ connection.old.footprint.room }
     requires said { said ≡ said_of command }
     ensures ok { IfOk result (λ pending. (pending.entry.command ≡ command)
-        × (connection.new ≡ record connection.old { footprint = charged connection.old.footprint command.op })) }
+        × (connection.new ≡ record connection.old { footprint = spent connection.old.footprint command.op })) }
     ensures back { IfErr result (λ back. (back ≡ command) × (connection.new ≡ connection.old)) }
 {
     let pending = Pending::new(alloc, ringers, command, said)?;

@@ -1,11 +1,11 @@
 //! What is done at a place of a desk.
 
-ghost use Rattle.std.specs.Prelude.{◌≡◌, ◌≢◌, ◌-◌, [], length, slice_get, false, Some, None, IfSome, IsNone, IsSome, OnErr, OnOk, true};
+ghost use Rattle.std.specs.Prelude.{◌≡◌, ◌≢◌, ◌+◌, ◌-◌, [], length, slice_get, false, Some, None, IfSome, IsNone, IsSome, OnErr, OnOk, true};
 ghost use Rattle.std.specs.Vec.{vec_capacity};
 ghost use Rattle.desk_core.specs.Continues.{Continues};
 ghost use Rattle.connection_core.specs.Connections.{evicted, with_given_up, with_lost};
 ghost use Rattle.desk_core.specs.Desks.{Trims, reaching};
-ghost use Rattle.desk_core.specs.Places.{ChangedAt, ServedAt, UnservedAt, is_over_at, progress_at};
+ghost use Rattle.desk_core.specs.Places.{ChangedAt, KeepsWithin, Recounts, ServedAt, UnservedAt, counted_at, is_over_at, progress_at};
 
 use crate::place::{Place, Seated};
 use crate::ringers::Ringers;
@@ -16,27 +16,35 @@ use std::alloc::{AllocError, Global};
 use std::mem;
 use ws_core::Link;
 
-// A turn of the connection that sits there, if one does.
+// A turn of the connection that sits there, if one does. Its session may have what the others of the desk leave: so many bytes are counted
+// for all of them, which may have `limit`.
 pub fn turn_at<B: Bell, M: Ringers<B>, L: Link>(
     alloc: Global,
     ring: &BrokerRing<OutSender<B>>,
     seat: &mut BrokerSeat<OutSender<B>>,
     place: &mut Place<B, L>,
     ringers: &M,
+    counted: &mut u64,
+    limit: u64,
 ) -> Option<Turned>
-    requires { seat.old.ring ≡ ring.now }
+    requires ring { seat.old.ring ≡ ring.now }
+    requires keeps { KeepsWithin limit counted.old place.old }
     ensures continues { Continues (progress_at place.old) seat.old (progress_at place.new) seat.new }
-    ensures served { IfSome result (λ turned. ServedAt L.sent L.received place.old seat.old place.new seat.new turned) }
+    ensures served { IfSome result (λ turned. ServedAt L.sent L.received (limit - counted.old + counted_at place.old) place.old seat.old place.new seat.new turned) }
+    ensures counts { Recounts limit counted.old place.old counted.new place.new }
     ensures none { IsNone result → (place.new ≡ place.old) × (seat.new ≡ seat.old) }
     ensures some { IsSome place.old → IsSome result }
 {
     match place {
         Some(seated) => {
-            Some(
-                seated
-                    .slot
-                    .turn(alloc, ring, seat, &mut seated.link, ringers),
-            )
+            let before = seated.slot.counted();
+            let others = *counted - before;
+            seated.slot.allow(limit - others);
+            let turned = seated
+                .slot
+                .turn(alloc, ring, seat, &mut seated.link, ringers);
+            *counted = others + seated.slot.counted();
+            Some(turned)
         }
         None => None,
     }

@@ -26,21 +26,41 @@ pub struct Slot<B: Bell> {
 
 impl<B: Bell> Slot<B> {
     ghost use Rattle.std.specs.Prelude.{◌≤◌, ◌-◌, ◌^◌, min};
-    ghost use Rattle.connection_core.specs.Connections.{evicted};
+    ghost use Rattle.connection_core.specs.Connections.{evicted, with_room};
+    ghost use Rattle.connection_core.specs.Footprints.{IsFootprint};
     ghost use Rattle.desk_core.specs.Holdings.{kept_by};
     ghost use Rattle.desk_core.specs.Places.{is_over};
     ghost use Rattle.desk_core.specs.Slots.{IsNew};
 
-    /// A connection whose client has not been heard yet. No memory is taken.
-    pub fn new(alloc: Global) -> Slot<B>
-        ensures { IsNew result }
+    /// A connection whose client has not been heard yet. All sessions of its desk together may have `limit` bytes in a snapshot of the
+    /// broker, and so may this one until `allow` says otherwise. No memory is taken.
+    pub fn new(alloc: Global, limit: u64) -> Slot<B>
+        ensures { IsNew limit result }
     {
         Slot {
-            connection: Connection::new(alloc),
+            connection: Connection::new(alloc, limit),
             pending: None,
             outbox: None,
             kept: Kept::Nothing,
         }
+    }
+
+    // How many bytes are counted for its session in a snapshot. They are at most what it may have.
+    pub(crate) fn counted(&self) -> u64
+        ensures value { result ≡ self.now.connection.footprint.counted }
+        ensures form { IsFootprint self.now.connection.footprint }
+    {
+        self.connection.counted()
+    }
+
+    // From now on its session may have so many bytes.
+    pub(crate) fn allow(&mut self, room: u64)
+        requires least { self.old.connection.footprint.counted ≤ room }
+        requires most { room ≤ self.old.connection.footprint.limit }
+        ensures allows { self.new.connection ≡ with_room room self.old.connection }
+        ensures same { (self.new.pending ≡ self.old.pending) × (self.new.outbox ≡ self.old.outbox) × (self.new.kept ≡ self.old.kept) }
+    {
+        self.connection.allow(room);
     }
 
     // How many bytes wait in its outbox, or are kept of what its client said, with the entry that waits.

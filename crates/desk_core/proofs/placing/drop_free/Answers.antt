@@ -1,5 +1,4 @@
 use Rattle.std.proofs.Common.{◌≡◌, ◌∙◌, ◌-◌, Some, None, ap, length, slice_get, subst, sym}
-use Rattle.std.specs.Prelude.{MatchOption}
 use Rattle.desk_core.proofs.Trimming.{no_more, not_yet, one_less, shorter_by, taken_or_none}
 use Rattle.desk_core.proofs.placing.drop_free.Goals as goal
 

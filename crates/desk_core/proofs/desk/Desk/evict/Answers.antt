@@ -1,17 +1,20 @@
 use Rattle.std.proofs.Common.{ap, arith, length, refl}
 use Rattle.connection_core.specs.Connections.{evicted}
 use Rattle.desk_core.specs.Desks.{DeskValue}
+use Rattle.desk_core.proofs.Counting.{as_changed, counted_same}
 use Rattle.desk_core.proofs.Standing.{changed_progress, changes, changes_none, unmoved}
 use Rattle.desk_core.proofs.desk.Desk.evict.Goals as goal
 
 pub invariant_of-self : goal.invariant_of-self
-invariant_of-self g c =
-    unmoved c.self.inside.before.value c.self.inside.seat c.self.inside.places.items c.args.at c.index_mut.result.now c.evict_at.new.place
-    (omega (arith, c.if-at-len.true, c.len.ensures)) c.index_mut.ensures.value (changed_progress evicted (λ x. refl) c.index_mut.result.now c.evict_at.new.place c.evict_at.ensures) c.self.invariant
+invariant_of-self g c = (
+  unmoved c.self.inside.before.value c.self.inside.seat c.self.inside.places.items c.args.at c.index_mut.result.now c.evict_at.new.place
+      (omega (arith, c.if-at-len.true, c.len.ensures)) c.index_mut.ensures.value (changed_progress evicted (λ x. refl) c.index_mut.result.now c.evict_at.new.place c.evict_at.ensures) c.self.invariant.0,
+  counted_same c.self.inside.limit c.self.inside.counted c.self.inside.places.items c.args.at c.index_mut.result.now c.evict_at.new.place (omega (arith, c.if-at-len.true, c.len.ensures)) c.index_mut.ensures.value (as_changed evicted (λ x. refl) (λ x. refl) c.index_mut.result.now c.evict_at.new.place c.evict_at.ensures) c.self.invariant.1,
+)
 
 pub returns-then-at-len : goal.returns-then-at-len
 returns-then-at-len g c =
-    changes evicted c.args.self.now c.self.inside.before.value c.self.inside.seat c.self.inside.places.items c.args.at c.index_mut.result.now c.evict_at.new.place
+    changes evicted c.args.self.now c.self.inside.limit c.self.inside.before.value c.self.inside.seat c.self.inside.places.items c.args.at c.index_mut.result.now c.evict_at.new.place
     c.self.view_is (omega (arith, c.if-at-len.true, c.len.ensures)) c.index_mut.ensures.value c.evict_at.ensures
 
 pub returns-else-at-len : goal.returns-else-at-len

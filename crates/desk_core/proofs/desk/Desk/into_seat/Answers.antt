@@ -5,4 +5,4 @@ use Rattle.desk_core.proofs.Standing.{converses}
 use Rattle.desk_core.proofs.desk.Desk.into_seat.Goals as goal
 
 pub returns-clause-converse : goal.returns-clause-converse
-returns-clause-converse g c = subst (λ (d : DeskValue _ _). Converse d.before.own c.self.inside.seat.own) c.self.view_is (converses _ _ _ c.self.invariant.speaks)
+returns-clause-converse g c = subst (λ (d : DeskValue _ _). Converse d.before.own c.self.inside.seat.own) c.self.view_is (converses _ _ _ c.self.invariant.0.speaks)

@@ -16,7 +16,7 @@ pub returns-in-Err-clause-lives : goal.returns-in-Err-clause-lives
 returns-in-Err-clause-lives g c = λ executes.
     let back = c.in-Err.ensures.back in
     refused_so c.window-window.result c.in-Err.refused c.args.self.now.connection c.speak.new.connection c.hold.new.self.connection c.hold.new.self.pending c.args.seat.now c.speak.new.seat c.args.pending.entry.command c.in-Err.entry.command
-    back.1 back.2 (ap (λ (e : EntryValue _). e.command) back.0) c.hold.ensures.halts (c.hold.ensures.lives c.requires.may.nothing)
+    back.1 back.2 (ap (λ (e : EntryValue _). e.command) back.0) c.hold.ensures.same.1 c.hold.ensures.halts (c.hold.ensures.lives c.requires.may.nothing)
 
 pub returns-in-Some-clause-takes : goal.returns-in-Some-clause-takes
 returns-in-Some-clause-takes g c = record {

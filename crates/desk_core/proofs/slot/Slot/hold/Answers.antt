@@ -8,7 +8,7 @@ use Rattle.desk_core.proofs.slot.Slot.hold.Goals as goal
 
 pub returns-in-Stopped : goal.returns-in-Stopped
 returns-in-Stopped g c = record {
-  same = ap (λ (x : ConnectionValue). x.progress) c.stop.ensures;
+  same = (ap (λ (x : ConnectionValue). x.progress) c.stop.ensures, ap (λ (x : ConnectionValue). x.footprint) c.stop.ensures);
   stays = (refl, refl);
   holds = elim c.in-Stopped.is [
     | inl is ↦ subst (λ r. Holds c.args.pending r c.args.self.now.pending Rest) (sym is) refl

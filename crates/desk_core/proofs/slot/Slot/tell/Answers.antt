@@ -4,7 +4,7 @@ use Rattle.connection_core.specs.declared.said.Wanted.TheVariants.{Tell}
 use Rattle.session_core.specs.declared.act.Act.TheVariants.{Direct}
 use Rattle.desk_core.specs.Halting.{HasHalted}
 use Rattle.desk_core.specs.Histories.{HasTold}
-use Rattle.desk_core.proofs.Going.{again_so, tells_later, tells_nobody, tells_told}
+use Rattle.desk_core.proofs.Going.{again_so, keeps_same, tells_later, tells_nobody, tells_told}
 use Rattle.desk_core.proofs.Living.{closes_over, loses, none_told_leaving, none_told_lost, same_stage, told_where}
 use Rattle.desk_core.proofs.Messages.{quiet, still, told_one}
 use Rattle.desk_core.proofs.slot.Slot.tell.Goals as goal
@@ -18,6 +18,7 @@ pub returns-in-Ok-clause-tells : goal.returns-in-Ok-clause-tells
 returns-in-Ok-clause-tells g c =
     tells_told g.L.Outgoing.sent c.args.notice c.args.self.now _ _ _ c.requires.nothing refl
     (λ executes. closes_over _ _ (told_where c.args.self.now.connection.stage executes (λ leaving. c.is_cut_off.ensures.no c.if-is_cut_off.false (c.stage.ensures ∙ leaving))) c.told.ensures)
+    (keeps_same _ _ (ap (λ (x : ConnectionValue). x.footprint) c.told.ensures))
     (told_one g.L.Outgoing.sent _ _ _ _ c.args.notice c.frame-form.ensures.error (inr (ap (λ (x : ConnectionValue). x.progress) c.told.ensures)) refl refl
     c.in-Ok.ensures.told)
 
@@ -31,5 +32,6 @@ pub returns-in-Err-Memory-clause-tells : goal.returns-in-Err-Memory-clause-tells
 returns-in-Err-Memory-clause-tells g c =
     tells_later g.L.Outgoing.sent c.args.notice c.args.self.now _ _ _
     (quiet g.L.Outgoing.sent _ _ _ _ (still _ _ (ap (λ (x : ConnectionValue). x.progress) c.retry_telling.ensures) refl refl) c.in-Err-Memory.ensures.untold)
+    (keeps_same _ _ (ap (λ (x : ConnectionValue). x.footprint) c.retry_telling.ensures))
     (λ h. subst HasHalted (ap (λ (x : ConnectionValue). x.stage) c.retry_telling.ensures) h)
     (λ executes. again_so c.args.self.now.connection c.retry_telling.new.self c.args.self.now.pending (Tell c.args.notice) (Direct c.args.notice) executes c.requires.first refl c.retry_telling.ensures c.requires.nothing)
