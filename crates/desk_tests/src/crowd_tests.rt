@@ -113,7 +113,7 @@ fn work<R: Clock>(
 {
     match seat.take() {
         Some(own) => {
-            let mut desk = Desk::new(alloc, own);
+            let mut desk = Desk::new(alloc, own, 1_048_576);
             let right = serve_all(rt, alloc, ring, &mut desk, first);
             *seat = Some(desk.into_seat());
             right

@@ -67,7 +67,7 @@ fn end_of(desk: &MemDesk, at: usize, wanted: &[&[u8]]) -> Option<Option<u16>> {
 fn desk_of_two(alloc: Global, seat: HubSeat) -> Option<MemDesk>
     ensures { IfSome result (λ desk. desk.seat.ring ≡ seat.ring) }
 {
-    let mut desk = Desk::new(alloc, seat);
+    let mut desk = Desk::new(alloc, seat, 1_048_576);
     let first = Client::new(alloc, &[CONNECT], 0);
     let second = Client::new(alloc, &[CONNECT], 0);
     match (first, second) {

@@ -91,7 +91,7 @@ impl Room {
         let seat = hub.seat().unwrap();
         let flusher = hub.flusher().unwrap();
         Room {
-            desk: Desk::new(alloc, seat),
+            desk: Desk::new(alloc, seat, 8_192),
             hub,
             flusher,
         }

@@ -3,7 +3,7 @@
 ghost use Rattle.std.specs.Prelude.{◌≡◌};
 
 use crate::hubs::{HubRing, HubSeat};
-use connection_core::Ended;
+use connection_core::{Ended, SESSION_BYTES};
 use desk_core::{Next, Ringers, Slot, Turned};
 use outbox_core::Silent;
 use std::alloc::Global;
@@ -42,7 +42,7 @@ pub fn worker<M: Ringers<Silent>, L: Link, P: WorkerPace>(
         worker: seat.number(),
         turns,
     };
-    let mut slot = Slot::new(alloc);
+    let mut slot = Slot::new(alloc, SESSION_BYTES);
     let ended = serve(alloc, ring, seat, link, ringers, &mut slot, &rounds);
     drop(slot);
     ended
