@@ -6,7 +6,7 @@ use Rattle.event_log.specs.declared.event.Event.TheVariants as events
 use Rattle.event_log.specs.declared.event.Figures.{Figures}
 use Rattle.event_log.specs.declared.event.Start.{Start}
 use Rattle.event_log.specs.declared.kind.Kind.{Kind}
-use Rattle.event_log.specs.declared.kind.Kind.TheVariants.{Malformed, OtherProtocol, Foreign, Method, NoUpgrade, Version, TooLarge, Full, Silent, TakesNothing, Unopened, TookMost, NoRoom, NotAccepted, LeftOut}
+use Rattle.event_log.specs.declared.kind.Kind.TheVariants.{Malformed, OtherProtocol, Foreign, Method, NoUpgrade, Version, TooLarge, Full, Silent, TakesNothing, Unopened, TookMost, LongNames, NoRoom, NotAccepted, LeftOut}
 
 -- the place of a kind among all
 abbrev pub place_of : Kind → ℕ
@@ -22,9 +22,10 @@ place_of Silent = 8
 place_of TakesNothing = 9
 place_of Unopened = 10
 place_of TookMost = 11
-place_of NoRoom = 12
-place_of NotAccepted = 13
-place_of LeftOut = 14
+place_of LongNames = 12
+place_of NoRoom = 13
+place_of NotAccepted = 14
+place_of LeftOut = 15
 
 -- the words before a count, and after it
 abbrev pub before_count : Kind → List ℕ
@@ -40,6 +41,7 @@ before_count Silent = codes "gave up "
 before_count TakesNothing = codes "gave up "
 before_count Unopened = codes "gave up "
 before_count TookMost = codes "gave up "
+before_count LongNames = codes "gave up "
 before_count NoRoom = codes "refused "
 before_count NotAccepted = codes "failed to accept "
 before_count LeftOut = codes "left out "
@@ -57,6 +59,7 @@ behind_count Silent = codes " clients that answered no ping or close"
 behind_count TakesNothing = codes " clients that took nothing for 10 s"
 behind_count Unopened = codes " clients that opened no session in time"
 behind_count TookMost = codes " clients that took the most memory"
+behind_count LongNames = codes " clients whose names have no room beside the others'"
 behind_count NoRoom = codes " SENDs for which there is no room (E12)"
 behind_count NotAccepted = codes " clients: out of descriptors or memory"
 behind_count LeftOut = codes " lines that nobody read in time"

@@ -5,7 +5,7 @@ ghost use Rattle.event_log.specs.Events.{before_count, behind_count, place_of};
 ghost use Rattle.event_log.specs.declared.kind.TheConstants.{KINDS};
 
 /// How many kinds there are.
-pub const KINDS: usize = 15;
+pub const KINDS: usize = 16;
 
 /// What may come many times in a second: it is counted, and reported with how often it came.
 #[derive(Clone, Copy)]
@@ -34,6 +34,8 @@ pub enum Kind {
     Unopened,
     /// A client that held most was given up, since all together held more memory than they may.
     TookMost,
+    /// A client was given up whose names, with those of the others at its desk, would have taken more of the journal than they may.
+    LongNames,
     /// A SEND was refused with E12.
     NoRoom,
     /// The system refused to accept a client: there are no descriptors or no memory for it.
@@ -69,9 +71,10 @@ impl Kind {
             9 => Some(Kind::TakesNothing),
             10 => Some(Kind::Unopened),
             11 => Some(Kind::TookMost),
-            12 => Some(Kind::NoRoom),
-            13 => Some(Kind::NotAccepted),
-            14 => Some(Kind::LeftOut),
+            12 => Some(Kind::LongNames),
+            13 => Some(Kind::NoRoom),
+            14 => Some(Kind::NotAccepted),
+            15 => Some(Kind::LeftOut),
             _ => None,
         }
     }
@@ -81,7 +84,8 @@ impl Kind {
         ensures { result.now ≡ before_count self }
     {
         match self {
-            Kind::Silent | Kind::TakesNothing | Kind::Unopened | Kind::TookMost => "gave up ",
+            Kind::Silent | Kind::TakesNothing | Kind::Unopened | Kind::TookMost | Kind::LongNames =>
+                "gave up ",
             Kind::NotAccepted => "failed to accept ",
             Kind::LeftOut => "left out ",
             _ => "refused ",
@@ -104,6 +108,7 @@ impl Kind {
             Kind::TakesNothing => " clients that took nothing for 10 s",
             Kind::Unopened => " clients that opened no session in time",
             Kind::TookMost => " clients that took the most memory",
+            Kind::LongNames => " clients whose names have no room beside the others'",
             Kind::NoRoom => " SENDs for which there is no room (E12)",
             Kind::NotAccepted => " clients: out of descriptors or memory",
             Kind::LeftOut => " lines that nobody read in time",
