@@ -68,6 +68,7 @@ impl LogThread {
                 AtomicU64::new(0),
                 AtomicU64::new(0),
                 AtomicU64::new(0),
+                AtomicU64::new(0),
             ],
             commands: AtomicU64::new(0),
             frames: AtomicU64::new(0),

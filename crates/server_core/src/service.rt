@@ -6,6 +6,7 @@ use crate::calls::{BITS, Called, WORDS};
 use crate::mailbox::{Arrival, BellRope, Mailbox, Ropes};
 use crate::shared::{ServerRing, ServerSeat, Shared};
 use client_schedule::{CLIENTS, Clients, Due, Flow, Phase, ReadBudget, Standing, Told};
+use connection_core::Cut;
 use desk_core::{Desk, Next, Turned};
 use event_log::Kind;
 use memory_budget::Held;
@@ -73,7 +74,7 @@ impl<'a, R: Wait + Clock + Drop> Service<'a, R> {
             shared,
             mailbox,
             number,
-            desk: Desk::new(alloc, seat),
+            desk: Desk::new(alloc, seat, shared.desk_bytes),
             clients,
             now: 0,
             held: Held::new(),
@@ -391,6 +392,9 @@ impl<'a, R: Wait + Clock + Drop> Service<'a, R> {
         }
         match turned.next {
             Next::Over(_) => {
+                if matches!(self.desk.cut(number), Cut::Full(_)) {
+                    self.shared.wakeups.log().count(Kind::LongNames);
+                }
                 drop(self.desk.dismiss(number));
                 self.leave(number);
             }

@@ -206,8 +206,8 @@ impl<R: Wait + Clock + Drop> Server<R> {
         };
         let (log, rt) = (self.shared.wakeups.log(), &self.shared.rt);
         log.note(rt, Event::Started(start));
-        let needed = clients
-            .saturating_mul(SESSION_BYTES)
+        let needed = desk_bytes(clients)
+            .saturating_mul(SEATS as u64)
             .saturating_add(HELD_BYTES);
         if area < needed {
             log.note(rt, Event::Small { area, needed });
@@ -347,9 +347,18 @@ fn share<R: Wait + Clone + Drop>(
         wakeups,
         memory,
         pace: Pace::new(alloc, SEATS)?,
+        desk_bytes: desk_bytes(most_clients),
     };
     let shared = shared_by(alloc, shared)?;
     Ok((shared, acceptor, setups))
+}
+
+// How many bytes the sessions of a desk may have together in a snapshot of the broker: of all desks together `SESSION_BYTES` for each client,
+// and no less of a desk.
+fn desk_bytes(most_clients: u64) -> u64 {
+    most_clients
+        .saturating_mul(SESSION_BYTES / SEATS as u64)
+        .max(SESSION_BYTES)
 }
 
 // Says how the server does, and whether a compaction has left little room.

@@ -23,6 +23,8 @@ pub struct Shared<R> {
     pub(crate) wakeups: Wakeups<R>,
     pub(crate) memory: Memory,
     pub(crate) pace: Pace,
+    /// How many bytes the sessions of a desk may have together in a snapshot of the broker.
+    pub(crate) desk_bytes: u64,
 }
 
 impl<R: Clock> Shared<R> {

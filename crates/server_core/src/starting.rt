@@ -260,6 +260,7 @@ fn finish<R: Drop>(
                 wakeups,
                 memory,
                 pace,
+                desk_bytes: _,
             } = shared;
             drop(rt);
             drop(origins);
