@@ -66,6 +66,7 @@ SCRIPTS = [
     Script("tests/attack/under_attack.py"),
     Script("tests/attack/dear_frames.py"),
     Script("tests/program/memory_budget.py"),
+    Script("tests/program/long_names.py", light=""),
     Script("tests/attack/soak.py", "--minutes 1"),
     Script("tests/program/waits.py", "--minutes 10", light="--minutes 1"),
     Script("tests/program/readiness.py"),

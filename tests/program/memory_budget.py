@@ -1,11 +1,12 @@
 #!/usr/bin/env python3
 """A server whose clients may hold 256 MiB together: 2,000 subscribe to a topic and read nothing, while somebody sends to it. Those who hold most are
 given up, before they would be for taking nothing; one that reads everything and one that sends hear what is theirs at once; and the server lives under
-a limit of memory that it would pass if all of them held what waits for them. Then 4,000 send most of a head, to a server whose clients may hold 16 MiB.
+a limit of memory that it would pass if all of them held what waits for them. Then 4,000 send most of a head, to a server whose clients may hold 16 MiB;
+and 1,500 one message of 600 SENDs each, to one whose disk is so slow that these wait.
 
     python3 tests/program/memory_budget.py [PROGRAM]
 
-PROGRAM is the built program; without it, bin/stompd. It takes a minute or less, and needs Python 3 alone.
+PROGRAM is the built program; without it, bin/stompd. It takes a minute or less, and needs strace and Python 3 alone.
 
 - The limit is the system's, on data (RLIMIT_DATA): the budget, 256 KiB for each client, and 128 MiB. A client takes up to 128 KiB that the budget does not
   count: the places of its outbox (111 KB), and what its socket is read by. The rest is for what is being handed out, for what was given up and is not free
@@ -16,7 +17,9 @@ PROGRAM is the built program; without it, bin/stompd. It takes a minute or less,
 """
 
 import contextlib
+import os
 import resource
+import signal
 import socket
 import subprocess
 import sys
@@ -25,7 +28,7 @@ import time
 
 from lib import scenario
 from lib.stomp_client import Client
-from lib.wire import handshake
+from lib.wire import TEXT, handshake, message_bytes, stomp_bytes
 
 TOPIC = "/topic/unread"
 BUDGET = 268_435_456
@@ -36,6 +39,9 @@ EACH, REST = 262_144, 134_217_728
 LIMIT = BUDGET + STALLED * EACH + REST
 # Of heads that don't end: how many, of how many bytes, the least budget that a server takes, and what else they may take.
 HEADS, HEAD_BYTES, LEAST_BUDGET, HEADS_REST = 4_000, 16_000, 16_777_216, 67_108_864
+# Of frames that wait: how many clients, with one message each of so many SENDs, so many at a time; how long a sync takes, in microseconds; what they
+# may take beside the budget.
+SENDERS, SENDS, WAVE, SYNC, WAITING_REST = 1_500, 600, 100, 100_000, 67_108_864
 # A wait of an honest client, and after how many seconds a client is given up that takes nothing.
 LONGEST_WAIT, TAKES_NOTHING = 1.0, 10
 
@@ -54,6 +60,27 @@ class Limited(scenario.Broker):
                 return
             self.process.communicate()
         raise RuntimeError("the broker does not serve")
+
+
+class Slow(scenario.Broker):
+    """A server with the least budget, under strace, which holds each sync up."""
+
+    def serve(self):
+        delay = ["strace", "-f", "--seccomp-bpf", "-qq", "-o", "/dev/null", "-e", "trace=fsync", "-e", f"inject=fsync:delay_enter={SYNC}"]
+        words = [*delay, self.program, "serve", self.journal, str(self.port), "--memory", str(LEAST_BUDGET)]
+        self.process = subprocess.Popen(words, stdout=subprocess.PIPE, stderr=subprocess.PIPE)
+        self.process.stdout.readline()
+        self.number = scenario.child_of(self.process.pid)
+
+    def kill(self):
+        os.kill(self.number, signal.SIGKILL)
+        self.process.wait()
+        self.process.stdout.close()
+        self.process.stderr.close()
+
+    def memory(self, name):
+        with open(f"/proc/{self.number}/status", encoding="ascii") as status:
+            return next(int(line.split()[1]) for line in status if line.startswith(name + ":"))
 
 
 class Listener(threading.Thread):
@@ -174,6 +201,30 @@ def unfinished_heads(broker, checks):
         one.close()
 
 
+def frames_that_wait(broker, checks):
+    """frames that find the ring full count: those who hold most are given up, and give up what waits"""
+    senders = [Client(broker.port, timeout=60) for _ in range(SENDERS)]
+    for one in senders:
+        one.send("CONNECT", [("accept-version", "1.2")])
+    for one in senders:
+        one.receive()
+    time.sleep(1)
+    told, before = Listener(broker), broker.memory("VmRSS")
+    message = message_bytes(TEXT, SENDS * stomp_bytes("SEND", [("destination", "/topic/none")]))
+    for number, one in enumerate(senders):
+        with contextlib.suppress(OSError):
+            one.write(message)
+        if number % WAVE == WAVE - 1:
+            time.sleep(0.25)
+    time.sleep(2)
+    taken, (most, _) = broker.memory("VmRSS") - before, told.given_up("clients that took the most memory")
+    checks.check("clients were given up that took the most memory", most > SENDERS / 2, f"{most} of {SENDERS}")
+    checks.check(f"all took at most the budget and {WAITING_REST >> 20} MiB", taken * 1024 <= LEAST_BUDGET + WAITING_REST, f"{taken >> 10} MiB")
+    checks.tell(f"{most} were given up; the server has {taken >> 10} MiB more than before them")
+    for one in senders:
+        one.close()
+
+
 def with_least_budget(program, journal):
     return scenario.Broker(program, journal, more=["--memory", str(LEAST_BUDGET)])
 
@@ -188,6 +239,8 @@ def main():
         scenario.try_one(reads_nothing, broker, checks)
     with scenario.serving(program, kind=with_least_budget) as broker:
         scenario.try_one(unfinished_heads, broker, checks)
+    with scenario.serving(program, kind=Slow) as broker:
+        scenario.try_one(frames_that_wait, broker, checks)
     checks.tell(f"{time.monotonic() - start:.1f} s")
     return 1 if checks.failed else 0
 
