@@ -152,7 +152,7 @@ impl<R: Wait + Clone + Drop> Server<R> {
         let mut flusher = hub.flusher().unwrap();
         let (ring, room) = hub.into_ring();
         let port = entrance.port;
-        match share(alloc, rt, ring, entrance, flusher.mark()) {
+        match share(alloc, rt, ring, entrance, flusher.mark(), flusher.size()) {
             Ok((shared, acceptor, setups)) => {
                 count_audiences(&shared, &mut flusher)?;
                 Ok(Server {
@@ -206,8 +206,9 @@ impl<R: Wait + Clock + Drop> Server<R> {
         };
         let (log, rt) = (self.shared.wakeups.log(), &self.shared.rt);
         log.note(rt, Event::Started(start));
-        let needed = desk_bytes(clients)
-            .saturating_mul(SEATS as u64)
+        let needed = clients
+            .max(SEATS as u64)
+            .saturating_mul(SESSION_BYTES)
             .saturating_add(HELD_BYTES);
         if area < needed {
             log.note(rt, Event::Small { area, needed });
@@ -323,6 +324,7 @@ fn share<R: Wait + Clone + Drop>(
     ring: ServerRing,
     entrance: Entrance,
     mark: u64,
+    area: u64,
 ) -> Result<(Arc<Shared<R>>, Arc<Acceptor<R>>, Vec<WorkerSetup>), ServeFault>
     ensures ring { IfOk result (λ shares. (arc_value shares.0).ring ≡ ring) }
     ensures setups { IfOk result (λ shares. shares.2 ≡ entrance.setups) }
@@ -347,18 +349,19 @@ fn share<R: Wait + Clone + Drop>(
         wakeups,
         memory,
         pace: Pace::new(alloc, SEATS)?,
-        desk_bytes: desk_bytes(most_clients),
+        desk_bytes: desk_bytes(most_clients, area),
     };
     let shared = shared_by(alloc, shared)?;
     Ok((shared, acceptor, setups))
 }
 
-// How many bytes the sessions of a desk may have together in a snapshot of the broker: of all desks together `SESSION_BYTES` for each client,
-// and no less of a desk.
-fn desk_bytes(most_clients: u64) -> u64 {
-    most_clients
-        .saturating_mul(SESSION_BYTES / SEATS as u64)
-        .max(SESSION_BYTES)
+// How many bytes the sessions of a desk may have together in a snapshot of the broker. All desks have `SESSION_BYTES` for each client, or what
+// an area has room for beside what may be held; but each has as many as one client.
+fn desk_bytes(most_clients: u64, area: u64) -> u64 {
+    let all = most_clients
+        .saturating_mul(SESSION_BYTES)
+        .min(area.saturating_sub(HELD_BYTES));
+    (all / SEATS as u64).max(SESSION_BYTES)
 }
 
 // Says how the server does, and whether a compaction has left little room.
