@@ -4,7 +4,7 @@
     python3 tests/program/telling.py [PROGRAM]
 
 A server tells its start; what comes often is counted, and told at most once a second a kind; a server with few descriptors takes as many clients as
-they allow; and lawful clients that ask for as much as they can do not fill its journal, but are closed.
+they allow; and lawful clients whose names would fill its journal are closed, and told.
 """
 
 import contextlib
@@ -149,17 +149,23 @@ def descriptors(program, checks):
 
 
 def lawful(program, checks):
-    """clients that subscribe with the longest ids that there may be"""
+    """clients that subscribe with long ids"""
     with serving(program) as server:
-        closed = 0
-        for _ in range(300):
+        # A desk of these areas has room for the names of one of them.
+        taken, closed = [], 0
+        for _ in range(150):
             client = Client(server.port).connect()
-            with contextlib.suppress(ConnectionError):
+            try:
                 for place in range(16):
-                    client.send("SUBSCRIBE", [("id", f"{place:04}" + "i" * 8_000), ("destination", "/topic/t")])
-            closed += client.to_the_end()[1] == 1001
-            client.close()
-        checks.same("each of them is closed with 1001", closed, 300)
+                    client.send("SUBSCRIBE", [("id", f"{place:04}" + "i" * 6_000), ("destination", "/topic/t"), ("receipt", f"{place}")])
+                    client.receipt(f"{place}")
+                taken.append(client)
+            except Closed as end:
+                closed += end.code == 1001
+                client.close()
+        checks.same("each desk takes one, and the others are closed with 1001", (len(taken), closed), (64, 86))
+        told = server.told("whose names have no room")
+        checks.check("the server tells it", bool(told), server.lines[-3:])
         checks.check("and the server goes on", server.process.poll() is None, server.lines[-3:])
         Client(server.port).connect().publish("/queue/q", "still there")
 
