@@ -199,6 +199,10 @@ module _ {D : Type 0} (disk : Ghosts D) (old mid : Flushed D) (made : IsLeft old
           subst (λ (n : ℕ). StandFor (disk.images new.disk) (state_at old.opening old.seat n)) (sym number_so)
           (subst (λ (f : Flushed D). StandFor (disk.images new.disk) (state_at f.opening f.seat (f.stored + count))) all_but_disk (did.stands honest))
 
+      -- an area is as long as it was
+      size_so : new.size ≡ old.size
+      size_so = did.size ∙ ap (λ (f : Flushed D). f.size) all_but_disk
+
       -- the block stands behind what was used
       behind_so : Fits old.size old.used (gathered old)
           → (new.stored ≡ next_ticket old.seat) × (new.used ≡ old.used + 9 + length (records (gathered old))) × (new.last ≡ old.last)
@@ -235,7 +239,7 @@ module _ {D : Type 0} (disk : Ghosts D) (old mid : Flushed D) (made : IsLeft old
       stores_so honest = record {
         stored = stored_so;
         within = (omega (arith, number_so), omega (arith, number_so, count_within, to_end));
-        next = record { stands = λ was. stands_so (honest was); behind = λ fits some. behind_so fits; afresh = λ long some. afresh_so long };
+        next = record { stands = λ was. stands_so (honest was); behind = λ fits some. behind_so fits; afresh = λ long some. afresh_so long; size = size_so };
       }
 
     -- a stop within it finds the state before, or that after them

@@ -99,6 +99,7 @@ pub record StoresFirst {D : Type 0} (disk : Ghosts D) (old new : Flushed D) (cou
   pub stored : new ≡ storing old (old.stored + count) new.disk new.size new.used old.last
   pub used : new.used ≡ old.used + 9 + length (records (take count (gathered old)))
   pub fits : Fits old.size old.used (take count (gathered old))
+  pub size : new.size ≡ old.size
 
 -- If the answer is `Full`, their block doesn't fit. The disk stays then, and also if memory was refused.
 pub record RefusesToStoreFirst {D X : Type 0} (disk : Ghosts D) (old new : Flushed D) (count : ℕ) (result : Result X FlushFault) : Type 0 where
@@ -130,6 +131,7 @@ pub record StoresNext {D : Type 0} (disk : Ghosts D) (old new taken : Flushed D)
       → (new.stored ≡ next_ticket taken.seat) × (new.used ≡ old.used + 9 + length (records (to_store old taken))) × (new.last ≡ old.last)
   pub afresh : IsTooLong old.size old.used (to_store old taken) → to_store old taken ≢ []
       → StoresAfresh old.size old.used old.stored (state_stored old) (to_store old taken) (new.stored - old.stored) new.used new.last
+  pub size : new.size ≡ old.size
 
 -- If the answer is `Full`, the block of what waits doesn't fit. Nor does a snapshot, and the disk stays; or the next command doesn't fit
 -- after one. The disk shows it.

@@ -190,7 +190,7 @@ fn execute_all<B: Bell>(
 impl<D: Disk, B: Bell, W: Width> Flusher<D, B, W> {
     /// Executes what is stored. The broker's state is then the one after all that is stored. The outputs wait after those that wait
     /// already, in the order of their commands. The call also makes the room that `publish` needs.
-    pub fn execute(
+    pub fn settle(
         &mut self,
         alloc: Global,
         ring: &BrokerRing<OutSender<B>>,

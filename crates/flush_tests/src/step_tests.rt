@@ -71,7 +71,7 @@ fn make_steps(
     if steps == 2 {
         return Ok(taken);
     }
-    flusher.execute(alloc, ring)?;
+    flusher.settle(alloc, ring)?;
     if steps == 3 {
         return Ok(taken);
     }
@@ -226,7 +226,7 @@ fn gather_twice(alloc: Global, setup: &mut MemSetup) -> Option<[u64; 3]>
     };
     let second = setup.flusher.gather(&setup.ring).ok()?;
     setup.flusher.store(alloc, &setup.ring).ok()?;
-    setup.flusher.execute(alloc, &setup.ring).ok()?;
+    setup.flusher.settle(alloc, &setup.ring).ok()?;
     setup.flusher.publish(&setup.ring);
     Some([first, second, setup.flusher.mark()])
 }
@@ -274,7 +274,7 @@ fn is_refused<D: Disk>(alloc: Global, ring: &TestRing, flusher: &mut TestFlusher
     let Err(FlushFault::Broken) = flusher.store(alloc, ring) else {
         return false;
     };
-    let Err(FlushFault::Broken) = flusher.execute(alloc, ring) else {
+    let Err(FlushFault::Broken) = flusher.settle(alloc, ring) else {
         return false;
     };
     matches!(flusher.turn(alloc, ring), Err(FlushFault::Broken))

@@ -172,6 +172,7 @@ returns-in-Ok-clause-stores g c = record {
       let is : commands (take c.args.count it.batch.items) ≡ take c.args.count (from_on it.seat it.stored) = sym (take-map (λ (entry : EntryValue SenderValue). entry.command) c.args.count it.batch.items) ∙ ap (λ (l : List CommandValue). take c.args.count l) (c.self.invariant.1 whole).batch_is in
       subst (λ (f : Flushed g.row.D.Denot). Fits f.size f.used (take c.args.count (gathered f))) c.self.view_is
       (subst (λ (l : List CommandValue). Fits (size_of it.journal) (used_of it.journal) l) is c.in-Ok.ensures.adds.fits);
+  size = c.append_first.ensures.size ∙ ap (λ (f : Flushed g.row.D.Denot). f.size) c.self.view_is;
 }
 
 pub returns-in-Ok-clause-refuses : goal.returns-in-Ok-clause-refuses

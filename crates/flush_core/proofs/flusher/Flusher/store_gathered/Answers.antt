@@ -52,6 +52,7 @@ returns-then-has_none-clause-stores g c =
         stands = λ honest. (kept.running c.requires.done.0).stands honest;
         behind = λ fits some. absurd (some none);
         afresh = λ long some. absurd (some none);
+        size = refl;
       };
     }
 

@@ -256,6 +256,7 @@ returns-clause-turns g c =
             (did.next.stands (subst (λ (f : Flushed g.row.D.Denot). g.D.Disk.honest f.disk) (sym took.2) honest));
         behind = came_behind c.args.self.now c.take_batch.new.self c.store_gathered.new.self took.0 _ _ _ _ _ took.2 did.stored (λ waits. (c.store_gathered.ensures.refuses.nothing c.in_ok-count.ensures.outcome.1 waits).1) c.execute_stored.new.self c.publish.new.self executed published did.next.behind;
         afresh = came_afresh c.args.self.now c.take_batch.new.self c.store_gathered.new.self took.0 _ _ _ _ _ took.2 did.stored (λ waits. (c.store_gathered.ensures.refuses.nothing c.in_ok-count.ensures.outcome.1 waits).1) c.execute_stored.new.self c.publish.new.self executed published c.is_broken.ensures.kept.stored did.next.afresh;
+        size = ap (λ (f : Flushed g.row.D.Denot). f.size) published ∙ (ap (λ (f : Flushed g.row.D.Denot). f.size) executed ∙ (did.next.size ∙ ap (λ (f : Flushed g.row.D.Denot). f.size) took.2));
       };
       idle = none_won c.args.self.now c.take_batch.new.self c.store_gathered.new.self took.0 _ _ _ _ _ took.2 did.stored (λ waits. (c.store_gathered.ensures.refuses.nothing c.in_ok-count.ensures.outcome.1 waits).1) c.execute_stored.new.self c.publish.new.self executed published;
     }

@@ -1,5 +1,5 @@
 use Rattle.std.proofs.Common.{◌≡◌, ◌∙◌, refl, sym, true}
-use Rattle.flush_core.proofs.flusher.Flusher.execute.Goals as goal
+use Rattle.flush_core.proofs.flusher.Flusher.settle.Goals as goal
 
 pub execute_stored-requires-clause-whole : goal.execute_stored-requires-clause-whole
 execute_stored-requires-clause-whole g c = sym c.is_broken.ensures.value ∙ c.if-is_broken.false
