@@ -1,5 +1,5 @@
 -- A call that is made on the disk is the event.
-use Rattle.std.proofs.Common.{◌≡◌, ◌≢◌, ◌⊎◌, ◌+◌, ◌≤◌, ℕ, Bool, true, false, nat_lt, if◌then◌else◌, List, [], ◌++◌, map, Option, Some, None, IfSome, Result, Ok, Err, IfOk, IsSomeAnd, length, arith, refl, sym, ◌∙◌, ap, subst}
+use Rattle.std.proofs.Common.{◌≡◌, ◌≢◌, ◌⊎◌, ◌+◌, ◌-◌, ◌≤◌, ℕ, Bool, true, false, nat_lt, if◌then◌else◌, List, [], ◌++◌, map, Option, Some, None, IfSome, Result, Ok, Err, IfOk, IsSomeAnd, length, arith, refl, sym, ◌∙◌, ap, subst}
 use Rattle.command_core.specs.Commands.{CommandValue}
 use Rattle.broker_core.specs.Operations.{restarted}
 use Rattle.broker_core.specs.States.{State}
@@ -23,14 +23,14 @@ use Rattle.world_core.specs.declared.place.Place.{Place}
 use Rattle.world_core.specs.declared.place.Place.TheVariants.{Rest, Broken, BlockWritten, BlockSynced, GateWritten, Copying, CopySynced, SwitchWritten, OpenSynced, OpenRead, SnapshotWriting, SnapshotSynced, SelectorWritten, Opened}
 use Rattle.world_core.specs.declared.seat.Seat.{Seat}
 use Rattle.world_core.specs.Answers.{IsTold}
-use Rattle.world_core.specs.Calls.{CanCopy, CanRestart, MayLead, Patch, append_syncs, append_writes, called, copy_of, copy_syncs, copy_writes, done_at, leads, open_reads, open_syncs, open_writes, patch, phase_after, piece_end, place_after, rest_of, stored_after, switch_syncs, switch_writes, synced, with_disk, wrote}
+use Rattle.world_core.specs.Calls.{CanCopy, CanRestart, MayLead, Patch, append_syncs, append_writes, as_many, batch, called, copy_of, copy_syncs, copy_writes, done_at, fitting, leads, open_reads, open_syncs, open_writes, patch, phase_after, piece_end, place_after, rest_of, stored_after, switch_syncs, switch_writes, synced, with_disk, wrote}
 use Rattle.world_core.specs.Events.{reopened, with_image}
 use Rattle.world_core.specs.Keeping.{Copied, IsAt, IsKept, Preparing, log_of}
 use Rattle.world_core.specs.Readings.{IsRead, Reading}
-use Rattle.world_core.specs.Touches.{IsDue, IsNoPatch, IsPatch, IsTouched, LeadsNowhere, LeadsTo, begun, writes_snapshot}
+use Rattle.world_core.specs.Touches.{IsDue, IsNoPatch, IsPatch, IsTouched, LeadsNowhere, LeadsTo, begun, is_measured}
 use Rattle.world_core.specs.Worlds.{WorldValue}
 use Rattle.world_core.proofs.Patching.{here, patch_fits}
-use Rattle.world_core.proofs.Readings.{same_state}
+use Rattle.world_core.proofs.Readings.{same_gate, same_state}
 use Rattle.world_core.proofs.Recovered.{no_restart, read_stands}
 
 -- reads and syncs ask for nothing more
@@ -141,21 +141,21 @@ read_freely w Open to r is = free_read w.place to is w r
 
 -- what is written is due
 
-due_append : (w : WorldValue) (p to : Place) → append_writes w.taken p ≡ Some to → IsDue w to
-due_append w Rest to is = subst (λ (q : Place). IsDue w q) (let e : BlockWritten w.taken ≡ to = cc in e) refl
-due_append w Broken to is = absurd (cc)
-due_append w (BlockWritten n) to is = absurd (cc)
-due_append w (BlockSynced n) to is = subst (λ (q : Place). IsDue w q) (let e : GateWritten n ≡ to = cc in e) tt
-due_append w (GateWritten n) to is = absurd (cc)
-due_append w (Copying n m) to is = absurd (cc)
-due_append w CopySynced to is = subst (λ (q : Place). IsDue w q) (let e : BlockWritten w.taken ≡ to = cc in e) refl
-due_append w SwitchWritten to is = absurd (cc)
-due_append w OpenSynced to is = absurd (cc)
-due_append w OpenRead to is = absurd (cc)
-due_append w (SnapshotWriting n m) to is = absurd (cc)
-due_append w SnapshotSynced to is = absurd (cc)
-due_append w SelectorWritten to is = absurd (cc)
-due_append w Opened to is = absurd (cc)
+due_append : (w : WorldValue) (under : ℕ) → ((r : Reading) → IsRead w.disk.size w.disk.content r → under ≡ fitting w r) → (p to : Place) → append_writes under p ≡ Some to → IsDue w to
+due_append w under fits Rest to is = subst (λ (q : Place). IsDue w q) (let e : BlockWritten under ≡ to = cc in e) fits
+due_append w under fits Broken to is = absurd (cc)
+due_append w under fits (BlockWritten n) to is = absurd (cc)
+due_append w under fits (BlockSynced n) to is = subst (λ (q : Place). IsDue w q) (let e : GateWritten n ≡ to = cc in e) tt
+due_append w under fits (GateWritten n) to is = absurd (cc)
+due_append w under fits (Copying n m) to is = absurd (cc)
+due_append w under fits CopySynced to is = subst (λ (q : Place). IsDue w q) (let e : BlockWritten under ≡ to = cc in e) fits
+due_append w under fits SwitchWritten to is = absurd (cc)
+due_append w under fits OpenSynced to is = absurd (cc)
+due_append w under fits OpenRead to is = absurd (cc)
+due_append w under fits (SnapshotWriting n m) to is = absurd (cc)
+due_append w under fits SnapshotSynced to is = absurd (cc)
+due_append w under fits SelectorWritten to is = absurd (cc)
+due_append w under fits Opened to is = absurd (cc)
 
 due_switch : (w : WorldValue) (p to : Place) → switch_writes p ≡ Some to → IsDue w to
 due_switch w Rest to is = absurd (cc)
@@ -187,6 +187,9 @@ module _ (w : WorldValue) (k : IsKept w) where
 
   same_rest : (r : Reading) → IsRead w.disk.size w.disk.content r → length (rest_of one) ≡ length (rest_of r)
   same_rest r x = ap (λ (s : State). length (closed_snapshot Two (snapshot_of (restarted s)))) (same_state w.disk.size w.disk.size w.disk.content one r readable.is_read x)
+
+  same_fitting : (r : Reading) → IsRead w.disk.size w.disk.content r → fitting w one ≡ fitting w r
+  same_fitting r x = ap (λ (gate : ℕ). w.stored + as_many (w.disk.size - (gate + 10)) (batch w w.taken)) (same_gate w.disk.size w.disk.size w.disk.content one r readable.is_read x)
 
   first_copy_due : done_at w.place ≡ 0 → (to : Place) → Copying (piece_end 0 (length (copy_of one))) (length (copy_of one)) ≡ to → IsDue w to
   first_copy_due none to is = subst (λ (q : Place). IsDue w q) is (λ r x. (omega (arith, none), omega (arith, same_copy r x)))
@@ -245,7 +248,7 @@ module _ (w : WorldValue) (k : IsKept w) where
   due_open Opened to e at is = absurd (cc)
 
   pub write_due : (list : CallList) (to : Place) → LeadsTo w list Write to → IsDue w to
-  write_due Append to is = due_append w w.place to (is one readable.is_read)
+  write_due Append to is = due_append w (fitting w one) same_fitting w.place to (is one readable.is_read)
   write_due Snapshot to is = due_copy w.place to refl k.at (is one readable.is_read)
   write_due Switch to is = due_switch w w.place to (is one readable.is_read)
   write_due Open to is = due_open w.place to refl k.at (is one readable.is_read)
@@ -362,22 +365,25 @@ place_leads_to (Some to) w list kind is = λ r x. sym (is r)
 pub place_leads_nowhere : (found : Option Place) (w : WorldValue) (list : CallList) (kind : CallKind) → ((r : Reading) → found ≡ leads w r list kind) → found ≡ None → LeadsNowhere w list kind
 place_leads_nowhere found w list kind is none r x may = subst (λ (o : Option Place). IsSomeAnd o (MayLead w r)) (sym (is r) ∙ none) may
 
-pub is_write_of_copy : (list : CallList) (kind : CallKind) → list ≡ Snapshot → writes_snapshot list kind ≡ true → kind ≡ Write
-is_write_of_copy list Read is writes = absurd (let e : writes_snapshot Snapshot Read ≡ true = subst (λ (l : CallList). writes_snapshot l Read ≡ true) is writes in cc)
+pub is_write_of_copy : (list : CallList) (kind : CallKind) → list ≡ Snapshot → is_measured list kind ≡ true → kind ≡ Write
+is_write_of_copy list Read is writes = absurd (let e : is_measured Snapshot Read ≡ true = subst (λ (l : CallList). is_measured l Read ≡ true) is writes in cc)
 is_write_of_copy list Write is writes = refl
-is_write_of_copy list Sync is writes = absurd (let e : writes_snapshot Snapshot Sync ≡ true = subst (λ (l : CallList). writes_snapshot l Sync ≡ true) is writes in cc)
+is_write_of_copy list Sync is writes = absurd (let e : is_measured Snapshot Sync ≡ true = subst (λ (l : CallList). is_measured l Sync ≡ true) is writes in cc)
 
-pub is_write_of_open : (list : CallList) (kind : CallKind) → list ≢ Snapshot → writes_snapshot list kind ≡ true → (list ≡ Open) × (kind ≡ Write)
-is_write_of_open Append Read other writes = absurd (cc)
-is_write_of_open Append Write other writes = absurd (cc)
-is_write_of_open Append Sync other writes = absurd (cc)
-is_write_of_open Snapshot kind other writes = absurd (other refl)
-is_write_of_open Switch Read other writes = absurd (cc)
-is_write_of_open Switch Write other writes = absurd (cc)
-is_write_of_open Switch Sync other writes = absurd (cc)
-is_write_of_open Open Read other writes = absurd (cc)
-is_write_of_open Open Write other writes = (refl, refl)
-is_write_of_open Open Sync other writes = absurd (cc)
+pub is_write_of_block : (list : CallList) (kind : CallKind) → list ≡ Append → is_measured list kind ≡ true → kind ≡ Write
+is_write_of_block list Read is writes = absurd (let e : is_measured Append Read ≡ true = subst (λ (l : CallList). is_measured l Read ≡ true) is writes in cc)
+is_write_of_block list Write is writes = refl
+is_write_of_block list Sync is writes = absurd (let e : is_measured Append Sync ≡ true = subst (λ (l : CallList). is_measured l Sync ≡ true) is writes in cc)
+
+pub is_write_of_open : (list : CallList) (kind : CallKind) → list ≢ Append → list ≢ Snapshot → is_measured list kind ≡ true → (list ≡ Open) × (kind ≡ Write)
+is_write_of_open Append kind block other writes = absurd (block refl)
+is_write_of_open Snapshot kind block other writes = absurd (other refl)
+is_write_of_open Switch Read block other writes = absurd (cc)
+is_write_of_open Switch Write block other writes = absurd (cc)
+is_write_of_open Switch Sync block other writes = absurd (cc)
+is_write_of_open Open Read block other writes = absurd (cc)
+is_write_of_open Open Write block other writes = (refl, refl)
+is_write_of_open Open Sync block other writes = absurd (cc)
 
 pub leads_as : {E : Type 0} (res : Result (Option Place) E) (w : WorldValue) (l list : CallList) (k kind : CallKind) → list ≡ l → kind ≡ k → IfOk res (λ found. IfSome found (LeadsTo w l k)) → IfOk res (λ found. IfSome found (LeadsTo w list kind))
 leads_as res w l list k kind is_list is_kind found =
@@ -389,6 +395,16 @@ leads_nowhere_as res w l list k kind is_list is_kind found =
 
 pub due_where : (w : WorldValue) → IsKept w → (list : CallList) (kind : CallKind) (to : Place) → kind ≡ Write → LeadsTo w list kind to → IsDue w to
 due_where w k list kind to is leads = write_due w k list to (subst (λ (x : CallKind). LeadsTo w list x to) is leads)
+
+-- what the commands that fit lead to
+
+pub block_leads_to : (w : WorldValue) (under : ℕ) → ((r : Reading) → IsRead w.disk.size w.disk.content r → under ≡ fitting w r) → (found : Option Place) → found ≡ append_writes under w.place → IfSome found (LeadsTo w Append Write)
+block_leads_to w under is None leads = tt
+block_leads_to w under is (Some to) leads = λ r x. ap (λ (n : ℕ). append_writes n w.place) (sym (is r x)) ∙ sym leads
+
+pub block_leads_nowhere : (w : WorldValue) (under : ℕ) → ((r : Reading) → IsRead w.disk.size w.disk.content r → under ≡ fitting w r) → (found : Option Place) → found ≡ append_writes under w.place → found ≡ None → LeadsNowhere w Append Write
+block_leads_nowhere w under is found leads none r x may =
+    subst (λ (o : Option Place). IsSomeAnd o (MayLead w r)) (ap (λ (n : ℕ). append_writes n w.place) (sym (is r x)) ∙ sym leads ∙ none) may
 
 -- what the length of a snapshot leads to
 

@@ -29,12 +29,13 @@ use Rattle.world_core.specs.declared.place.Phase.TheVariants.{Running, Reopening
 use Rattle.world_core.specs.declared.place.Place.{Place}
 use Rattle.world_core.specs.declared.place.Place.TheVariants.{Rest, Broken, BlockWritten, BlockSynced, GateWritten, Copying, CopySynced, SwitchWritten, OpenSynced, OpenRead, SnapshotWriting, SnapshotSynced, SelectorWritten, Opened}
 use Rattle.world_core.specs.declared.seat.Seat.{Seat}
-use Rattle.world_core.specs.Calls.{CanCopy, CanRestart, MayLead, MayStore, Patch, append_syncs, append_writes, batch, called, copy_of, copy_syncs, copy_writes, done_at, gate_of, idle_of, leads, open_reads, open_syncs, open_writes, patch_to, phase_after, piece, piece_end, place_after, rest_of, switch_syncs, switch_writes, synced, wrote}
+use Rattle.world_core.specs.Calls.{CanCopy, CanRestart, MayLead, MayStore, Patch, append_syncs, append_writes, batch, called, fitting, copy_of, copy_syncs, copy_writes, done_at, gate_of, idle_of, leads, open_reads, open_syncs, open_writes, patch_to, phase_after, piece, piece_end, place_after, rest_of, switch_syncs, switch_writes, synced, wrote}
 use Rattle.world_core.specs.Events.{Possible, after, with_image}
 use Rattle.world_core.specs.Keeping.{Copied, Copies, Exact, HasCopy, HasPrefix, IsAt, IsKept, IsStill, Log, Prepared, Preparing, Restarted, Staged, log_of, upto}
 use Rattle.world_core.specs.Readings.{IsRead, Reading}
 use Rattle.world_core.specs.Worlds.{DiskValue, WorldValue, between}
 use Rattle.world_core.proofs.Logs.{batch_form, count_under, none_taken, prefix_moves, state_more}
+use Rattle.world_core.proofs.Fitting.{fitting_taken}
 use Rattle.world_core.proofs.Copying.{all_there, piece_size, piece_there, torn_back, torn_on, torn_within}
 use Rattle.world_core.proofs.Readings.{at_selector, block_fits, block_reads, block_torn, gate_open, gate_torn, idle_fits, idle_torn, same_gate, same_state, same_version, selector_torn, selector_written, with_block}
 
@@ -150,14 +151,14 @@ module _ (w : WorldValue) (k : IsKept w) (r : Reading) (x : IsRead w.disk.size w
 
   -- Append
 
-  block_keeps : (ok : Bool) → IsStill d → Exact (log_of w) d w.stored → MayStore w r w.taken
-      → IsKept (record w { place = place_after ok (BlockWritten w.taken); disk = wrote d (patch_to w r (BlockWritten w.taken)) })
-  block_keeps ok still exact may =
-      let cs = batch w w.taken in
-      let p = patch_to w r (BlockWritten w.taken) in
+  block_keeps : (ok : Bool) (under : ℕ) → under ≤ w.taken → IsStill d → Exact (log_of w) d w.stored → MayStore w r under
+      → IsKept (record w { place = place_after ok (BlockWritten under); disk = wrote d (patch_to w r (BlockWritten under)) })
+  block_keeps ok under most still exact may =
+      let cs = batch w under in
+      let p = patch_to w r (BlockWritten under) in
       let state : r.state ≡ upto (log_of w) w.stored = same_state d.size d.size d.content r exact.reading x exact.is_read ∙ exact.state in
       let fits = block_fits d.size d.content r now (records cs) may.fits in
-      write_keeps w.phase (place_after ok (BlockWritten w.taken)) p (λ s. s) still fits
+      write_keeps w.phase (place_after ok (BlockWritten under)) p (λ s. s) still fits
       (λ c t. record {
         number = w.stored;
         stored = omega arith;
@@ -167,16 +168,16 @@ module _ (w : WorldValue) (k : IsKept w) (r : Reading) (x : IsRead w.disk.size w
         same = ap restarted state;
         running = λ s. state;
       })
-      (at_ok ok (log_of w) (wrote d p) (BlockWritten w.taken) (record {
+      (at_ok ok (log_of w) (wrote d p) (BlockWritten under) (record {
         running = exact.running;
         more = may.some;
-        taken = omega arith;
+        taken = most;
         before = d.content;
         reading = r;
         was_read = now;
         two = same_version d.size d.size d.content r exact.reading x exact.is_read ∙ exact.two;
         state = state;
-        form = batch_form w.base w.history w.stored w.taken (omega (arith, k.begun, k.marked)) may.some k.taken k.forms;
+        form = batch_form w.base w.history w.stored under (omega (arith, k.begun, k.marked)) may.some (omega (arith, most, k.taken)) k.forms;
         room = may.fits;
         content = refl;
       }))
@@ -255,14 +256,14 @@ module _ (w : WorldValue) (k : IsKept w) (r : Reading) (x : IsRead w.disk.size w
   has_exact : HasCopy (log_of w) d → Exact (log_of w) d w.stored
   has_exact c = record { running = c.running; reading = c.reading; is_read = c.is_read; two = c.two; state = c.state }
 
-  append_write : (ok : Bool) (p : Place) → IsAt (log_of w) d p → IsSomeAnd (append_writes w.taken p) (MayLead w r) → IsKept (called w r (record { list = Append; kind = Write; ok = ok }) p (append_writes w.taken p))
-  append_write ok Rest is may = block_keeps ok is.0 is.1 may
+  append_write : (ok : Bool) (p : Place) → IsAt (log_of w) d p → IsSomeAnd (append_writes (fitting w r) p) (MayLead w r) → IsKept (called w r (record { list = Append; kind = Write; ok = ok }) p (append_writes (fitting w r) p))
+  append_write ok Rest is may = block_keeps ok (fitting w r) (fitting_taken w k r) is.0 is.1 may
   append_write ok Broken is may = k
   append_write ok (BlockWritten to) is may = k
   append_write ok (BlockSynced to) is may = gate_keeps to is.1 ok is.0
   append_write ok (GateWritten to) is may = k
   append_write ok (Copying done all) is may = k
-  append_write ok CopySynced is may = block_keeps ok is.0 (has_exact is.1) may
+  append_write ok CopySynced is may = block_keeps ok (fitting w r) (fitting_taken w k r) is.0 (has_exact is.1) may
   append_write ok SwitchWritten is may = k
   append_write ok OpenSynced is may = k
   append_write ok OpenRead is may = k

@@ -1,7 +1,10 @@
 pub mod Answered
 pub mod Calling
+pub mod Copying
 pub mod DeviceCalls
+pub mod Fitting
 pub mod Logs
+pub mod OldJournals
 pub mod Patching
 pub mod Readings
 pub mod Recovered
@@ -9,5 +12,3 @@ pub mod Schedules
 pub mod SessionEvents
 pub mod Shown
 pub mod Telling
-pub mod Copying
-pub mod OldJournals

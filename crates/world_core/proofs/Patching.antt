@@ -20,6 +20,7 @@ use Rattle.world_core.specs.Touches.{IsBlockPatch, IsDue, IsNoPatch, IsPatch}
 use Rattle.world_core.specs.Worlds.{WorldValue, between}
 use Rattle.world_core.proofs.Copying.{piece_size}
 use Rattle.world_core.proofs.DeviceCalls.{is_content}
+use Rattle.world_core.proofs.Fitting.{fitting_taken}
 use Rattle.world_core.proofs.Readings.{gate_within}
 
 -- what is read of the disk
@@ -117,8 +118,10 @@ patch_fits w k Opened r x due may = omega arith
 
 -- the place that is due
 
-pub due_is : (w : WorldValue) (to : Place) (n : ℕ) → to ≡ BlockWritten n → IsDue w to → to ≡ BlockWritten w.taken
-due_is w to n is due = is ∙ ap (λ (m : ℕ). BlockWritten m) (subst (λ (p : Place). IsDue w p) is due)
+pub due_taken : (w : WorldValue) → IsKept w → (to : Place) (n : ℕ) → to ≡ BlockWritten n → IsDue w to → n ≤ w.taken
+due_taken w k to n is due =
+    let x = here w k in
+    omega (arith, (subst (λ (p : Place). IsDue w p) is due) x.reading x.is_read, fitting_taken w k x.reading)
 
 pub some_moves : {E : Type 0} (w : WorldValue) (p q : Place) (r : Result (Option Patch) E) → p ≡ q → IfOk r (λ found. IfSome found (λ x. IsPatch w q x.at x.bytes.items)) → IfOk r (λ found. IfSome found (λ x. IsPatch w p x.at x.bytes.items))
 some_moves w p q r is some = subst (λ (z : Place). IfOk r (λ found. IfSome found (λ x. IsPatch w z x.at x.bytes.items))) (sym is) some

@@ -1,6 +1,7 @@
 -- Device calls: which may come next, what they write, and where they lead.
-use Rattle.std.specs.Prelude.{◌<◌, ◌≤◌, ℕ, ◌+◌, ◌-◌, ◌%◌, Bool, true, false, nat_lt, min, if◌then◌else◌, List, [], ◌∷◌, length, take, drop, slice_index, Option, Some, None}
+use Rattle.std.specs.Prelude.{◌<◌, ◌≤◌, ℕ, suc, nat_le, ◌+◌, ◌-◌, ◌%◌, Bool, true, false, nat_lt, min, if◌then◌else◌, List, [], ◌∷◌, length, take, drop, slice_index, Option, Some, None}
 use Rattle.command_core.specs.Commands.{CommandValue}
+use Rattle.command_core.specs.Spellings.{record_of}
 use Rattle.disk_core.specs.Images.{patched}
 use Rattle.disk_core.specs.Memory.{held_over, none_held}
 use Rattle.area_core.specs.declared.version.Version.TheVariants.{Two}
@@ -28,12 +29,12 @@ use Rattle.world_core.specs.Worlds.{DiskValue, WorldValue, between}
 abbrev pub piece_end : ℕ → ℕ → ℕ
 piece_end done whole = min (done + 65536) whole
 
--- a block is written behind the closed gate and synced, and then its gate; the block has all that is taken when it is written
+-- a block is written behind the closed gate and synced, and then its gate; the block has the commands under that number
 abbrev pub append_writes : ℕ → Place → Option Place
-append_writes taken Rest = Some (BlockWritten taken)
-append_writes taken CopySynced = Some (BlockWritten taken)
-append_writes taken (BlockSynced to) = Some (GateWritten to)
-append_writes taken at = None
+append_writes under Rest = Some (BlockWritten under)
+append_writes under CopySynced = Some (BlockWritten under)
+append_writes under (BlockSynced to) = Some (GateWritten to)
+append_writes under at = None
 
 abbrev pub append_syncs : Place → Option Place
 append_syncs (BlockWritten to) = Some (BlockSynced to)
@@ -93,10 +94,24 @@ copy_of r = closed_snapshot Two (snapshot_of r.state)
 abbrev pub rest_of : Reading → List ℕ
 rest_of r = closed_snapshot Two (snapshot_of (restarted r.state))
 
+-- the commands that are taken and not stored, under a number
+abbrev pub batch : WorldValue → ℕ → List CommandValue
+batch w to = between w.base w.history w.stored to
+
+-- how many of these commands, from the first on, have records of no more than so many bytes together
+abbrev pub as_many : ℕ → List CommandValue → ℕ
+as_many room [] = 0
+as_many room (c ∷ cs) = if nat_le (length (record_of c)) room then suc (as_many (room - length (record_of c)) cs) else 0
+
+-- The number under which commands go into the next block: of what is taken and not stored the longest part that fits, with the gate after
+-- it.
+abbrev pub fitting : WorldValue → Reading → ℕ
+fitting w r = w.stored + as_many (w.disk.size - (r.gate + 10)) (batch w w.taken)
+
 -- the same, if this is read of the disk
 abbrev pub leads : WorldValue → Reading → CallList → CallKind → Option Place
 leads w r Append Read = None
-leads w r Append Write = append_writes w.taken w.place
+leads w r Append Write = append_writes (fitting w r) w.place
 leads w r Append Sync = append_syncs w.place
 leads w r Snapshot Read = None
 leads w r Snapshot Write = copy_writes (length (copy_of r)) w.place
@@ -107,10 +122,6 @@ leads w r Switch Sync = switch_syncs w.place
 leads w r Open Read = open_reads w.place
 leads w r Open Write = open_writes (length (rest_of r)) w.place
 leads w r Open Sync = open_syncs w.place
-
--- the commands that are taken and not stored, under a number
-abbrev pub batch : WorldValue → ℕ → List CommandValue
-batch w to = between w.base w.history w.stored to
 
 -- there is something to store under that number, and its block fits with the gate after it
 pub record MayStore (w : WorldValue) (r : Reading) (to : ℕ) : Type 0 where

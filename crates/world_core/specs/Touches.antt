@@ -6,10 +6,10 @@ use Rattle.broker_core.specs.States.{State}
 use Rattle.world_core.specs.declared.event.CallKind.{CallKind}
 use Rattle.world_core.specs.declared.event.CallKind.TheVariants.{Write}
 use Rattle.world_core.specs.declared.event.CallList.{CallList}
-use Rattle.world_core.specs.declared.event.CallList.TheVariants.{Snapshot, Open}
+use Rattle.world_core.specs.declared.event.CallList.TheVariants.{Append, Snapshot, Open}
 use Rattle.world_core.specs.declared.place.Place.{Place}
 use Rattle.world_core.specs.declared.place.Place.TheVariants.{BlockWritten, Copying, SnapshotWriting}
-use Rattle.world_core.specs.Calls.{MayLead, copy_of, disk_after, done_at, leads, patch, patch_to, rest_of, with_disk}
+use Rattle.world_core.specs.Calls.{MayLead, copy_of, disk_after, done_at, fitting, leads, patch, patch_to, rest_of, with_disk}
 use Rattle.world_core.specs.Events.{reopened}
 use Rattle.world_core.specs.Readings.{IsRead, Reading}
 use Rattle.world_core.specs.Worlds.{DiskValue, WorldValue}
@@ -18,9 +18,9 @@ use Rattle.world_core.specs.Worlds.{DiskValue, WorldValue}
 abbrev pub HasPiece : ℕ → ℕ → List ℕ → Type 0
 HasPiece from to bytes = (from ≤ to) × (to ≤ length bytes)
 
--- a block has all that is taken, and a piece is a part of what there is to write
+-- a block has the longest part of what is taken that fits, and a piece is a part of what there is to write
 abbrev pub IsDue : WorldValue → Place → Type 0
-IsDue w (BlockWritten to) = to ≡ w.taken
+IsDue w (BlockWritten to) = (r : Reading) → IsRead w.disk.size w.disk.content r → to ≡ fitting w r
 IsDue w (Copying done all) = (r : Reading) → IsRead w.disk.size w.disk.content r → HasPiece (done_at w.place) done (copy_of r)
 IsDue w (SnapshotWriting done all) = (r : Reading) → IsRead w.disk.size w.disk.content r → HasPiece (done_at w.place) done (rest_of r)
 IsDue w to = Unit {0}
@@ -33,15 +33,16 @@ LeadsTo w list kind to = (r : Reading) → IsRead w.disk.size w.disk.content r �
 abbrev pub LeadsNowhere : WorldValue → CallList → CallKind → Type 0
 LeadsNowhere w list kind = (r : Reading) → IsRead w.disk.size w.disk.content r → IsSomeAnd (leads w r list kind) (MayLead w r) → ⊥
 
--- the call may be the write of a snapshot, whose length is read
-abbrev pub writes_snapshot : CallList → CallKind → Bool
-writes_snapshot Snapshot Write = true
-writes_snapshot Open Write = true
-writes_snapshot list kind = false
+-- the call may be the write of a block or of a snapshot, and where it leads depends on what is read of the disk
+abbrev pub is_measured : CallList → CallKind → Bool
+is_measured Append Write = true
+is_measured Snapshot Write = true
+is_measured Open Write = true
+is_measured list kind = false
 
 -- but for these, the call leads there whatever is read
 abbrev pub IsLead : WorldValue → CallList → CallKind → Option Place → Type 0
-IsLead w list kind found = writes_snapshot list kind ≡ false → (r : Reading) → found ≡ leads w r list kind
+IsLead w list kind found = is_measured list kind ≡ false → (r : Reading) → found ≡ leads w r list kind
 
 -- the write that leads there may come, and writes these bytes at that offset, whatever is read of the disk
 abbrev pub IsPatch : WorldValue → Place → ℕ → List ℕ → Type 0

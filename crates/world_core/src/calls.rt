@@ -4,9 +4,9 @@ ghost use Rattle.std.specs.Prelude.{◌≡◌, IfOk, IfSome, None};
 ghost use Rattle.world_core.specs.Calls.{append_syncs, append_writes, copy_syncs, copy_writes, open_reads, open_syncs, open_writes, phase_after, piece_end, place_after, stored_after, switch_syncs, switch_writes};
 ghost use Rattle.world_core.specs.Keeping.{IsKept};
 ghost use Rattle.world_core.specs.Parts.{value_of};
-ghost use Rattle.world_core.specs.Touches.{IsLead, LeadsNowhere, LeadsTo, writes_snapshot};
+ghost use Rattle.world_core.specs.Touches.{IsLead, LeadsNowhere, LeadsTo, is_measured};
 ghost use Rattle.world_core.specs.declared.event.CallKind.TheVariants.{Write};
-ghost use Rattle.world_core.specs.declared.event.CallList.TheVariants.{Open, Snapshot};
+ghost use Rattle.world_core.specs.declared.event.CallList.TheVariants.{Append, Open, Snapshot};
 
 use crate::parts::Parts;
 use crate::{CallKind, CallList, Phase, Place};
@@ -22,11 +22,11 @@ fn piece_end(done: u64, whole: u64) -> u64
     done.saturating_add(PIECE_BYTES).min(whole)
 }
 
-fn append_writes(taken: u64, place: Place) -> Option<Place>
-    ensures { result ≡ append_writes taken place }
+fn append_writes(under: u64, place: Place) -> Option<Place>
+    ensures { result ≡ append_writes under place }
 {
     match place {
-        Place::Rest | Place::CopySynced => Some(Place::BlockWritten(taken)),
+        Place::Rest | Place::CopySynced => Some(Place::BlockWritten(under)),
         Place::BlockSynced(to) => Some(Place::GateWritten(to)),
         _ => None,
     }
@@ -115,23 +115,22 @@ fn open_writes(whole: u64, place: Place) -> Option<Place>
     }
 }
 
-// Whether it may be the write of a snapshot; where that leads depends on the snapshot's length.
-fn writes_snapshot(list: CallList, kind: CallKind) -> bool
-    ensures { result ≡ writes_snapshot list kind }
+// Whether it may be the write of a block or of a snapshot; where that leads depends on what is read of the disk.
+fn is_measured(list: CallList, kind: CallKind) -> bool
+    ensures { result ≡ is_measured list kind }
 {
     match (list, kind) {
-        (CallList::Snapshot | CallList::Open, CallKind::Write) => true,
+        (CallList::Append | CallList::Snapshot | CallList::Open, CallKind::Write) => true,
         _ => false,
     }
 }
 
 impl Parts {
-    // Where the next call leads if it succeeds, but for the writes of snapshots.
+    // Where the next call leads if it succeeds, but for the writes of blocks and snapshots.
     fn place_leads(&self, list: CallList, kind: CallKind) -> Option<Place>
         ensures { IsLead (value_of self.now) list kind result }
     {
         match (list, kind) {
-            (CallList::Append, CallKind::Write) => append_writes(self.taken, self.place),
             (CallList::Append, CallKind::Sync) => append_syncs(self.place),
             (CallList::Snapshot, CallKind::Sync) => copy_syncs(self.place),
             (CallList::Switch, CallKind::Write) => switch_writes(self.place),
@@ -140,6 +139,16 @@ impl Parts {
             (CallList::Open, CallKind::Sync) => open_syncs(self.place),
             _ => None,
         }
+    }
+
+    // Where the next write of a block or of a gate leads, or `None` if it may not come.
+    fn append_leads(&self, alloc: Global) -> Result<Option<Place>, AllocError>
+        requires { IsKept (value_of self.now) }
+        ensures some { IfOk result (λ found. IfSome found (LeadsTo (value_of self.now) Append Write)) }
+        ensures none { IfOk result (λ found. found ≡ None → LeadsNowhere (value_of self.now) Append Write) }
+    {
+        let under = self.fitting(alloc)?;
+        Ok(append_writes(under, self.place))
     }
 
     // Where the next write of a snapshot of the state as it is leads, or `None` if it may not come.
@@ -188,10 +197,11 @@ impl Parts {
         ensures some { IfOk result (λ found. IfSome found (LeadsTo (value_of self.now) list kind)) }
         ensures none { IfOk result (λ found. found ≡ None → LeadsNowhere (value_of self.now) list kind) }
     {
-        if !writes_snapshot(list, kind) {
+        if !is_measured(list, kind) {
             return Ok(self.place_leads(list, kind));
         }
         match list {
+            CallList::Append => self.append_leads(alloc),
             CallList::Snapshot => self.copy_leads(alloc),
             _ => self.open_leads(alloc),
         }

@@ -3,7 +3,7 @@
 ghost use Rattle.std.specs.Prelude.{◌≡◌, ◌+◌, ◌<◌, ◌≤◌, IfOk, IfSome, None, length, slice_index};
 ghost use Rattle.area_core.specs.Areas.{closed, commands, records};
 ghost use Rattle.area_core.specs.Journals.{is_odd, start};
-ghost use Rattle.world_core.specs.Calls.{batch};
+ghost use Rattle.world_core.specs.Calls.{as_many, batch, fitting};
 ghost use Rattle.world_core.specs.Keeping.{IsKept};
 ghost use Rattle.world_core.specs.Parts.{disk_of, value_of};
 ghost use Rattle.world_core.specs.Readings.{IsRead, Reading};
@@ -32,6 +32,23 @@ fn records_of(alloc: Global, entries: &[Entry<()>]) -> Result<Vec<u8>, AllocErro
         out.extend_from_slice(entry.bytes())?;
     }
     Ok(out)
+}
+
+// How many of these entries, from the first on, have records of no more than so many bytes together.
+fn as_many(room: u64, entries: &[Entry<()>]) -> u64
+    ensures { result ≡ as_many room (commands entries.now) }
+{
+    let mut left = room;
+    let mut count = 0u64;
+    for entry in entries {
+        let size = entry.bytes().len() as u64;
+        if size > left {
+            return count;
+        }
+        left -= size;
+        count += 1;
+    }
+    count
 }
 
 // Where the first or the second of two areas of `size` bytes begins.
@@ -74,13 +91,28 @@ impl Parts {
         Ok(gate)
     }
 
-    // The records of what is taken and not stored.
-    fn batch_records(&self, alloc: Global) -> Result<Vec<u8>, AllocError>
-        requires kept { IsKept (value_of self.now) }
-        ensures { IfOk result (λ bytes. bytes.items ≡ records (batch (value_of self.now) self.now.taken)) }
+    // The number under which commands go into the next block.
+    pub(crate) fn fitting(&self, alloc: Global) -> Result<u64, AllocError>
+        requires { IsKept (value_of self.now) }
+        ensures { IfOk result (λ under. (r : Reading) → IsRead self.now.size self.now.content.items r → under ≡ fitting (value_of self.now) r) }
     {
+        let gate = self.gate(alloc)?;
+        let room = self.size.saturating_sub(gate + 10);
         let from = (self.stored - self.base) as usize;
         let to = (self.taken - self.base) as usize;
+        let count = as_many(room, &self.history[from..to]);
+        Ok(self.stored + count)
+    }
+
+    // The records of what is taken and not stored, under a number.
+    fn batch_records(&self, alloc: Global, under: u64) -> Result<Vec<u8>, AllocError>
+        requires kept { IsKept (value_of self.now) }
+        requires some { self.now.stored ≤ under }
+        requires taken { under ≤ self.now.taken }
+        ensures { IfOk result (λ bytes. bytes.items ≡ records (batch (value_of self.now) under)) }
+    {
+        let from = (self.stored - self.base) as usize;
+        let to = (under - self.base) as usize;
         let records = records_of(alloc, &self.history[from..to])?;
         Ok(records)
     }
@@ -105,16 +137,18 @@ impl Parts {
         Ok(Some(patch))
     }
 
-    fn block_patch(&self, alloc: Global) -> Result<Option<Patch>, AllocError>
-        requires { IsKept (value_of self.now) }
-        ensures some { IfOk result (λ found. IfSome found (λ p. IsPatch (value_of self.now) (Place.BlockWritten self.now.taken) p.at p.bytes.items)) }
-        ensures none { IfOk result (λ found. found ≡ None → IsNoPatch (value_of self.now) (Place.BlockWritten self.now.taken)) }
+    // The block of what is taken and not stored, under a number.
+    fn block_patch(&self, alloc: Global, under: u64) -> Result<Option<Patch>, AllocError>
+        requires kept { IsKept (value_of self.now) }
+        requires taken { under ≤ self.now.taken }
+        ensures some { IfOk result (λ found. IfSome found (λ p. IsPatch (value_of self.now) (Place.BlockWritten under) p.at p.bytes.items)) }
+        ensures none { IfOk result (λ found. found ≡ None → IsNoPatch (value_of self.now) (Place.BlockWritten under)) }
     {
-        if self.stored >= self.taken {
+        if self.stored >= under {
             return Ok(None);
         }
         let gate = self.gate(alloc)?;
-        let records = self.batch_records(alloc)?;
+        let records = self.batch_records(alloc, under)?;
         let patch = self.block_within(alloc, gate, &records);
         drop(records);
         patch
@@ -152,7 +186,7 @@ impl Parts {
         ensures none { IfOk result (λ found. found ≡ None → IsNoPatch (value_of self.now) to) }
     {
         match to {
-            Place::BlockWritten(_) => self.block_patch(alloc),
+            Place::BlockWritten(under) => self.block_patch(alloc, under),
             Place::GateWritten(to) => Ok(Some(self.gate_patch(alloc, to)?)),
             Place::Copying(done, all) => self.copy_patch(alloc, done, all),
             Place::SnapshotWriting(done, all) => self.rest_patch(alloc, done, all),

@@ -335,3 +335,40 @@ fn an_opening_may_begin_between_two_pieces(rt: HostRuntime) -> Result<(), Fail> 
     done?;
     Ok(())
 }
+
+const READY: [(Pick, bool); 1] = [(Pick::Ready(0), true)];
+
+// Two of three long Sends fit beside what is there; the third doesn't, neither with them nor alone.
+const CUT: [(Pick, bool); 9] = [
+    (Pick::Take, true),
+    (Pick::Take, true),
+    (Pick::Take, true),
+    (Pick::Take, true),
+    (WRITE, true),
+    (SYNC, true),
+    (WRITE, true),
+    (SYNC, true),
+    (WRITE, false),
+];
+
+fn store_what_fits(rt: &impl Abort, alloc: Global, world: &mut World) -> Result<(), AllocError> {
+    assert!(rt; claim(world, 0)?);
+    run(rt, alloc, world, &READY)?;
+    for _ in 0..3 {
+        assert!(rt; claim_long(alloc, world)?);
+        run(rt, alloc, world, &READY)?;
+    }
+    run(rt, alloc, world, &CUT)?;
+    assert_eq!(rt; (world.taken(), world.stored()), (4, 3));
+    Ok(())
+}
+
+#[test]
+fn a_block_has_the_longest_part_that_fits(rt: HostRuntime) -> Result<(), Fail> {
+    let alloc = rt.alloc();
+    let mut world = World::new(alloc, 131_072)?;
+    let done = store_what_fits(&rt, alloc, &mut world);
+    drop(world);
+    done?;
+    Ok(())
+}

@@ -297,17 +297,18 @@ impl SlowWorld {
     }
 
     fn write_block(&mut self, alloc: Global) -> Result<bool, AllocError> {
-        let count = self.taken.saturating_sub(self.stored);
-        let size = count.saturating_mul(11);
         let (gate, _) = self.read();
         let used = gate.saturating_sub(self.live()) as u64;
-        if count == 0 || used.saturating_add(size).saturating_add(10) > AREA as u64 {
+        let room = (AREA as u64).saturating_sub(used).saturating_sub(10);
+        // As many as fit, each of which has 11 bytes.
+        let count = self.taken.saturating_sub(self.stored).min(room / 11);
+        if count == 0 {
             return Ok(false);
         }
         let block = block_of(alloc, count)?;
         self.write(gate.saturating_add(1), &block);
         drop(block);
-        self.place = Place::BlockWritten(self.taken);
+        self.place = Place::BlockWritten(self.stored.saturating_add(count));
         Ok(true)
     }
 

@@ -1,17 +1,20 @@
 use Rattle.world_core.specs.declared.place.Place.TheVariants.{BlockWritten, GateWritten, Copying, SwitchWritten, SnapshotWriting, SelectorWritten}
 use Rattle.world_core.specs.Parts.{value_of}
-use Rattle.world_core.proofs.Patching.{due_is, none_moves, patch_moves, some_moves}
+use Rattle.world_core.proofs.Patching.{due_taken, none_moves, patch_moves, some_moves}
 use Rattle.world_core.proofs.parts.Parts.patch.Goals as goal
 
 pub returns-in-BlockWritten-clause-some : goal.returns-in-BlockWritten-clause-some
 returns-in-BlockWritten-clause-some c =
     let w = value_of c.args.self.now in
-    some_moves w c.args.to (BlockWritten w.taken) c.block_patch.result (due_is w c.args.to c.in-BlockWritten.field-0 c.in-BlockWritten.is c.requires.due) c.block_patch.ensures.some
+    some_moves w c.args.to (BlockWritten c.in-BlockWritten.under) c.block_patch.result c.in-BlockWritten.is c.block_patch.ensures.some
 
 pub returns-in-BlockWritten-clause-none : goal.returns-in-BlockWritten-clause-none
 returns-in-BlockWritten-clause-none c =
     let w = value_of c.args.self.now in
-    none_moves w c.args.to (BlockWritten w.taken) c.block_patch.result (due_is w c.args.to c.in-BlockWritten.field-0 c.in-BlockWritten.is c.requires.due) c.block_patch.ensures.none
+    none_moves w c.args.to (BlockWritten c.in-BlockWritten.under) c.block_patch.result c.in-BlockWritten.is c.block_patch.ensures.none
+
+pub block_patch-requires-clause-taken : goal.block_patch-requires-clause-taken
+block_patch-requires-clause-taken c = due_taken (value_of c.args.self.now) c.requires.kept c.args.to c.in-BlockWritten.under c.in-BlockWritten.is c.requires.due
 
 pub returns-in_ok-gate_patch-in-GateWritten-clause-some : goal.returns-in_ok-gate_patch-in-GateWritten-clause-some
 returns-in_ok-gate_patch-in-GateWritten-clause-some c =
