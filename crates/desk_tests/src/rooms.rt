@@ -9,7 +9,7 @@ use area_core::format;
 use claim_core::{BrokerRing, BrokerSeat};
 use desk_core::{Desk, Next};
 use disk_core::MemDisk;
-use hub_core::{Hub, Pacing, flush_loop};
+use hub_core::{Gate, Hub, flush_loop};
 use outbox_core::{OutSender, Silent};
 use std::alloc::Global;
 
@@ -27,8 +27,8 @@ pub type MemDesk = Desk<Silent, Client>;
 #[derive(Drop)]
 pub struct Free;
 
-impl Pacing for Free {
-    fn pass(&self) -> bool {
+impl Gate for Free {
+    fn pass(&self, _worker: u32, _turn: u64) -> bool {
         true
     }
 }

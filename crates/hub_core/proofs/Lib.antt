@@ -1,3 +1,4 @@
 pub mod Beginning
+pub mod Serving
 pub mod Shown
 pub mod Turning

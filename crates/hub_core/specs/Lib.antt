@@ -1,3 +1,4 @@
 pub mod Closings
 pub mod Flushes
 pub mod Hubs
+pub mod Serving

@@ -5,7 +5,7 @@ ghost use Rattle.flush_core.specs.Backlogs.{IsLight};
 ghost use Rattle.flush_core.specs.Faults.{IsFlushCaused};
 ghost use Rattle.hub_core.specs.Flushes.{Flushes};
 
-use crate::pacing::Pacing;
+use crate::gate::Gate;
 use crate::sizes::HubFlusher;
 use claim_core::BrokerRing;
 use disk_core::Disk;
@@ -13,15 +13,15 @@ use flush_core::FlushFault;
 use outbox_core::{Bell, OutSender};
 use std::alloc::Global;
 
-/// Makes so many turns of the flusher, counting those that its pace held up, and then answers the mark. Outputs of
+/// Makes so many turns of the flusher, counting those that its gate held up, and then answers the mark. Outputs of
 /// sessions that have no outbox are dropped. After each turn the journal is compacted if a start would have more to repeat
-/// than it may. A fault ends it at once, and the pace hears that the flusher has stopped. The
+/// than it may. A fault ends it at once, and the gate hears that the flusher has stopped. The
 /// fault is `Device` exactly if a call of the disk failed.
-pub fn flush_loop<D: Disk, B: Bell, P: Pacing>(
+pub fn flush_loop<D: Disk, B: Bell, G: Gate>(
     alloc: Global,
     ring: &BrokerRing<OutSender<B>>,
     flusher: &mut HubFlusher<D, B>,
-    pace: &P,
+    gate: &G,
     turns: u64,
 ) -> Result<u64, FlushFault>
     requires ring { flusher.old.seat.ring ≡ ring.now }
@@ -32,9 +32,9 @@ pub fn flush_loop<D: Disk, B: Bell, P: Pacing>(
     ensures cause { IsFlushCaused (D.failures flusher.old.disk) (D.failures flusher.new.disk) result }
     ensures stops { OnErr result ((flusher.new.broken ≡ true) × (flusher.new.seat.stopped ≡ true)) }
 {
-    for _turn in 0..turns {
-        if pace.pass() {
-            flush(alloc, ring, flusher, pace)?;
+    for turn in 0..turns {
+        if gate.pass(u32::MAX, turn) {
+            flush(alloc, ring, flusher, gate)?;
         }
     }
     Ok(flusher.mark())
@@ -61,11 +61,11 @@ pub fn compact_last<D: Disk, B: Bell>(
 }
 
 // One turn, and a compaction if one is due.
-fn flush<D: Disk, B: Bell, P: Pacing>(
+fn flush<D: Disk, B: Bell, G: Gate>(
     alloc: Global,
     ring: &BrokerRing<OutSender<B>>,
     flusher: &mut HubFlusher<D, B>,
-    pace: &P,
+    gate: &G,
 ) -> Result<(), FlushFault>
     requires ring { flusher.old.seat.ring ≡ ring.now }
     requires executed { flusher.old.broken ≡ false → flusher.old.executed ≡ flusher.old.stored }
@@ -78,23 +78,23 @@ fn flush<D: Disk, B: Bell, P: Pacing>(
     match flusher.turn(alloc, ring) {
         Ok(_) => {
             drop_left(flusher);
-            tell_mark(pace, before, flusher.mark());
-            tell_compaction(pace, flusher);
-            compact_if_due(alloc, ring, flusher, pace)
+            tell_mark(gate, before, flusher.mark());
+            tell_compaction(gate, flusher);
+            compact_if_due(alloc, ring, flusher, gate)
         }
         Err(fault) => {
-            pace.stopped();
+            gate.stopped();
             Err(fault)
         }
     }
 }
 
-// Compacts the journal if a start would have more to repeat than it may. The pace hears only if that fails.
-fn compact_if_due<D: Disk, B: Bell, P: Pacing>(
+// Compacts the journal if a start would have more to repeat than it may. The gate hears only if that fails.
+fn compact_if_due<D: Disk, B: Bell, G: Gate>(
     alloc: Global,
     ring: &BrokerRing<OutSender<B>>,
     flusher: &mut HubFlusher<D, B>,
-    pace: &P,
+    gate: &G,
 ) -> Result<(), FlushFault>
     requires ring { flusher.old.seat.ring ≡ ring.now }
     requires executed { flusher.old.broken ≡ false → flusher.old.executed ≡ flusher.old.stored }
@@ -109,7 +109,7 @@ fn compact_if_due<D: Disk, B: Bell, P: Pacing>(
             Ok(())
         }
         Err(fault) => {
-            pace.stopped();
+            gate.stopped();
             Err(fault)
         }
     }
@@ -129,18 +129,18 @@ fn drop_left<D: Disk, B: Bell>(flusher: &mut HubFlusher<D, B>)
     drop(flusher.take_left());
 }
 
-// Tells the pace if the mark has risen.
-fn tell_mark<P: Pacing>(pace: &P, before: u64, mark: u64) {
+// Tells the gate if the mark has risen.
+fn tell_mark<G: Gate>(gate: &G, before: u64, mark: u64) {
     if before < mark {
-        pace.published(mark);
+        gate.published(mark);
     }
 }
 
-// Tells the pace of the compaction that the turn made, if it made one.
-fn tell_compaction<D: Disk, B: Bell, P: Pacing>(pace: &P, flusher: &mut HubFlusher<D, B>)
+// Tells the gate of the compaction that the turn made, if it made one.
+fn tell_compaction<D: Disk, B: Bell, G: Gate>(gate: &G, flusher: &mut HubFlusher<D, B>)
     ensures { flusher.new ≡ record flusher.old { last = record flusher.old.last { won = None } } }
 {
     if let Some(won) = flusher.take_won() {
-        pace.compacted(won);
+        gate.compacted(won);
     }
 }

@@ -7,9 +7,7 @@ use crate::hubs::{HubRing, HubSeat, Party, SMALL_AREA, link_of, new_party};
 use crate::links::Endless;
 use crate::paces::Free;
 use crate::texts::{CONNECT, SEND_X};
-use crate::working::worker;
-use connection_core::Ended;
-use hub_core::flush_loop;
+use hub_core::{Ended, flush_loop, worker};
 use outbox_core::Silent;
 use std::alloc::Global;
 use std::test::Fail;
@@ -35,7 +33,7 @@ fn serve(
     seat: &mut HubSeat,
     texts: &[&[u8]],
     bytes: &'static [u8],
-) -> Option<(Option<Ended>, usize)>
+) -> Option<(Ended, usize)>
     requires { seat.old.ring ≡ ring.now }
 {
     match link_of(alloc, texts) {
@@ -56,7 +54,7 @@ fn serve_and_flush(
     party: &mut Party,
     texts: &[&[u8]],
     bytes: &'static [u8],
-) -> Option<(Option<Ended>, usize, u64)>
+) -> Option<(Ended, usize, u64)>
     requires together { AreTogether party.old.hub party.old.first party.old.second party.old.flusher }
     requires executed { party.old.flusher.executed ≡ party.old.flusher.stored }
 {
@@ -69,11 +67,7 @@ fn serve_and_flush(
 }
 
 // That of a new party.
-fn run(
-    alloc: Global,
-    texts: &[&[u8]],
-    bytes: &'static [u8],
-) -> Option<(Option<Ended>, usize, u64)> {
+fn run(alloc: Global, texts: &[&[u8]], bytes: &'static [u8]) -> Option<(Ended, usize, u64)> {
     match new_party(alloc, SMALL_AREA) {
         Some(mut party) => {
             let ran = serve_and_flush(alloc, &mut party, texts, bytes);
@@ -88,7 +82,7 @@ fn run(
 fn a_reader_that_never_ends_ends_by_its_turns(rt: HostRuntime) -> Result<(), Fail> {
     for (texts, bytes, appended) in READERS {
         let ran = run(rt.alloc(), texts, bytes);
-        assert_eq!(rt; ran, Some((None, 0, appended)));
+        assert_eq!(rt; ran, Some((Ended::Turns, 0, appended)));
     }
     Ok(())
 }

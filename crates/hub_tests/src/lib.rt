@@ -29,5 +29,3 @@ mod script_tests;
 mod texts;
 #[cfg(test)]
 mod two_sessions_tests;
-#[cfg(test)]
-mod working;

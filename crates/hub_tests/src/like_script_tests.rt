@@ -6,9 +6,7 @@ use crate::hubs::{
 };
 use crate::paces::Pause;
 use crate::texts::{SUBSCRIBER, THREE_MESSAGES};
-use crate::working::worker;
-use connection_core::Ended;
-use hub_core::flush_loop;
+use hub_core::{Ended, flush_loop, worker};
 use outbox_core::Silent;
 use std::alloc::Global;
 use std::sync::Wait;
@@ -24,7 +22,7 @@ fn work<R: Clock>(
     ring: &HubRing,
     seat: &mut HubSeat,
     pace: &Pause<R>,
-) -> Option<(Option<Ended>, Option<usize>)>
+) -> Option<(Ended, Option<usize>)>
     requires { seat.old.ring ≡ ring.now }
 {
     match link_of(alloc, SUBSCRIBER) {
@@ -55,7 +53,7 @@ fn work_and_flush<R: Threads + Wait + Clock + Sync>(
     alloc: Global,
     party: &mut Party,
     pace: &Pause<R>,
-) -> (Option<(Option<Ended>, Option<usize>)>, Option<u64>)
+) -> (Option<(Ended, Option<usize>)>, Option<u64>)
     requires together { AreTogether party.old.hub party.old.first party.old.second party.old.flusher }
     requires executed { party.old.flusher.executed ≡ party.old.flusher.stored }
 {
@@ -64,7 +62,7 @@ fn work_and_flush<R: Threads + Wait + Clock + Sync>(
     let flusher = &mut party.flusher;
     thread::join(
         rt,
-        || -> Option<(Option<Ended>, Option<usize>)>
+        || -> Option<(Ended, Option<usize>)>
             requires { seat.now.ring ≡ ring.now }
         { work(alloc, ring, seat, pace) },
         || -> Option<u64>
@@ -77,7 +75,7 @@ fn run<R: Threads + Wait + Clock + Sync>(
     rt: &R,
     alloc: Global,
     pace: &Pause<R>,
-) -> Option<(Option<(Option<Ended>, Option<usize>)>, Option<u64>)> {
+) -> Option<(Option<(Ended, Option<usize>)>, Option<u64>)> {
     match new_party(alloc, SMALL_AREA) {
         Some(mut party) => {
             let ran = work_and_flush(rt, alloc, &mut party, pace);
@@ -92,6 +90,6 @@ fn run<R: Threads + Wait + Clock + Sync>(
 fn worker_like_script(rt: HostRuntime) -> Result<(), Fail> {
     let pace = Pause { rt: rt.clone()? };
     let ran = run(&rt, rt.alloc(), &pace);
-    assert_eq!(rt; ran, Some((Some((Some(Ended::Bad), None)), Some(7))));
+    assert_eq!(rt; ran, Some((Some((Ended::Bad, None)), Some(7))));
     Ok(())
 }

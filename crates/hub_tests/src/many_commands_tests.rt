@@ -5,7 +5,7 @@ use crate::hubs::{AREA, HubFlusher, HubRing, HubSeat, Party, close, new_party, n
 use crate::paces::Pause;
 use claim_core::Refused;
 use command_core::{Command, Entry, Op};
-use hub_core::{Pacing, flush_loop};
+use hub_core::{Gate, flush_loop};
 use outbox_core::{OutSender, Silent};
 use std::alloc::Global;
 use std::mem;
@@ -94,7 +94,7 @@ fn append_all<R: Clock>(rt: &R, alloc: Global, ring: &HubRing, seat: &mut HubSea
 }
 
 // Makes a turn, and compacts the journal after it if that is asked for and the mark has risen. Answers the mark, and nothing after a fault.
-fn turn_once<P: Pacing>(
+fn turn_once<P: Gate>(
     alloc: Global,
     ring: &HubRing,
     flusher: &mut HubFlusher,
@@ -121,7 +121,7 @@ fn turn_once<P: Pacing>(
 }
 
 /// Turns until so many commands are published. Where that is asked for, the journal is compacted after each batch.
-pub fn flush_to<P: Pacing>(
+pub fn flush_to<P: Gate>(
     alloc: Global,
     ring: &HubRing,
     flusher: &mut HubFlusher,

@@ -1,7 +1,6 @@
 //! Gates that let threads wait for one another.
 
-use crate::working::WorkerPace;
-use hub_core::Pacing;
+use hub_core::Gate;
 use std::sync::atomic::{AtomicBool, AtomicU64, Ordering};
 use std::thread;
 use std::time::{Clock, Duration};
@@ -10,14 +9,8 @@ use std::time::{Clock, Duration};
 #[derive(Drop)]
 pub struct Free;
 
-impl Pacing for Free {
-    fn pass(&self) -> bool {
-        true
-    }
-}
-
-impl WorkerPace for Free {
-    fn lets(&self, _worker: u32, _turn: u64) -> bool {
+impl Gate for Free {
+    fn pass(&self, _worker: u32, _turn: u64) -> bool {
         true
     }
 }
@@ -26,8 +19,8 @@ impl WorkerPace for Free {
 #[derive(Drop)]
 pub struct Shut;
 
-impl Pacing for Shut {
-    fn pass(&self) -> bool {
+impl Gate for Shut {
+    fn pass(&self, _worker: u32, _turn: u64) -> bool {
         false
     }
 }
@@ -38,16 +31,10 @@ pub struct Pause<R> {
     pub rt: R,
 }
 
-impl<R: Clock> Pacing for Pause<R> {
-    fn pass(&self) -> bool {
+impl<R: Clock> Gate for Pause<R> {
+    fn pass(&self, _worker: u32, _turn: u64) -> bool {
         thread::sleep(&self.rt, Duration::from_millis(1));
         true
-    }
-}
-
-impl<R: Clock> WorkerPace for Pause<R> {
-    fn lets(&self, _worker: u32, _turn: u64) -> bool {
-        self.pass()
     }
 }
 
@@ -59,19 +46,13 @@ pub struct Turnstile<R> {
     pub finished: AtomicBool,
 }
 
-impl<R: Clock> Pacing for Turnstile<R> {
-    fn pass(&self) -> bool {
+impl<R: Clock> Gate for Turnstile<R> {
+    fn pass(&self, worker: u32, _turn: u64) -> bool {
         if self.finished.load(Ordering::SeqCst) {
             return false;
         }
         thread::sleep(&self.rt, Duration::from_millis(1));
-        true
-    }
-}
-
-impl<R: Clock> WorkerPace for Turnstile<R> {
-    fn lets(&self, worker: u32, _turn: u64) -> bool {
-        self.pass() && (worker != 0 || self.opened.load(Ordering::SeqCst))
+        worker != 0 || self.opened.load(Ordering::SeqCst)
     }
 }
 
@@ -179,8 +160,22 @@ impl<R: Clock> Noting<R> {
     }
 }
 
-impl<R: Clock> WorkerPace for Noting<R> {
-    fn lets(&self, worker: u32, turn: u64) -> bool {
+impl<R: Clock> Noting<R> {
+    // Whether the flusher's turn is taken.
+    fn lets_flush(&self) -> bool {
+        if self.ended.load(Ordering::SeqCst) {
+            return true;
+        }
+        thread::sleep(&self.rt, Duration::from_millis(1));
+        self.flushes.load(Ordering::SeqCst)
+    }
+}
+
+impl<R: Clock> Gate for Noting<R> {
+    fn pass(&self, worker: u32, turn: u64) -> bool {
+        if worker == u32::MAX {
+            return self.lets_flush();
+        }
         if self.ended.load(Ordering::SeqCst) {
             return false;
         }
@@ -191,11 +186,11 @@ impl<R: Clock> WorkerPace for Noting<R> {
         worker == 0 && !self.shut.load(Ordering::SeqCst) && !self.waits.load(Ordering::SeqCst)
     }
 
-    fn appended(&self) {
+    fn appended(&self, _worker: u32) {
         self.appended.store(true, Ordering::SeqCst);
     }
 
-    fn wait_for_room(&self, mark: u64) {
+    fn wait_for_mark(&self, _worker: u32, mark: u64) {
         self.full.store(true, Ordering::SeqCst);
         self.waits.store(true, Ordering::SeqCst);
         self.flushes.store(true, Ordering::SeqCst);
@@ -205,18 +200,8 @@ impl<R: Clock> WorkerPace for Noting<R> {
         }
     }
 
-    fn wait_for_memory(&self) {
+    fn wait_for_memory(&self, _worker: u32) {
         self.short.store(true, Ordering::SeqCst);
-    }
-}
-
-impl<R: Clock> Pacing for Noting<R> {
-    fn pass(&self) -> bool {
-        if self.ended.load(Ordering::SeqCst) {
-            return true;
-        }
-        thread::sleep(&self.rt, Duration::from_millis(1));
-        self.flushes.load(Ordering::SeqCst)
     }
 
     fn published(&self, mark: u64) {

@@ -9,11 +9,9 @@ use crate::hubs::{
 };
 use crate::paces::{Free, Noting};
 use crate::texts::{CONNECT, SEND_X, SEND_Y, SUBSCRIBE, SUBSCRIBER, THREE_MESSAGES};
-use crate::working::worker;
-use connection_core::Ended;
 use disk_core::MemDisk;
 use flush_core::FlushFault;
-use hub_core::flush_loop;
+use hub_core::{Ended, flush_loop, worker};
 use outbox_core::Silent;
 use std::alloc::Global;
 use std::sync::Wait;
@@ -36,7 +34,7 @@ fn append_four(alloc: Global, ring: &HubRing, seat: &mut HubSeat) -> bool
         Some(mut link) => {
             let ended = worker(alloc, ring, seat, &mut link, &Silent, &Free, TURNS);
             drop(link);
-            ended.is_none()
+            ended == Ended::Turns
         }
         None => false,
     }
@@ -61,7 +59,7 @@ fn flush(alloc: Global, ring: &HubRing, flusher: &mut HubFlusher) -> Flushed
 }
 
 // How a worker that asks to open a session ends.
-fn open_another(alloc: Global, ring: &HubRing, seat: &mut HubSeat) -> Option<Option<Ended>>
+fn open_another(alloc: Global, ring: &HubRing, seat: &mut HubSeat) -> Option<Ended>
     requires { seat.old.ring ≡ ring.now }
 {
     let mut link = link_of(alloc, &[CONNECT])?;
@@ -85,7 +83,7 @@ fn count_of(alloc: Global, disk: MemDisk) -> Option<u64> {
 }
 
 // What came of the loop, whether the flusher is broken, the mark, and how another worker ends then.
-type Sight = (Flushed, bool, u64, Option<Option<Ended>>);
+type Sight = (Flushed, bool, u64, Option<Ended>);
 
 fn see_four(alloc: Global, party: &mut Party) -> Option<Sight>
     requires together { AreTogether party.old.hub party.old.first party.old.second party.old.flusher }
@@ -136,10 +134,10 @@ fn flush_four(alloc: Global) -> Option<(Sight, Option<u64>)> {
 fn word_of_flush(alloc: Global) -> &'static str {
     match flush_four(alloc) {
         None => "unseen",
-        Some(((Flushed::To(4), false, 4, Some(None)), Some(4))) => "whole",
+        Some(((Flushed::To(4), false, 4, Some(Ended::Turns)), Some(4))) => "whole",
         Some(((Flushed::To(mark), false, same, ended), count)) => {
             let is_right = mark == same
-                && (ended.is_none() || ended == Some(None) || ended == Some(Some(Ended::Lost)))
+                && (ended.is_none() || ended == Some(Ended::Turns) || ended == Some(Ended::Lost))
                 && (count.is_none() || count == Some(mark));
             if is_right { "unseen" } else { "wrong" }
         }
@@ -148,7 +146,7 @@ fn word_of_flush(alloc: Global) -> &'static str {
                 Some(count) => mark <= count && count <= 4,
                 None => false,
             };
-            if holds && ended == Some(Some(Ended::Stopped)) {
+            if holds && ended == Some(Ended::Stopped) {
                 "refused"
             } else {
                 "wrong"
@@ -172,7 +170,7 @@ fn work<R: Clock>(
     ring: &HubRing,
     seat: &mut HubSeat,
     pace: &Noting<R>,
-) -> Option<(Option<Ended>, usize, bool)>
+) -> Option<(Ended, usize, bool)>
     requires { seat.old.ring ≡ ring.now }
 {
     match link_of(alloc, SUBSCRIBER) {
@@ -198,7 +196,7 @@ fn work_to_the_end<R: Clock>(
     ring: &HubRing,
     seat: &mut HubSeat,
     pace: &Noting<R>,
-) -> Option<(Option<Ended>, usize, bool)>
+) -> Option<(Ended, usize, bool)>
     requires { seat.old.ring ≡ ring.now }
 {
     let ended = work(alloc, ring, seat, pace);
@@ -227,7 +225,7 @@ fn work_and_flush<R: Threads + Wait + Clock + Sync>(
     alloc: Global,
     party: &mut Party,
     pace: &Noting<R>,
-) -> (Option<(Option<Ended>, usize, bool)>, Flushed)
+) -> (Option<(Ended, usize, bool)>, Flushed)
     requires together { AreTogether party.old.hub party.old.first party.old.second party.old.flusher }
     requires executed { party.old.flusher.executed ≡ party.old.flusher.stored }
 {
@@ -236,7 +234,7 @@ fn work_and_flush<R: Threads + Wait + Clock + Sync>(
     let flusher = &mut party.flusher;
     thread::join(
         rt,
-        || -> Option<(Option<Ended>, usize, bool)>
+        || -> Option<(Ended, usize, bool)>
             requires { seat.now.ring ≡ ring.now }
         { work_to_the_end(alloc, ring, seat, pace) },
         || -> Flushed
@@ -260,13 +258,12 @@ fn word_of_work<R: Threads + Wait + Clock + Sync>(
     drop(party);
     match (worked, flushed) {
         (None, _) => "unseen",
-        (Some((Some(Ended::Bad), 5, true)), Flushed::To(7)) => "whole",
-        (Some((Some(Ended::Lost), _, true)), Flushed::To(_)) => "refused",
-        (Some((Some(Ended::Stopped | Ended::Lost | Ended::Bad), _, true)), Flushed::Refused) =>
-            "unseen",
+        (Some((Ended::Bad, 5, true)), Flushed::To(7)) => "whole",
+        (Some((Ended::Lost, _, true)), Flushed::To(_)) => "refused",
+        (Some((Ended::Stopped | Ended::Lost | Ended::Bad, _, true)), Flushed::Refused) => "unseen",
         // All was appended before the flusher stopped, so that what is still to come does not come. A worker that stalls beside a
         // flusher that goes on is wrong.
-        (Some((None, _, true)), Flushed::Refused) => "unseen",
+        (Some((Ended::Turns, _, true)), Flushed::Refused) => "unseen",
         _ => "wrong",
     }
 }

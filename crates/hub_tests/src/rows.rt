@@ -8,9 +8,7 @@ use crate::hubs::{
 };
 use crate::links::{NO_SHORTAGE, Scarce, ScriptedLink, Shortage};
 use crate::paces::{Awaited, Noting};
-use crate::working::worker;
-use connection_core::Ended;
-use hub_core::flush_loop;
+use hub_core::{Ended, flush_loop, worker};
 use std::alloc::Global;
 use std::cell::Cell;
 use std::sync::Wait;
@@ -38,7 +36,7 @@ pub struct Row {
     pub turns: u64,
     pub shut: bool,
     pub flushes: bool,
-    pub ended: Option<Ended>,
+    pub ended: Ended,
     pub code: Option<u16>,
     pub sent: &'static [&'static [u8]],
     pub overflows: bool,
@@ -58,7 +56,7 @@ pub const SILENT: Row = Row {
     turns: TURNS,
     shut: false,
     flushes: false,
-    ended: None,
+    ended: Ended::Turns,
     code: None,
     sent: &[],
     overflows: false,
@@ -98,7 +96,7 @@ fn serve<R: Clock>(
     seat: &mut HubSeat,
     row: &Row,
     pace: &Noting<R>,
-) -> Option<(Option<Ended>, Option<u16>)>
+) -> Option<(Ended, Option<u16>)>
     requires { seat.old.ring ≡ ring.now }
 {
     match scripted(alloc, row) {
@@ -123,7 +121,7 @@ fn work<R: Clock>(
     seat: &mut HubSeat,
     row: &Row,
     pace: &Noting<R>,
-) -> Option<(Option<Ended>, Option<u16>)>
+) -> Option<(Ended, Option<u16>)>
     requires { seat.old.ring ≡ ring.now }
 {
     let ended = serve(alloc, ring, seat, row, pace);
@@ -149,7 +147,7 @@ fn work_and_flush<R: Threads + Wait + Clock + Sync>(
     party: &mut Party,
     row: &Row,
     pace: &Noting<R>,
-) -> (Option<(Option<Ended>, Option<u16>)>, Option<u64>)
+) -> (Option<(Ended, Option<u16>)>, Option<u64>)
     requires together { AreTogether party.old.hub party.old.first party.old.second party.old.flusher }
     requires executed { party.old.flusher.executed ≡ party.old.flusher.stored }
 {
@@ -158,7 +156,7 @@ fn work_and_flush<R: Threads + Wait + Clock + Sync>(
     let flusher = &mut party.flusher;
     thread::join(
         rt,
-        || -> Option<(Option<Ended>, Option<u16>)>
+        || -> Option<(Ended, Option<u16>)>
             requires { seat.now.ring ≡ ring.now }
         { work(alloc, ring, seat, row, pace) },
         || -> Option<u64>
@@ -184,7 +182,7 @@ fn run<R: Threads + Wait + Clock + Sync>(
     alloc: Global,
     row: &Row,
     pace: &Noting<R>,
-) -> Option<(Option<(Option<Ended>, Option<u16>)>, Option<u64>)> {
+) -> Option<(Option<(Ended, Option<u16>)>, Option<u64>)> {
     pace.begin(row.shut, row.flushes, row.awaits);
     match party_of(alloc, row) {
         Some(mut party) => {

@@ -6,7 +6,7 @@ use crate::texts::{
     LAST_RECEIPT, LAST_WORD, LONG_BODY, LONG_END, LONG_HEAD, NOT_EXPECTED, SEND_X, SUBSCRIBER,
     THREE_MESSAGES, TRANSACTION, TWENTY_RECEIPTED, TWENTY_SENDS,
 };
-use connection_core::Ended;
+use hub_core::Ended;
 use std::test::Fail;
 
 const ROWS: [Row; 11] = [
@@ -14,7 +14,7 @@ const ROWS: [Row; 11] = [
     Row {
         texts: SUBSCRIBER,
         flushes: true,
-        ended: Some(Ended::Bad),
+        ended: Ended::Bad,
         code: Some(1002),
         sent: THREE_MESSAGES,
         appended: Some(7),
@@ -24,7 +24,7 @@ const ROWS: [Row; 11] = [
     // More commands than the window lets in, and a DISCONNECT that asks for a receipt.
     Row {
         texts: &[CONNECT, TWENTY_RECEIPTED, LAST_WORD],
-        ended: Some(Ended::Bye),
+        ended: Ended::Bye,
         code: Some(1000),
         sent: ALL_RECEIPTS,
         appended: Some(22),
@@ -34,7 +34,7 @@ const ROWS: [Row; 11] = [
     // A DISCONNECT that asks for none: what is still to be sent is not waited for.
     Row {
         texts: &[CONNECT, DISCONNECT],
-        ended: Some(Ended::Bye),
+        ended: Ended::Bye,
         code: Some(1000),
         appended: Some(2),
         heard: [true, false, false],
@@ -44,7 +44,7 @@ const ROWS: [Row; 11] = [
     Row {
         texts: &[CONNECT, LAST_WORD],
         flushes: true,
-        ended: Some(Ended::Bye),
+        ended: Ended::Bye,
         code: Some(1000),
         sent: &[CONNECTED, LAST_RECEIPT],
         appended: Some(2),
@@ -54,7 +54,7 @@ const ROWS: [Row; 11] = [
     // A frame that a new session may not send.
     Row {
         texts: &[SEND_X],
-        ended: Some(Ended::Bad),
+        ended: Ended::Bad,
         code: Some(1002),
         sent: &[NOT_EXPECTED],
         ..SILENT
@@ -63,7 +63,7 @@ const ROWS: [Row; 11] = [
     Row {
         texts: &[CONNECT],
         closes: true,
-        ended: Some(Ended::Lost),
+        ended: Ended::Lost,
         appended: Some(2),
         heard: [true, false, false],
         ..SILENT
@@ -72,7 +72,7 @@ const ROWS: [Row; 11] = [
     Row {
         texts: &[CONNECT, TWENTY_SENDS],
         breaks: true,
-        ended: Some(Ended::Lost),
+        ended: Ended::Lost,
         appended: Some(22),
         heard: [true, true, false],
         ..SILENT
@@ -84,7 +84,7 @@ const ROWS: [Row; 11] = [
         texts: &[CONNECT, FIFTEEN_SUBSCRIBERS],
         round: TRANSACTION,
         rounds: 17,
-        ended: Some(Ended::Lost),
+        ended: Ended::Lost,
         code: Some(1001),
         overflows: true,
         appended: Some(34),
@@ -114,7 +114,7 @@ const ROWS: [Row; 11] = [
     // The journal is full while the window is. Its Open is published before: else the block would be cut behind that.
     Row {
         texts: &[CONNECT, LONG_HEAD, LONG_BODY, LONG_END, TWENTY_SENDS],
-        ended: Some(Ended::Stopped),
+        ended: Ended::Stopped,
         code: Some(1001),
         sent: &[CONNECTED],
         appended: None,
@@ -148,7 +148,7 @@ const SCARCE: [Row; 2] = [
     Row {
         texts: &[CONNECT, LAST_WORD],
         flushes: true,
-        ended: Some(Ended::Bye),
+        ended: Ended::Bye,
         code: Some(1000),
         sent: &[CONNECTED, LAST_RECEIPT],
         appended: Some(2),
@@ -163,7 +163,7 @@ const SCARCE: [Row; 2] = [
     },
     Row {
         texts: &[SEND_X],
-        ended: Some(Ended::Bad),
+        ended: Ended::Bad,
         code: Some(1002),
         sent: &[NOT_EXPECTED],
         shortage: Shortage {

@@ -3,9 +3,7 @@ ghost use Rattle.hub_tests.specs.Parties.{AreTogether};
 
 use crate::hubs::{AREA, HubFlusher, HubRing, HubSeat, Party, first_wrong, link_of, new_party};
 use crate::paces::Turnstile;
-use crate::working::worker;
-use connection_core::Ended;
-use hub_core::flush_loop;
+use hub_core::{Ended, flush_loop, worker};
 use outbox_core::Silent;
 use std::alloc::Global;
 use std::sync::Wait;
@@ -49,7 +47,7 @@ fn serve<R: Clock>(
             let ended = worker(alloc, ring, seat, &mut link, &Silent, pace, TURNS);
             let right = has_receipts(&link);
             drop(link);
-            if right { ended } else { None }
+            if right { Some(ended) } else { None }
         }
         None => None,
     }

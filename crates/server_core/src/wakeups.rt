@@ -6,7 +6,7 @@ use crate::doorbell::Doorbell;
 use crate::ending::Ending;
 use crate::log_thread::LogThread;
 use event_log::Event;
-use hub_core::Pacing;
+use hub_core::Gate;
 use std::alloc::AllocError;
 use std::sync::atomic::{AtomicBool, AtomicU64, Ordering};
 use std::sync::{Arc, Wait};
@@ -212,8 +212,8 @@ impl<T: Wait + Clock> Wakeups<T> {
     }
 }
 
-impl<T: Wait + Clock> Pacing for Wakeups<T> {
-    fn pass(&self) -> bool {
+impl<T: Wait + Clock> Gate for Wakeups<T> {
+    fn pass(&self, _worker: u32, _turn: u64) -> bool {
         self.rest();
         self.await_commands();
         self.began.store(self.micros(), Ordering::SeqCst);

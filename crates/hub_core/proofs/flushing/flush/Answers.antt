@@ -20,17 +20,17 @@ returns-in-Err-clause-stops g c = c.in-Err.ensures.breaks.stops
 pub compact_if_due-requires-clause-ring : goal.compact_if_due-requires-clause-ring
 compact_if_due-requires-clause-ring g c =
     let did = c.in-Ok.ensures in
-    (passed _ _ _ _ _ _ _ c.mark-before.ensures.kept did.breaks.outcome.0 did.turns.turned c.drop_left.ensures c.tell_compaction.ensures).ring ∙ c.requires.ring
+    (passed g.D.Disk _ _ _ _ _ c.mark-before.ensures.kept did.breaks.outcome.0 did.turns.turned did.turns.stores c.drop_left.ensures c.tell_compaction.ensures).ring ∙ c.requires.ring
 
 pub compact_if_due-requires-clause-executed : goal.compact_if_due-requires-clause-executed
 compact_if_due-requires-clause-executed g c =
     let did = c.in-Ok.ensures in
-    (passed _ _ _ _ _ _ _ c.mark-before.ensures.kept did.breaks.outcome.0 did.turns.turned c.drop_left.ensures c.tell_compaction.ensures).executed c.requires.executed
+    (passed g.D.Disk _ _ _ _ _ c.mark-before.ensures.kept did.breaks.outcome.0 did.turns.turned did.turns.stores c.drop_left.ensures c.tell_compaction.ensures).executed c.requires.executed
 
 pub returns-in-Ok-clause-flushes : goal.returns-in-Ok-clause-flushes
 returns-in-Ok-clause-flushes g c =
     let did = c.in-Ok.ensures in
-    more _ _ _ (passed _ _ _ _ _ _ _ c.mark-before.ensures.kept did.breaks.outcome.0 did.turns.turned c.drop_left.ensures c.tell_compaction.ensures) c.compact_if_due.ensures.flushes
+    more _ _ _ (passed g.D.Disk _ _ _ _ _ c.mark-before.ensures.kept did.breaks.outcome.0 did.turns.turned did.turns.stores c.drop_left.ensures c.tell_compaction.ensures) c.compact_if_due.ensures.flushes
 
 pub returns-in-Ok-clause-light : goal.returns-in-Ok-clause-light
 returns-in-Ok-clause-light g c = c.compact_if_due.ensures.light

@@ -1,0 +1,33 @@
+//! How a worker ends.
+
+ghost use Rattle.std.specs.Prelude.{◌≡◌};
+ghost use Rattle.hub_core.specs.Serving.{end_of};
+
+/// How a worker ended.
+#[derive(Clone, Copy, PartialEq, Eq, Debug)]
+pub enum Ended {
+    /// Its connection was closed after the client's DISCONNECT, with 1000.
+    Bye,
+    /// Its connection is gone, or was given up.
+    Lost,
+    /// Its connection was closed once an ERROR was sent, with 1002.
+    Bad,
+    /// Its connection was closed because the broker takes nothing more.
+    Stopped,
+    /// Its turns have run out.
+    Turns,
+}
+
+impl Ended {
+    // That of a worker whose connection has ended so.
+    pub(crate) fn of(ended: connection_core::Ended) -> Ended
+        ensures { result ≡ end_of ended }
+    {
+        match ended {
+            connection_core::Ended::Bye => Ended::Bye,
+            connection_core::Ended::Lost => Ended::Lost,
+            connection_core::Ended::Bad => Ended::Bad,
+            connection_core::Ended::Stopped => Ended::Stopped,
+        }
+    }
+}
