@@ -1,4 +1,5 @@
-//! The broker as a whole: scripts of sessions, from the bytes of a script to the bytes that it prints.
+//! The broker as a whole, for a program that embeds it: an opened journal with its threads; and scripts of sessions, from the bytes of a
+//! script to the bytes that it prints.
 
 #![tactic(auto)]
 
@@ -12,7 +13,9 @@ mod script;
 mod so_far;
 mod worked;
 
+pub use desk_core::{Kept, Relayed, relay};
 pub use fault::ScriptFault;
+pub use hub_core::{Closed, Ended, Gate, Hub, HubFlusher, flush_loop, worker};
 pub use laws::{
     a_line_too_far_prints_nothing, a_script_has_one_text, a_script_that_prints_has_not_failed,
 };
