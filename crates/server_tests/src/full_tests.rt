@@ -1,5 +1,5 @@
 use crate::journals::make_journal;
-use crate::servers::{fill, greeted, serve};
+use crate::servers::{fill, free_port, greeted, serve};
 use crate::writers::Buffered;
 use server_core::{Reception, Server};
 use std::alloc::Global;
@@ -11,16 +11,14 @@ use std::test::Fail;
 use std::thread::{self, Threads};
 use std::time::{Clock, Duration};
 
-const PORT: u16 = 47_633;
-
 const JOURNAL: &str = "server_with_too_many";
 
 const REQUEST: &[u8] =
     b"GET / HTTP/1.1\r\nHost: a\r\nUpgrade: websocket\r\nConnection: Upgrade\r\nSec-WebSocket-Key: dGhlIHNhbXBsZSBub25jZQ==\r\nSec-WebSocket-Version: 13\r\n\r\n";
 
 // Whether the answer to a request for a WebSocket begins so.
-fn is_answered(rt: &HostRuntime, beginning: &[u8]) -> bool {
-    let Ok(mut stream) = TcpStream::connect(rt, ("127.0.0.1", PORT)) else {
+fn is_answered(rt: &HostRuntime, port: u16, beginning: &[u8]) -> bool {
+    let Ok(mut stream) = TcpStream::connect(rt, ("127.0.0.1", port)) else {
         return false;
     };
     let longest = Duration::from_secs(10);
@@ -35,9 +33,9 @@ fn is_answered(rt: &HostRuntime, beginning: &[u8]) -> bool {
 }
 
 // Whether that comes to be so, within ten seconds.
-fn comes_to_be_answered(rt: &HostRuntime, beginning: &[u8]) -> bool {
+fn comes_to_be_answered(rt: &HostRuntime, port: u16, beginning: &[u8]) -> bool {
     for _ in 0..100u32 {
-        if is_answered(rt, beginning) {
+        if is_answered(rt, port, beginning) {
             return true;
         }
         thread::sleep(rt, Duration::from_millis(100));
@@ -46,12 +44,12 @@ fn comes_to_be_answered(rt: &HostRuntime, beginning: &[u8]) -> bool {
 }
 
 // A third client is refused by a server that takes two, and another is taken once the second has left.
-fn crowd(rt: &HostRuntime, alloc: Global) -> Option<(bool, bool, bool)> {
-    let mut first = greeted(rt, alloc, PORT)?;
-    let second = greeted(rt, alloc, PORT);
-    let refused = second.is_some() && is_answered(rt, b"HTTP/1.1 503 ");
+fn crowd(rt: &HostRuntime, alloc: Global, port: u16) -> Option<(bool, bool, bool)> {
+    let mut first = greeted(rt, alloc, port)?;
+    let second = greeted(rt, alloc, port);
+    let refused = second.is_some() && is_answered(rt, port, b"HTTP/1.1 503 ");
     drop(second);
-    let taken = comes_to_be_answered(rt, b"HTTP/1.1 101 ");
+    let taken = comes_to_be_answered(rt, port, b"HTTP/1.1 101 ");
     let filled = fill(alloc, &mut first);
     drop(first);
     Some((refused, taken, filled))
@@ -63,15 +61,21 @@ fn serve_crowd<R: Threads + Wait + Clock + Drop + Sync>(
     alloc: Global,
     server: Server<R>,
     written: &mut Buffered,
+    port: u16,
 ) -> (Option<(bool, bool, bool)>, bool) {
     thread::join(
         rt,
-        || crowd(host, alloc),
+        || crowd(host, alloc, port),
         || serve(rt, alloc, server, written),
     )
 }
 
-fn run<R>(rt: &R, host: &HostRuntime, alloc: Global) -> Option<(Option<(bool, bool, bool)>, bool)>
+fn run<R>(
+    rt: &R,
+    host: &HostRuntime,
+    alloc: Global,
+    port: u16,
+) -> Option<(Option<(bool, bool, bool)>, bool)>
 where
     R: Files<File = File>
         + Threads
@@ -86,11 +90,11 @@ where
 {
     let mut reception = Reception::new(Vec::new(alloc), 2);
     reception.most_clients = 2;
-    match Server::open(alloc, rt, JOURNAL, PORT, reception) {
+    match Server::open(alloc, rt, JOURNAL, port, reception) {
         Ok(mut server) => {
             let mut written = Buffered::new(alloc);
             let started = server.start_workers(rt, alloc).is_ok();
-            let (told, full) = serve_crowd(rt, host, alloc, server, &mut written);
+            let (told, full) = serve_crowd(rt, host, alloc, server, &mut written, port);
             drop(written);
             Some((told, started && full))
         }
@@ -102,7 +106,10 @@ where
 #[test]
 fn one_client_too_many_is_told_so(rt: HostRuntime) -> Result<(), Fail> {
     assert!(rt; make_journal(&rt, rt.alloc(), JOURNAL));
-    let ran = run(&rt, &rt, rt.alloc());
+    let Some(port) = free_port(&rt) else {
+        return Err(Fail::from("no port is free"));
+    };
+    let ran = run(&rt, &rt, rt.alloc(), port);
     let _ = fs::remove_file(&rt, JOURNAL);
     assert_eq!(rt; ran, Some((Some((true, true, true)), true)));
     Ok(())

@@ -1,4 +1,5 @@
 use crate::journals::make_journal;
+use crate::servers::free_port;
 use crate::writers::Failing;
 use server_core::{Reception, ServeEnd, ServeFault, Server};
 use std::alloc::Global;
@@ -10,8 +11,6 @@ use std::test::Fail;
 use std::thread::Threads;
 use std::time::{Clock, Duration};
 use std::{fs, thread};
-
-const PORT: u16 = 47_619;
 
 const BEGINNING: &[u8] = b"GET / HTTP/1.1\r\nHost: a\r\nUpgrade: websocket\r\nConn";
 
@@ -61,8 +60,8 @@ fn takes(answer: &[u8]) -> bool {
 }
 
 // Whether a handshake at the port is taken.
-fn shake(rt: &HostRuntime, alloc: Global) -> bool {
-    match TcpStream::connect(rt, ("127.0.0.1", PORT)) {
+fn shake(rt: &HostRuntime, alloc: Global, port: u16) -> bool {
+    match TcpStream::connect(rt, ("127.0.0.1", port)) {
         Ok(mut stream) => {
             let mut answer = Vec::new(alloc);
             let taken = speak(rt, &mut stream, &mut answer) && takes(answer.as_slice());
@@ -75,7 +74,13 @@ fn shake(rt: &HostRuntime, alloc: Global) -> bool {
 }
 
 // Whether a server that could not announce itself ended for that, and whether a worker then takes a handshake.
-fn serve<R>(rt: &R, host: &HostRuntime, alloc: Global, path: &str) -> Option<(bool, bool)>
+fn serve<R>(
+    rt: &R,
+    host: &HostRuntime,
+    alloc: Global,
+    path: &str,
+    port: u16,
+) -> Option<(bool, bool)>
 where
     R: Files<File = File>
         + Threads
@@ -88,14 +93,14 @@ where
         + Sync
         + 'static,
 {
-    match Server::open(alloc, rt, path, PORT, Reception::new(Vec::new(alloc), 4)) {
+    match Server::open(alloc, rt, path, port, Reception::new(Vec::new(alloc), 4)) {
         Ok(mut server) => {
             let started = server.start_workers(rt, alloc).is_ok();
             let ended = matches!(
                 server.run(alloc, &mut Failing),
                 ServeEnd::Fault(ServeFault::Output)
             );
-            let taken = started && shake(host, alloc);
+            let taken = started && shake(host, alloc, port);
             drop(server);
             Some((ended, taken))
         }
@@ -109,7 +114,10 @@ fn a_handshake_may_come_in_parts(rt: HostRuntime) -> Result<(), Fail> {
     let alloc = rt.alloc();
     let path = "server_handshake";
     assert!(rt; make_journal(&rt, alloc, path));
-    let served = serve(&rt, &rt, alloc, path);
+    let Some(port) = free_port(&rt) else {
+        return Err(Fail::from("no port is free"));
+    };
+    let served = serve(&rt, &rt, alloc, path, port);
     assert_eq!(rt; served, Some((true, true)));
     fs::remove_file(&rt, path)?;
     Ok(())

@@ -1,8 +1,8 @@
 use crate::client::Client;
-use crate::servers::{CONNECT, CONNECTED, RECEIPT, SEND, fill, opened, serve};
+use crate::servers::{CONNECT, CONNECTED, RECEIPT, SEND, fill, free_port, opened, serve};
 use crate::writers::Buffered;
 use server_core::Server;
-use std::alloc::Global;
+use std::alloc::{AllocError, Global};
 use std::fs::{self, File, Files};
 use std::net::{Net, TcpListener, TcpStream};
 use std::sync::Wait;
@@ -10,8 +10,6 @@ use std::sync::atomic::{AtomicU32, Ordering};
 use std::test::Fail;
 use std::thread::{self, Threads};
 use std::time::{Clock, Duration};
-
-const PORT: u16 = 47_613;
 
 const JOURNAL: &str = "server_over_loopback";
 
@@ -32,8 +30,8 @@ fn wait_for(rt: &HostRuntime, stage: &AtomicU32, wanted: u32) -> bool {
 }
 
 // The first client connects before the second, and sends once the second has its RECEIPT.
-fn first(rt: &HostRuntime, alloc: Global, stage: &AtomicU32) -> Option<bool> {
-    let mut client = Client::connect(rt, alloc, PORT)?;
+fn first(rt: &HostRuntime, alloc: Global, port: u16, stage: &AtomicU32) -> Option<bool> {
+    let mut client = Client::connect(rt, alloc, port)?;
     let connected = client.send(alloc, CONNECT) && client.reads(CONNECTED);
     stage.store(FIRST_IS_CONNECTED, Ordering::SeqCst);
     let waited = connected && wait_for(rt, stage, SECOND_HAS_ITS_RECEIPT);
@@ -44,9 +42,9 @@ fn first(rt: &HostRuntime, alloc: Global, stage: &AtomicU32) -> Option<bool> {
 }
 
 // The second client connects once the first is CONNECTED, and gets the RECEIPT of its SEND while the first waits.
-fn second(rt: &HostRuntime, alloc: Global, stage: &AtomicU32) -> Option<bool> {
+fn second(rt: &HostRuntime, alloc: Global, port: u16, stage: &AtomicU32) -> Option<bool> {
     let waited = wait_for(rt, stage, FIRST_IS_CONNECTED);
-    let mut client = Client::connect(rt, alloc, PORT)?;
+    let mut client = Client::connect(rt, alloc, port)?;
     let connected = waited && client.send(alloc, CONNECT) && client.reads(CONNECTED);
     let told = connected && client.send(alloc, SEND) && client.reads(RECEIPT);
     stage.store(SECOND_HAS_ITS_RECEIPT, Ordering::SeqCst);
@@ -59,12 +57,13 @@ fn speak<R: Threads + Sync>(
     rt: &R,
     host: &HostRuntime,
     alloc: Global,
+    port: u16,
 ) -> (Option<bool>, Option<bool>) {
     let stage = AtomicU32::new(0);
     thread::join(
         rt,
-        || first(host, alloc, &stage),
-        || second(host, alloc, &stage),
+        || first(host, alloc, port, &stage),
+        || second(host, alloc, port, &stage),
     )
 }
 
@@ -75,12 +74,19 @@ fn serve_both<R: Threads + Wait + Clock + Drop + Sync>(
     alloc: Global,
     server: Server<R>,
     written: &mut Buffered,
+    port: u16,
 ) -> ((Option<bool>, Option<bool>), bool) {
     thread::join(
         rt,
-        || speak(rt, host, alloc),
+        || speak(rt, host, alloc, port),
         || serve(rt, alloc, server, written),
     )
+}
+
+// Whether this is the line that tells the port.
+fn is_announced(alloc: Global, shown: &[u8], port: u16) -> Result<bool, AllocError> {
+    let line = format!(in alloc; "listening {port}\n")?;
+    Ok(line.as_bytes() == shown)
 }
 
 // What the clients told, whether the journal was full at the end, and whether the server showed its line.
@@ -88,6 +94,7 @@ fn run<R>(
     rt: &R,
     host: &HostRuntime,
     alloc: Global,
+    port: u16,
 ) -> Option<((Option<bool>, Option<bool>), bool, bool)>
 where
     R: Files<File = File>
@@ -101,12 +108,12 @@ where
         + Sync
         + 'static,
 {
-    match opened(rt, alloc, JOURNAL, PORT) {
+    match opened(rt, alloc, JOURNAL, port) {
         Some(mut server) => {
             let mut written = Buffered::new(alloc);
             let started = server.start_workers(rt, alloc).is_ok();
-            let (told, full) = serve_both(rt, host, alloc, server, &mut written);
-            let announced = written.shown.as_slice() == b"listening 47613\n".as_slice();
+            let (told, full) = serve_both(rt, host, alloc, server, &mut written, port);
+            let announced = is_announced(alloc, written.shown.as_slice(), port).unwrap_or(false);
             drop(written);
             Some((told, full, started && announced))
         }
@@ -116,7 +123,10 @@ where
 
 #[test]
 fn over_loopback(rt: HostRuntime) -> Result<(), Fail> {
-    let ran = run(&rt, &rt, rt.alloc());
+    let Some(port) = free_port(&rt) else {
+        return Err(Fail::from("no port is free"));
+    };
+    let ran = run(&rt, &rt, rt.alloc(), port);
     let _ = fs::remove_file(&rt, JOURNAL);
     assert_eq!(rt; ran, Some(((Some(true), Some(true)), true, true)));
     Ok(())

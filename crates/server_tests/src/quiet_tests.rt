@@ -1,4 +1,4 @@
-use crate::servers::{fill, greeted, opened, serve};
+use crate::servers::{fill, free_port, greeted, opened, serve};
 use crate::writers::Buffered;
 use server_core::Server;
 use std::alloc::Global;
@@ -10,16 +10,14 @@ use std::test::Fail;
 use std::thread::{self, Threads};
 use std::time::{Clock, Duration, Instant};
 
-const PORT: u16 = 47_637;
-
 const JOURNAL: &str = "server_with_quiet_peers";
 
 const BEGINNING: &[u8] = b"GET / HTTP/1.1\r\nHost: a\r\nUpgrade: websocket\r\nConn";
 
 // After how many seconds the server ends the connection of a client that says no more than the first part of its handshake.
 // It waits for thirty at most.
-fn ended_after(rt: &HostRuntime) -> Option<u64> {
-    let mut stream = TcpStream::connect(rt, ("127.0.0.1", PORT)).ok()?;
+fn ended_after(rt: &HostRuntime, port: u16) -> Option<u64> {
+    let mut stream = TcpStream::connect(rt, ("127.0.0.1", port)).ok()?;
     stream.set_read_timeout(Some(Duration::from_secs(30))).ok()?;
     stream.write_all(BEGINNING).ok()?;
     let start = Instant::now(rt).ok()?;
@@ -32,9 +30,9 @@ fn ended_after(rt: &HostRuntime) -> Option<u64> {
 
 // Whether a client that says nothing is sent a ping within thirty seconds, and one that says nothing between two parts of its
 // handshake is given up after twenty.
-fn wait_quietly(rt: &HostRuntime, alloc: Global) -> Option<(bool, bool, bool)> {
-    let mut client = greeted(rt, alloc, PORT)?;
-    let ended = matches!(ended_after(rt), Some(19..=25));
+fn wait_quietly(rt: &HostRuntime, alloc: Global, port: u16) -> Option<(bool, bool, bool)> {
+    let mut client = greeted(rt, alloc, port)?;
+    let ended = matches!(ended_after(rt, port), Some(19..=25));
     let pinged = client.hears_a_ping();
     let filled = fill(alloc, &mut client);
     drop(client);
@@ -47,15 +45,21 @@ fn serve_quiet<R: Threads + Wait + Clock + Drop + Sync>(
     alloc: Global,
     server: Server<R>,
     written: &mut Buffered,
+    port: u16,
 ) -> (Option<(bool, bool, bool)>, bool) {
     thread::join(
         rt,
-        || wait_quietly(host, alloc),
+        || wait_quietly(host, alloc, port),
         || serve(rt, alloc, server, written),
     )
 }
 
-fn run<R>(rt: &R, host: &HostRuntime, alloc: Global) -> Option<(Option<(bool, bool, bool)>, bool)>
+fn run<R>(
+    rt: &R,
+    host: &HostRuntime,
+    alloc: Global,
+    port: u16,
+) -> Option<(Option<(bool, bool, bool)>, bool)>
 where
     R: Files<File = File>
         + Threads
@@ -68,11 +72,11 @@ where
         + Sync
         + 'static,
 {
-    match opened(rt, alloc, JOURNAL, PORT) {
+    match opened(rt, alloc, JOURNAL, port) {
         Some(mut server) => {
             let mut written = Buffered::new(alloc);
             let started = server.start_workers(rt, alloc).is_ok();
-            let (told, full) = serve_quiet(rt, host, alloc, server, &mut written);
+            let (told, full) = serve_quiet(rt, host, alloc, server, &mut written, port);
             drop(written);
             Some((told, started && full))
         }
@@ -84,7 +88,10 @@ where
 /// is gone without a word is found out.
 #[test]
 fn quiet_peers_are_pinged_or_given_up(rt: HostRuntime) -> Result<(), Fail> {
-    let ran = run(&rt, &rt, rt.alloc());
+    let Some(port) = free_port(&rt) else {
+        return Err(Fail::from("no port is free"));
+    };
+    let ran = run(&rt, &rt, rt.alloc(), port);
     let _ = fs::remove_file(&rt, JOURNAL);
     assert_eq!(rt; ran, Some((Some((true, true, true)), true)));
     Ok(())

@@ -20,6 +20,19 @@ pub const SEND: &str = "SEND\ndestination:/queue/a\nreceipt:r1\n\nhi\0";
 
 pub const RECEIPT: &str = "RECEIPT\nreceipt-id:r1\n\n\0";
 
+/// A port of 127.0.0.1 at which nobody listens: the system names one, and it is free again. Another program may take it meanwhile, which
+/// fails the test.
+pub fn free_port(rt: &HostRuntime) -> Option<u16> {
+    match TcpListener::bind(rt, ("127.0.0.1", 0)) {
+        Ok(listener) => {
+            let port = listener.local_addr().ok()?.port();
+            drop(listener);
+            Some(port)
+        }
+        Err(_) => None,
+    }
+}
+
 /// A server at the port, over a journal of the smallest areas.
 pub fn opened<R>(rt: &R, alloc: Global, path: &str, port: u16) -> Option<Server<R>>
 where

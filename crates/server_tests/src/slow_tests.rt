@@ -1,5 +1,5 @@
 use crate::client::Client;
-use crate::servers::{RECEIPT, fill_with, greet, greeted, opened_over, serve};
+use crate::servers::{RECEIPT, fill_with, free_port, greet, greeted, opened_over, serve};
 use crate::writers::Buffered;
 use server_core::Server;
 use std::alloc::{AllocError, Global};
@@ -9,8 +9,6 @@ use std::sync::Wait;
 use std::test::Fail;
 use std::thread::{self, Threads};
 use std::time::Clock;
-
-const PORT: u16 = 47_641;
 
 const JOURNAL: &str = "server_with_a_slow_reader";
 
@@ -50,14 +48,14 @@ fn receipts(alloc: Global, client: &mut Client<HostRuntime>, frame: &str) -> u32
 }
 
 // The first client subscribes to a topic and reads nothing more. Another one at its desk floods that topic.
-fn flood(rt: &HostRuntime, alloc: Global) -> Option<(u32, bool)> {
+fn flood(rt: &HostRuntime, alloc: Global, port: u16) -> Option<(u32, bool)> {
     let frame = send_to(alloc, "/topic/flood").ok()?;
     let queued = send_to(alloc, "/queue/a").ok()?;
-    let mut slow = greeted(rt, alloc, PORT)?;
+    let mut slow = greeted(rt, alloc, port)?;
     let subscribed = slow.send(alloc, SUBSCRIBE) && slow.reads(RECEIPT);
     let mut others = Vec::new(alloc);
-    let all = greet(rt, alloc, PORT, &mut others, BETWEEN) == BETWEEN;
-    let quick = greeted(rt, alloc, PORT);
+    let all = greet(rt, alloc, port, &mut others, BETWEEN) == BETWEEN;
+    let quick = greeted(rt, alloc, port);
     let told = match quick {
         Some(mut quick) => {
             let count = receipts(alloc, &mut quick, frame.as_str());
@@ -78,15 +76,21 @@ fn serve_both<R: Threads + Wait + Clock + Drop + Sync>(
     alloc: Global,
     server: Server<R>,
     written: &mut Buffered,
+    port: u16,
 ) -> (Option<(u32, bool)>, bool) {
     thread::join(
         rt,
-        || flood(host, alloc),
+        || flood(host, alloc, port),
         || serve(rt, alloc, server, written),
     )
 }
 
-fn run<R>(rt: &R, host: &HostRuntime, alloc: Global) -> Option<(Option<(u32, bool)>, bool)>
+fn run<R>(
+    rt: &R,
+    host: &HostRuntime,
+    alloc: Global,
+    port: u16,
+) -> Option<(Option<(u32, bool)>, bool)>
 where
     R: Files<File = File>
         + Threads
@@ -99,11 +103,11 @@ where
         + Sync
         + 'static,
 {
-    match opened_over(rt, alloc, JOURNAL, PORT, AREA) {
+    match opened_over(rt, alloc, JOURNAL, port, AREA) {
         Some(mut server) => {
             let mut written = Buffered::new(alloc);
             let started = server.start_workers(rt, alloc).is_ok();
-            let (told, full) = serve_both(rt, host, alloc, server, &mut written);
+            let (told, full) = serve_both(rt, host, alloc, server, &mut written, port);
             drop(written);
             Some((told, started && full))
         }
@@ -113,7 +117,10 @@ where
 
 #[test]
 fn a_slow_reader_holds_up_nobody_at_its_desk(rt: HostRuntime) -> Result<(), Fail> {
-    let ran = run(&rt, &rt, rt.alloc());
+    let Some(port) = free_port(&rt) else {
+        return Err(Fail::from("no port is free"));
+    };
+    let ran = run(&rt, &rt, rt.alloc(), port);
     let _ = fs::remove_file(&rt, JOURNAL);
     assert_eq!(rt; ran, Some((Some((SENDS, true)), true)));
     Ok(())
