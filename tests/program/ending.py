@@ -1,11 +1,11 @@
 #!/usr/bin/env python3
-"""Ends servers in good order, by the end of their standard input, while clients are at work. Needs Python 3 alone.
+"""Ends servers in good order, by the end of their standard input, while clients are at work. Needs Python 3, and `cc` for a slow disk.
 
     python3 tests/program/ending.py [PROGRAM]
 
 A server that is asked to end at once tells so too, and one that ends by a fault ends though nobody reads what it tells. Each client hears 1001, also one that has no session yet and one to which much is still to be
 written; the server ends with status 0 within five seconds; and what was receipted is there when it is started again. Clients that answer no close and
-take nothing do not keep it.
+take nothing do not keep it. What waits for a slow disk is stored before the end.
 """
 
 import fcntl
@@ -27,6 +27,8 @@ QUIET, SENDERS, DEAF = 200, 16, 8
 MOST = 250
 # How many servers are asked to end at once.
 STARTS = 60
+# Each sync takes so many microseconds, meanwhile so many clients send so many messages each, of which 16 each are under way.
+SLOW_SYNC, SLOWED, BURST, UNDER_WAY = 100_000, 64, 40, 16
 
 
 class Sender:
@@ -63,9 +65,9 @@ class Sender:
             heard += 1
 
 
-def begun(program, journal, port):
+def begun(program, journal, port, env=None):
     words = [program, "serve", journal, str(port), "--until-eof"]
-    process = subprocess.Popen(words, stdin=subprocess.PIPE, stdout=subprocess.PIPE, stderr=subprocess.PIPE)
+    process = subprocess.Popen(words, stdin=subprocess.PIPE, stdout=subprocess.PIPE, stderr=subprocess.PIPE, env=env)
     line = process.stdout.readline().decode()
     assert line == f"listening {port}\n", line
     return process
@@ -186,10 +188,44 @@ def at_work(program, journal, checks):
     checks.same("and it ends again", ended(again)[0], 0)
 
 
+def slow_sync(folder):
+    """The environment of a program whose syncs are slow."""
+    built = folder / "slow_sync.so"
+    source = pathlib.Path(__file__).resolve().parents[2] / "bench" / "slow_sync.c"
+    subprocess.run(["cc", "-O2", "-shared", "-fPIC", "-o", built, source], check=True)
+    return {**os.environ, "LD_PRELOAD": str(built), "SLOW_SYNC": str(SLOW_SYNC)}
+
+
+def held(program, journal):
+    told = subprocess.run([program, "show", journal], capture_output=True, text=True, check=True).stdout
+    return int(next(line.split()[1] for line in told.splitlines() if line.startswith("held ")))
+
+
+def full_ring(program, journal, checks):
+    """a server whose disk is slow, while as much waits for it as may"""
+    port = scenario.free_port()
+    process = begun(program, journal, port, slow_sync(journal.parent))
+    clients = [Client(port) for _ in range(SLOWED)]
+    for one in clients:
+        one.send("CONNECT", [("accept-version", "1.2")])
+    for one in clients:
+        one.receive()
+    for number, one in enumerate(clients):
+        for _ in range(BURST):
+            one.send("SEND", [("destination", f"/queue/q{number}")], "x")
+    time.sleep(0.1)
+    status, seconds, told = ended(process)
+    checks.same("it ends with status 0", status, 0)
+    checks.check(f"within {LONGEST} s", seconds <= LONGEST, seconds)
+    stored = held(program, journal)
+    checks.check("all that waited for the disk is stored", stored >= SLOWED * UNDER_WAY, f"{stored} of {SLOWED * BURST}, of which {SLOWED * UNDER_WAY} were under way")
+    checks.tell(f"{stored} of {SLOWED * BURST} messages are stored, after {seconds:.1f} s")
+
+
 def main():
     program = scenario.words_of(__doc__).parse_args().program
     checks = scenario.Checks()
-    for part in (idle, at_once, unread, unread_fault, at_work):
+    for part in (idle, at_once, unread, unread_fault, at_work, full_ring):
         with tempfile.TemporaryDirectory(prefix="ending-") as folder:
             journal = pathlib.Path(folder) / "journal"
             subprocess.run([program, "format", "--sparse", journal, JOURNAL_BYTES], check=True)

@@ -2,7 +2,7 @@
 """A server whose clients may hold 256 MiB together: 2,000 subscribe to a topic and read nothing, while somebody sends to it. Those who hold most are
 given up, before they would be for taking nothing; one that reads everything and one that sends hear what is theirs at once; and the server lives under
 a limit of memory that it would pass if all of them held what waits for them. Then 4,000 send most of a head, to a server whose clients may hold 16 MiB;
-and 1,500 one message of 600 SENDs each, to one whose disk is so slow that these wait.
+and 1,500 one message of 600 SENDs each, to one whose disk is so slow that these wait. Last, 3,000 come to a topic and go.
 
     python3 tests/program/memory_budget.py [PROGRAM]
 
@@ -39,11 +39,17 @@ EACH, REST = 262_144, 134_217_728
 LIMIT = BUDGET + STALLED * EACH + REST
 # Of heads that don't end: how many, of how many bytes, the least budget that a server takes, and what else they may take.
 HEADS, HEAD_BYTES, LEAST_BUDGET, HEADS_REST = 4_000, 16_000, 16_777_216, 67_108_864
+# How many come and go, how much of their memory may stay, and what has the C library keep nothing of what is given back: its caches of small pieces would
+# pin the rest.
+COMERS, STAYS = 3_000, 12_582_912
+KEEPS_NOTHING = "glibc.malloc.mxfast=0:glibc.malloc.tcache_count=0:glibc.malloc.trim_threshold=131072"
 # Of frames that wait: how many clients, with one message each of so many SENDs, so many at a time; how long a sync takes, in microseconds; what they
 # may take beside the budget.
 SENDERS, SENDS, WAVE, SYNC, WAITING_REST = 1_500, 600, 100, 100_000, 67_108_864
 # A wait of an honest client, and after how many seconds a client is given up that takes nothing.
 LONGEST_WAIT, TAKES_NOTHING = 1.0, 10
+# After so many seconds all who went are gone.
+GONE = 20
 
 
 class Limited(scenario.Broker):
@@ -201,6 +207,40 @@ def unfinished_heads(broker, checks):
         one.close()
 
 
+class Returning(scenario.Broker):
+    """The program over a C library that keeps nothing of what is given back."""
+
+    def serve(self):
+        before = os.environ.get("GLIBC_TUNABLES")
+        os.environ["GLIBC_TUNABLES"] = KEEPS_NOTHING
+        try:
+            super().serve()
+        finally:
+            os.environ.pop("GLIBC_TUNABLES")
+            if before is not None:
+                os.environ["GLIBC_TUNABLES"] = before
+
+
+def what_is_empty(broker, checks):
+    """what 3,000 clients took is given back once they have gone"""
+    before = broker.memory("VmRSS")
+    comers = [Client(broker.port, timeout=20).connect() for _ in range(COMERS)]
+    for number, one in enumerate(comers):
+        one.subscribe("s", f"/topic/{number % 100}")
+        one.publish("/topic/none", "x")
+    there = broker.memory("VmRSS") - before
+    checks.check("they take more than may stay", there * 1024 > 2 * STAYS, f"{there >> 10} MiB")
+    for one in comers:
+        one.close()
+    deadline = time.monotonic() + GONE
+    stays = there
+    while stays * 1024 > STAYS and time.monotonic() < deadline:
+        time.sleep(0.5)
+        stays = broker.memory("VmRSS") - before
+    checks.check(f"at most {STAYS >> 20} MiB stay", stays * 1024 <= STAYS, f"{stays >> 10} MiB of {there >> 10}")
+    checks.tell(f"{COMERS} clients took {there >> 10} MiB, of which {stays >> 10} stay")
+
+
 def frames_that_wait(broker, checks):
     """frames that find the ring full count: those who hold most are given up, and give up what waits"""
     senders = [Client(broker.port, timeout=60) for _ in range(SENDERS)]
@@ -239,6 +279,8 @@ def main():
         scenario.try_one(reads_nothing, broker, checks)
     with scenario.serving(program, kind=with_least_budget) as broker:
         scenario.try_one(unfinished_heads, broker, checks)
+    with scenario.serving(program, kind=Returning) as broker:
+        scenario.try_one(what_is_empty, broker, checks)
     with scenario.serving(program, kind=Slow) as broker:
         scenario.try_one(frames_that_wait, broker, checks)
     checks.tell(f"{time.monotonic() - start:.1f} s")

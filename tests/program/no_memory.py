@@ -14,8 +14,10 @@ is refused, then the second, and so on until a run meets no refusal.
 
 The tests are built by `rt test`, which proves them if they changed. A growth is refused by tests/program/refuse_memory.c, a library that is loaded
 before the C library. With --rt N the toolchain's own runner (`rt try --test --fail-alloc N`) refuses the growth of that number too, and must
-see the same; it compiles the tests anew for each number, which takes it half a minute and more. PROGRAM is not looked at: it is there so
-that all scripts beside the gate are called alike. Needs Python 3, `rt` and a C compiler.
+see the same; it compiles the tests anew for each number, which takes it half a minute and more.
+
+PROGRAM, or else bin/stompd, runs a script likewise: it prints all, with status 0; or a front of that, with status 1 and `no memory`, or
+`J3 device failed` if the disk in memory was refused it. Needs Python 3, `rt` and a C compiler; the status is 2 if one of these can't be run.
 """
 
 import argparse
@@ -52,7 +54,7 @@ TESTS = {
     "flush_tests": (("Flusher::compact", "a_compaction_for_which_memory_is_refused_leaves_the_state"),),
     "hub_tests": (
         ("flush_loop", "a_flusher_that_is_refused_memory_stops_and_loses_nothing"),
-        ("Slot::turn", "a_worker_that_is_refused_memory_sends_nothing_else"),
+        ("worker", "a_worker_that_is_refused_memory_sends_nothing_else"),
     ),
     "tool_tests": (("run_script", "a_script_that_is_refused_memory_prints_a_front_of_what_it_would"),),
 }
@@ -64,6 +66,17 @@ WORDS = ("whole", "refused", "unseen")
 
 # With this status a script says that it lacks a package.
 LACKS = 2
+
+# What PROGRAM runs, and what it says if it is refused memory.
+SCRIPT = b"""0 CONNECT%0Aaccept-version:1.2%0A%0A%00
+0 SUBSCRIBE%0Aid:a%0Adestination:/queue/a%0Aack:client%0A%0A%00
+1 CONNECT%0Aaccept-version:1.2%0A%0A%00
+1 SEND%0Adestination:/queue/a%0Areceipt:r%0A%0Ahi%00
+flush
+0 ACK%0Aid:0%0A%0A%00
+open
+"""
+REFUSALS = (b"stompd: no memory\n", b"stompd: J3 device failed\n")
 
 
 class Refusing:
@@ -113,6 +126,9 @@ def refuse_each(refusing, test):
 
 def built_tests(crate):
     """The program with the tests of a crate, which `rt test` proves and builds."""
+    if not shutil.which("rt"):
+        print("no_memory: rt is missing", file=sys.stderr)
+        sys.exit(LACKS)
     words = [RT, "test"]
     ran = subprocess.run(words, cwd=TOP / "crates" / crate, capture_output=True, text=True, errors="replace")
     if ran.returncode:
@@ -128,6 +144,37 @@ def built_library(folder):
     library = folder / "refuse_memory.so"
     subprocess.run([compiler, "-O1", "-fPIC", "-shared", "-o", library, LIBRARY], check=True)
     return library
+
+
+def script_of(program, env):
+    try:
+        return subprocess.run([program, "script"], input=SCRIPT, env=env, capture_output=True, timeout=60)
+    except OSError as error:
+        print(f"no_memory: {program} can't be run: {error}", file=sys.stderr)
+        sys.exit(LACKS)
+
+
+def refuse_script(program, library, folder):
+    """Refuses each growth of the program in turn while it runs a script: how many were refused, and what was wrong, by the growth's number."""
+    counted = folder / "counted"
+    counted.write_bytes(bytes(mmap.PAGESIZE))
+    whole = script_of(program, None)
+    wrong = {} if whole.returncode == 0 and whole.stdout else {0: f"nothing was refused, and it says {whole.stderr}"}
+    refused = 0
+    for number in range(1, MOST):
+        counted.write_bytes(bytes(mmap.PAGESIZE))
+        ran = script_of(program, {"LD_PRELOAD": str(library), "COUNTED": str(counted), "REFUSED": str(number)})
+        is_whole = (ran.returncode, ran.stdout, ran.stderr) == (0, whole.stdout, b"")
+        if struct.unpack("=q", counted.read_bytes()[:8])[0] < number:
+            if not is_whole or not refused:
+                wrong[number] = f"refused {refused}, and at last status {ran.returncode}: {ran.stderr}"
+            return refused, wrong
+        is_front = ran.returncode == 1 and whole.stdout.startswith(ran.stdout) and ran.stderr in REFUSALS
+        refused += is_front
+        if not is_whole and not is_front:
+            wrong[number] = f"status {ran.returncode}: {ran.stdout} {ran.stderr}"
+    wrong[MOST] = "it has more growths"
+    return refused, wrong
 
 
 def words_of_rt(crate, number):
@@ -147,6 +194,11 @@ def main():
     with tempfile.TemporaryDirectory(prefix="no-memory-") as room:
         folder = pathlib.Path(room)
         library = built_library(folder)
+        refused, wrong = refuse_script(given.program or TOP / "bin" / "stompd", library, folder)
+        failed += len(wrong)
+        print(f"the program's script: {refused} growths refused, each in a run of its own", flush=True)
+        for number, word in wrong.items():
+            print(f"no_memory: the program's script: growth {number}: {word}", file=sys.stderr)
         for crate, tests in TESTS.items():
             if given.only not in crate:
                 continue

@@ -8,6 +8,7 @@ they allow; and lawful clients whose names would fill its journal are closed, an
 """
 
 import contextlib
+import datetime
 import pathlib
 import re
 import resource
@@ -61,6 +62,17 @@ class Server:
             if found or time.monotonic() > end:
                 return found
             time.sleep(0.05)
+
+
+def by_the_clock(when):
+    """A moment of Python's own count, in seconds since 1970."""
+    return time.time() - (time.monotonic() - when)
+
+
+def moment_of(line):
+    """The moment that a line tells, in seconds since 1970."""
+    told = datetime.datetime.strptime(LINE.fullmatch(line).group(1), "%Y-%m-%dT%H:%M:%SZ")
+    return told.replace(tzinfo=datetime.timezone.utc).timestamp()
 
 
 @contextlib.contextmanager
@@ -128,6 +140,8 @@ def names(program, checks):
             client.to_the_end()
         checks.check("E12 is told", server.told("(E12)", 20), server.lines)
         checks.check("each line is one of ours", all(LINE.fullmatch(line) for _, line in server.lines), server.lines)
+        late = [by_the_clock(when) - moment_of(line) for when, line in server.lines if LINE.fullmatch(line)]
+        checks.check("and its moment is the clock's", all(0 <= it <= 2 for it in late), (late, server.lines))
         checks.check("and has no byte of a client", not any("secret" in line or "forged" in line for _, line in server.lines), server.lines)
 
 

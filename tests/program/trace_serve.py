@@ -14,6 +14,7 @@ docs/JOURNAL.md says. No contract can know this. Needs strace and Python 3 alone
 - No CONNECTED, RECEIPT or MESSAGE leaves a socket before the sync after the gate of its command's block.
 """
 
+import collections
 import os
 import pathlib
 import re
@@ -255,6 +256,9 @@ def durable(journal, gate, count):
     return found
 
 
+# The kinds of the records that these clients cause.
+OPEN, SEND, SUBSCRIBE, END = 1, 2, 3, 9
+
 # What a frame that leaves a socket says: of which command it is.
 SPOKEN = re.compile(rb"(?:CONNECTED\n[^\0]*?session:(\d+)|RECEIPT\nreceipt-id:([^\n]+)|MESSAGE\n[^\0]*?message-id:(\d+)\.)")
 
@@ -309,6 +313,22 @@ def many_at_once(port):
     return {f"s{place}".encode() for place in range(4)} | {f"m{place}-{n}".encode() for place in range(4) for n in range(80)}
 
 
+def frames_for(found):
+    """How many frames these commands ask for: one for each session and receipt, and one of each SEND for each subscription before it, as long as
+    that has its session."""
+    frames, listeners = 0, collections.Counter()
+    for kind, receipt, data, _, _ in found:
+        session = int.from_bytes(data[:8], "big")
+        frames += (kind == OPEN) + (receipt is not None)
+        if kind == SUBSCRIBE:
+            listeners[session] += 1
+        elif kind == SEND:
+            frames += sum(listeners.values())
+        elif kind == END:
+            del listeners[session]
+    return frames
+
+
 def held_state(count, messages):
     """The snapshot of so many commands, and these messages in a queue; no session, no subscription."""
     line = b"".join(
@@ -361,6 +381,8 @@ def second_run(program, folder, path):
     frames = heard(calls, found, journal)
     receipts = [receipt for _, receipt, *_ in found if receipt is not None]
     check(sorted(receipts) == sorted(asked), "the blocks hold other commands than what the clients asked for")
+    wanted = frames_for(found)
+    check(frames == wanted, f"{frames} frames left, and not {wanted}")
     count = len({line for *_, line in found})
     print(f"trace_serve: a start with 40 messages held, {len(found)} commands of four clients in {count} blocks, {frames} frames after them")
 
