@@ -152,7 +152,7 @@ impl<R: Wait + Clone + Drop> Server<R> {
         let mut flusher = hub.flusher().unwrap();
         let (ring, room) = hub.into_ring();
         let port = entrance.port;
-        match share(alloc, rt, ring, entrance, flusher.mark(), flusher.size()) {
+        match share(alloc, rt, ring, entrance, &flusher) {
             Ok((shared, acceptor, setups)) => {
                 count_audiences(&shared, &mut flusher)?;
                 Ok(Server {
@@ -323,8 +323,7 @@ fn share<R: Wait + Clone + Drop>(
     rt: &R,
     ring: ServerRing,
     entrance: Entrance,
-    mark: u64,
-    area: u64,
+    flusher: &ServerFlusher,
 ) -> Result<(Arc<Shared<R>>, Arc<Acceptor<R>>, Vec<WorkerSetup>), ServeFault>
     ensures ring { IfOk result (λ shares. (arc_value shares.0).ring ≡ ring) }
     ensures setups { IfOk result (λ shares. shares.2 ≡ entrance.setups) }
@@ -338,7 +337,7 @@ fn share<R: Wait + Clone + Drop>(
         mailboxes,
         setups,
     } = entrance;
-    let (wakeups, ending, log) = wakeups_of(alloc, rt, setups.as_slice(), mark)?;
+    let (wakeups, ending, log) = wakeups_of(alloc, rt, setups.as_slice(), flusher.mark())?;
     let memory = Memory::new(memory, mailboxes_again(alloc, &mailboxes)?);
     let acceptor = acceptor_of(alloc, rt, listener, mailboxes, most_clients, ending, log)?;
     let rt = rt.clone()?;
@@ -349,7 +348,7 @@ fn share<R: Wait + Clone + Drop>(
         wakeups,
         memory,
         pace: Pace::new(alloc, SEATS)?,
-        desk_bytes: desk_bytes(most_clients, area),
+        desk_bytes: desk_bytes(most_clients, flusher.size()),
     };
     let shared = shared_by(alloc, shared)?;
     Ok((shared, acceptor, setups))
