@@ -84,7 +84,7 @@ pub(crate) struct Partial {
 }
 
 impl Partial {
-    ghost use Rattle.std.specs.Prelude.{◌≡◌, ◌≢◌, ◌<◌, ◌≤◌, ◌+◌, ◌-◌, ◌++◌, ◌∷◌, [], if◌then◌else◌, List, ℕ, Some, None, OnOk, IfOk, IfErr, length, take, true, false};
+    ghost use Rattle.std.specs.Prelude.{◌≡◌, ◌≢◌, ◌<◌, ◌≤◌, ◌+◌, ◌-◌, ◌++◌, ◌∷◌, [], ◌^◌, if◌then◌else◌, List, ℕ, Some, None, OnOk, IfOk, IfErr, length, min, take, true, false};
     ghost use Rattle.std.specs.List.{AllByRecursion};
     ghost use Rattle.frame_core.specs.declared.partial.Stage.TheVariants.{Command, HeaderLines, Body};
     ghost use Rattle.frame_core.specs.declared.partial.Stop.TheVariants.{Memory};
@@ -109,7 +109,9 @@ impl Partial {
     }
 
     /// How many bytes it has.
-    pub(crate) fn len(&self) -> usize {
+    pub(crate) fn len(&self) -> usize
+        ensures { result ≡ min (length (bytes_of self.now)) (2 ^ 64 - 1) }
+    {
         self.head.len().saturating_add(self.body.len())
     }
 

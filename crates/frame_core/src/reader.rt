@@ -1,6 +1,6 @@
 //! A reader of frames that is fed in pieces.
 
-ghost use Rattle.std.specs.Prelude.{◌≡◌, ◌≢◌, ◌++◌, [], List, ℕ, true, false, MatchOption, OnOk, OnErr, IfOk, IfErr, flat_map};
+ghost use Rattle.std.specs.Prelude.{◌≡◌, ◌≢◌, ◌++◌, ◌-◌, ◌^◌, [], List, ℕ, true, false, MatchOption, OnOk, OnErr, IfOk, IfErr, flat_map, length, min};
 ghost use Rattle.frame_core.specs.Parts.{IsUnfinished};
 ghost use Rattle.frame_core.specs.Streams.{Frames, Reads, Fails};
 ghost use Rattle.frame_core.specs.Stops.{IfFault};
@@ -66,7 +66,9 @@ impl FrameReader {
     }
 
     /// How many bytes it keeps of a frame that is not finished.
-    pub fn len(&self) -> usize {
+    pub fn len(&self) -> usize
+        ensures { result ≡ min (length self.now.rest) (2 ^ 64 - 1) }
+    {
         self.partial.len()
     }
 

@@ -42,7 +42,7 @@ impl Model for Session {
 }
 
 impl Session {
-    ghost use Rattle.std.specs.Prelude.{◌≡◌, ◌≤◌, Bool, Err, IfOk, IfErr, IfSome, IsOk, OnErr};
+    ghost use Rattle.std.specs.Prelude.{◌≡◌, ◌+◌, ◌-◌, ◌^◌, Bool, Err, IfOk, IfErr, IfSome, IsOk, OnErr, length, min};
     ghost use Rattle.std.specs.List.{AllByRecursion};
     ghost use Rattle.session_core.specs.Sessions.{Hears, HasForm, after_loss, fresh, held_in, is_held, loss_of};
     ghost use Rattle.session_core.specs.declared.phase.Phase.TheVariants as phases;
@@ -92,7 +92,7 @@ impl Session {
 
     /// How many bytes it keeps of what its client said: those of the frame that isn't finished, and of the members of open transactions.
     pub fn held(&self) -> u64
-        ensures { held_in self.now.phase ≤ result }
+        ensures { result ≡ min (held_in self.now.phase + length self.now.rest) (2 ^ 64 - 1) }
     {
         self.phase.held().saturating_add(self.reader.len() as u64)
     }
