@@ -24,9 +24,11 @@ pub record SenderValue : Type 0 where
   pub given : List OutValue
   pub cut : Bool
 
--- The taking end: which box it is of; all that was taken, in order; and what was seen to wait, and so comes next.
+-- The taking end: which box it is of; how much that has room for; all that was taken, in order; and what was seen to wait, and so comes
+-- next.
 pub record TakerValue : Type 0 where
   pub box : BoxId
+  pub size : BoxSize
   pub taken : List OutValue
   pub seen : List OutValue
 

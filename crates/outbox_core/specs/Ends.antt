@@ -4,7 +4,7 @@ use Rattle.std.specs.List.{sum}
 use Rattle.std.specs.declared.alloc.Global.{Global}
 use Rattle.command_core.specs.Outs.{OutValue}
 use Rattle.rtrb.specs.Ends.{capacity_of}
-use Rattle.rtrb.specs.Ring.{producer_capacity, sent, received, known_items, all_sent}
+use Rattle.rtrb.specs.Ring.{consumer_capacity, producer_capacity, sent, received, known_items, all_sent}
 use Rattle.rtrb.specs.declared.consumer.Consumer.{Consumer}
 use Rattle.rtrb.specs.declared.end.End.{End}
 use Rattle.rtrb.specs.declared.finished.Finished.{Finished}
@@ -26,8 +26,9 @@ module _ {P Q : Type 0} where
   abbrev pub finished_value : Finished OutValue Global P → Consumer ℕ Global Q → BoxSize → GivenValue
   finished_value outputs credits size = record { box = box_of outputs.end credits.end; size = size; given = all_sent outputs }
 
-  abbrev pub taker_value : Consumer OutValue Global P → Producer ℕ Global Q → TakerValue
-  taker_value outputs credits = record { box = box_of outputs.end credits.end; taken = received outputs; seen = known_items outputs }
+  abbrev pub taker_value : Consumer OutValue Global P → Producer ℕ Global Q → ℕ → TakerValue
+  taker_value outputs credits bytes =
+      record { box = box_of outputs.end credits.end; size = record { outputs = consumer_capacity outputs; bytes = bytes }; taken = received outputs; seen = known_items outputs }
 
   -- How many bytes of an open box are free. What was given and the free bytes are together no fewer than the box's bytes, and no more than
   -- these with all credits.

@@ -11,6 +11,6 @@ TakesNothing old new = (new ≡ old) × (old.seen ≡ [])
 
 -- An item is taken: the first of what was seen to wait, if something was. Or nothing is taken.
 abbrev pub Takes : TakerValue → Taken → TakerValue → Type 0
-Takes old (Item out) new = (new.box ≡ old.box) × (new.taken ≡ old.taken ++ out ∷ []) × IsPrefix old.seen (out ∷ new.seen)
+Takes old (Item out) new = (new.box ≡ old.box) × (new.taken ≡ old.taken ++ out ∷ []) × IsPrefix old.seen (out ∷ new.seen) × (new.size ≡ old.size)
 Takes old Empty new = TakesNothing old new
 Takes old Cut new = TakesNothing old new

@@ -20,7 +20,7 @@ pub fn outbox<B: Bell>(
     size: BoxSize,
 ) -> Result<(OutSender<B>, OutTaker), AllocError>
     ensures one_box { IfOk result (λ ends. ends.0.box ≡ ends.1.box) }
-    ensures size { IfOk result (λ ends. ends.0.size ≡ size) }
+    ensures size { IfOk result (λ ends. (ends.0.size ≡ size) × (ends.1.size ≡ size)) }
     ensures sender { IfOk result (λ ends. (ends.0.given ≡ []) × (ends.0.cut ≡ false)) }
     ensures taker { IfOk result (λ ends. (ends.1.taken ≡ []) × (ends.1.seen ≡ [])) }
 {
@@ -44,7 +44,7 @@ pub fn outbox<B: Bell>(
         outputs: taken,
         credits: told,
         owed: 0,
-        share: size.bytes / 32 + 1,
+        bytes: size.bytes,
         given: seen,
         took: 0,
     };

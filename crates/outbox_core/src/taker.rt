@@ -2,7 +2,7 @@
 
 ghost use Rattle.std.specs.Prelude.{◌≡◌, ◌+◌, ◌≤◌, ◌++◌, length, false};
 ghost use Rattle.outbox_core.specs.Takes.{Takes};
-ghost use Rattle.outbox_core.specs.Weights.{Fits, weight_of};
+ghost use Rattle.outbox_core.specs.Weights.{Fits, most_waiting, weight_of};
 
 use crate::bell::Bell;
 use crate::finished::Finished;
@@ -13,6 +13,9 @@ use rtrb::{Consumer, Producer};
 use std::marker::Model;
 use std::sync::Arc;
 use std::sync::atomic::{AtomicU64, Ordering};
+
+// Once it is owed this part of a box's bytes, a taker reports what it took.
+const SHARES: u64 = 32;
 
 /// What a taker got.
 #[derive(Drop)]
@@ -25,8 +28,8 @@ pub enum Taken {
     Cut,
 }
 
-/// The end of an outbox that takes. It can move to another thread. Contracts see which box it is, what was taken, and what
-/// was seen to wait.
+/// The end of an outbox that takes. It can move to another thread. Contracts see which box it is, its size, what was taken, and what was
+/// seen to wait.
 #[derive(Drop)]
 pub struct OutTaker {
     pub(crate) outputs: Consumer<Out>,
@@ -34,8 +37,8 @@ pub struct OutTaker {
     pub(crate) credits: Producer<u64>,
     // The bytes of what was taken that were not reported to the sending end yet.
     pub(crate) owed: u64,
-    // From this many bytes on, they are reported at once.
-    pub(crate) share: u64,
+    // How many bytes the box has room for.
+    pub(crate) bytes: u64,
     // How many bytes were given in all, and how many of them were taken.
     pub(crate) given: Arc<AtomicU64>,
     pub(crate) took: u64,
@@ -47,7 +50,7 @@ impl Model for OutTaker {
 
     ghost Value = { TakerValue };
 
-    ghost view = { λ a. taker_value a.outputs a.credits };
+    ghost view = { λ a. taker_value a.outputs a.credits a.bytes };
 
     ghost invariant = { λ a. Owes a.outputs a.credits a.owed };
 }
@@ -79,14 +82,27 @@ impl OutTaker {
         self.owed = owed_with(self.owed, &out);
         let kept = (self.owed - before).saturating_add(OUTPUT_BYTES);
         self.took = self.took.saturating_add(kept);
-        self.tell_from(self.share);
+        self.tell_from(self.bytes / SHARES + 1);
         Taken::Item(out)
     }
 
     /// How many bytes the waiting outputs take: those that the box counts, and 512 more for each. An output that is just being given may
-    /// not be counted yet. No clause says so, since the sending end counts what it gives in a thread of its own.
-    pub fn waiting(&self) -> u64 {
-        self.given.load(Ordering::SeqCst).saturating_sub(self.took)
+    /// not be counted yet. It is never more than the box has room for. No clause says more, since the sending end counts what it gives in a
+    /// thread of its own.
+    pub fn waiting(&self) -> u64
+        ensures { result ≤ most_waiting self.now.size }
+    {
+        let counted = self.given.load(Ordering::SeqCst);
+        counted.saturating_sub(self.took).min(self.most())
+    }
+
+    // How many bytes as many outputs take as the box has room for.
+    fn most(&self) -> u64
+        ensures { result ≤ most_waiting self.now.size }
+    {
+        let places = self.outputs.capacity() as u64;
+        self.bytes
+            .saturating_add(OUTPUT_BYTES.saturating_mul(places))
     }
 
     // Reports to the sending end what was taken, if that is at least `least` bytes and there is room for the report.
@@ -107,7 +123,7 @@ impl OutTaker {
         ensures all { self.new.taken ++ self.new.seen ≡ sender.new.given }
         ensures waits { result ≡ length self.new.seen }
         ensures fits { Fits sender.old.size self.new.seen }
-        ensures same { (self.new.box ≡ self.old.box) × (self.new.taken ≡ self.old.taken) }
+        ensures same { self.new ≡ record self.old { seen = self.new.seen } }
         ensures sender { sender.new ≡ sender.old }
     {
         match &mut sender.end {
@@ -125,7 +141,7 @@ impl OutTaker {
         ensures all { self.new.taken ++ self.new.seen ≡ finished.given }
         ensures waits { result ≡ length self.new.seen }
         ensures fits { Fits finished.size self.new.seen }
-        ensures same { (self.new.box ≡ self.old.box) × (self.new.taken ≡ self.old.taken) }
+        ensures same { self.new ≡ record self.old { seen = self.new.seen } }
     {
         let mut finished = finished;
         finished.credits.slots_beside(&mut self.credits);

@@ -14,7 +14,7 @@ returns c =
     let took = c.in-Ok.ensures.ok in
     let told = c.self.inside.credits in
     subst (λ (v : TakerValue). Takes c.args.self.now (Item c.in-Ok.out) v) (sym c.tell_from-3.ensures)
-    (subst (λ (v : TakerValue). Takes v (Item c.in-Ok.out) (taker_value c.pop.new.self told)) c.self.view_is (
+    (subst (λ (v : TakerValue). Takes v (Item c.in-Ok.out) (taker_value c.pop.new.self told c.self.inside.bytes)) c.self.view_is (
       λ i. record {
         outputs = record {
           words = (ring.0.0 ∙ looked.0.0.0) i;
@@ -25,4 +25,5 @@ returns c =
       },
       took.0 ∙ ap (λ (l : List OutValue). l ++ c.in-Ok.out ∷ []) looked.1,
       front_of_front _ _ _ looked.2 took.1,
+      λ i. record { outputs = (ring.1 ∙ looked.0.1) i; bytes = c.self.inside.bytes },
     ))
