@@ -1,5 +1,5 @@
 -- What contracts see of a connection, and what its calls do.
-use Rattle.std.specs.Prelude.{◌≡◌, ◌∷◌, ℕ, List, [], Option, Some, None, cond}
+use Rattle.std.specs.Prelude.{◌≡◌, ◌+◌, ◌∷◌, ℕ, List, [], Option, Some, None, cond, length}
 use Rattle.command_core.specs.Commands.{CommandValue}
 use Rattle.command_core.specs.declared.command.End.TheVariants as ends
 use Rattle.command_core.specs.declared.command.Op.{Op}
@@ -11,10 +11,11 @@ use Rattle.session_core.specs.declared.act.Act.TheVariants.{Do, Direct, Close}
 use Rattle.session_core.specs.declared.act.CloseCode.{CloseCode}
 use Rattle.session_core.specs.declared.act.CloseCode.TheVariants.{NormalClosure, ProtocolError}
 use Rattle.session_core.specs.declared.phase.Phase.TheVariants.{Failed}
-use Rattle.session_core.specs.Sessions.{HasForm, Hearing, Hears, fresh, is_held}
+use Rattle.session_core.specs.Sessions.{HasForm, Hearing, Hears, fresh, held_in, is_held}
 use Rattle.connection_core.specs.Conversations.{IsNext, after, asked, over, said_of}
 use Rattle.connection_core.specs.Stages.{given_up, lost, rested}
 use Rattle.connection_core.specs.Tasks.{Tasks, tasks, all_of}
+use Rattle.connection_core.specs.Weights.{weight_of_all}
 use Rattle.connection_core.specs.Footprints.{FootprintValue, none_standing, settled}
 use Rattle.connection_core.specs.declared.footprint.Cut.TheVariants as cuts
 use Rattle.connection_core.specs.declared.said.Said.{Said}
@@ -39,6 +40,11 @@ pub record ConnectionValue : Type 0 where
 -- one that has heard nothing, and asked for nothing, at a desk whose sessions may have so many bytes
 abbrev pub unheard : ℕ → ConnectionValue
 unheard limit = record { session = fresh; acts = tasks None []; progress = New; footprint = none_standing limit; last = None; stage = Running }
+
+-- how many bytes it keeps of what its client said: the frame that isn't finished, the members of open transactions, and what is still to
+-- be done
+abbrev pub kept_in : ConnectionValue → ℕ
+kept_in c = length c.session.rest + held_in c.session.phase + weight_of_all (all_of c.acts)
 
 -- its client may be heard: nothing else is to be done first
 abbrev pub Listens : ConnectionValue → Type 0

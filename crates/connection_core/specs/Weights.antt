@@ -1,5 +1,5 @@
 -- What acts count for while they wait.
-use Rattle.std.specs.Prelude.{◌≡◌, ◌+◌, ◌*◌, ◌-◌, ◌^◌, ◌⊎◌, ℕ, List, Option, length}
+use Rattle.std.specs.Prelude.{◌+◌, ◌*◌, ℕ, List, Option, length}
 use Rattle.std.specs.List.{sum_by}
 use Rattle.command_core.specs.Sizes.{op_size}
 use Rattle.command_core.specs.declared.command.Op.{Op}
@@ -36,7 +36,3 @@ weight_of (Close code) = 512
 
 abbrev pub weight_of_all : List Act → ℕ
 weight_of_all acts = sum_by weight_of acts
-
--- the sum that is kept of what acts count for: exactly that, unless it was 2^64 - 1 or more
-abbrev pub IsWeight : ℕ → List Act → Type 0
-IsWeight bytes acts = (bytes ≡ weight_of_all acts) ⊎ (bytes ≡ 2 ^ 64 - 1)

@@ -1,11 +1,11 @@
 //! What a session has asked for that is still to be done.
 
-ghost use Rattle.std.specs.Prelude.{◌≡◌, ◌≢◌, ◌≤◌, ◌<◌, ◌+◌, ◌-◌, ◌^◌, ◌++◌, [], None, Some, true, false, option_to_list, IfSome};
+ghost use Rattle.std.specs.Prelude.{◌≡◌, ◌≢◌, ◌≤◌, ◌-◌, ◌^◌, ◌++◌, [], None, Some, true, false, min, option_to_list, IfSome};
 ghost use Rattle.std.specs.List.{AllByRecursion};
 ghost use Rattle.std.specs.VecDeque.{deque_capacity};
 ghost use Rattle.session_core.specs.Sessions.{HasForm};
 ghost use Rattle.connection_core.specs.Tasks.{tasks, all_of};
-ghost use Rattle.connection_core.specs.Weights.{IsWeight};
+ghost use Rattle.connection_core.specs.Weights.{weight_of_all};
 
 use crate::weights::{weigh, weigh_all};
 use session_core::Act;
@@ -19,23 +19,23 @@ use std::marker::Model;
 pub(crate) struct Acts {
     again: Option<Act>,
     rest: VecDeque<Act>,
-    // What they count for.
-    bytes: u64,
+    // What they count for, which a list that fits into memory can't make pass a u128.
+    bytes: u128,
 }
 
 impl Model for Acts {
-    ghost use Rattle.std.specs.Prelude.{◌≡◌, ◌++◌, []};
+    ghost use Rattle.std.specs.Prelude.{◌≡◌, ◌≤◌, ◌^◌, ◌++◌, []};
     ghost use Rattle.std.specs.List.{AllByRecursion};
     ghost use Rattle.std.specs.VecDeque.{deque_capacity};
     ghost use Rattle.session_core.specs.Sessions.{HasForm};
     ghost use Rattle.connection_core.specs.Tasks.{Tasks, tasks, all_of};
-    ghost use Rattle.connection_core.specs.Weights.{IsWeight};
+    ghost use Rattle.connection_core.specs.Weights.{weight_of_all};
 
     ghost Value = { Tasks };
 
     ghost view = { λ a. tasks a.again a.rest.items };
 
-    ghost invariant = { λ a. AllByRecursion HasForm (all_of (tasks a.again a.rest.items)) × IsWeight a.bytes (all_of (tasks a.again a.rest.items)) × (a.rest.items ≡ [] → deque_capacity a.rest ≡ 0) };
+    ghost invariant = { λ a. AllByRecursion HasForm (all_of (tasks a.again a.rest.items)) × (a.bytes ≡ weight_of_all (all_of (tasks a.again a.rest.items))) × (weight_of_all a.rest.items ≤ 2 ^ 96) × (a.rest.items ≡ [] → deque_capacity a.rest ≡ 0) };
 }
 
 impl Acts {
@@ -75,9 +75,9 @@ impl Acts {
 
     // What they count for, or 2^64 - 1 if that is less.
     pub(crate) fn bytes(&self) -> u64
-        ensures { IsWeight result (all_of self.now) }
+        ensures { result ≡ min (weight_of_all (all_of self.now)) (2 ^ 64 - 1) }
     {
-        self.bytes
+        self.bytes.min(u64::MAX as u128) as u64
     }
 
     pub(crate) fn next(&mut self) -> Option<Act>
@@ -87,7 +87,7 @@ impl Acts {
         ensures form { IfSome result HasForm }
     {
         let act = take_first(&mut self.again, &mut self.rest)?;
-        self.bytes = less(self.bytes, weigh(&act));
+        self.bytes -= weigh(&act) as u128;
         Some(act)
     }
 
@@ -97,7 +97,7 @@ impl Acts {
         requires first { self.old.again ≡ None }
         ensures { self.new ≡ record self.old { again = Some act } }
     {
-        self.bytes = self.bytes.saturating_add(weigh(&act));
+        self.bytes += weigh(&act) as u128;
         drop(self.again.replace(act));
     }
 }
@@ -107,6 +107,7 @@ fn take_first(again: &mut Option<Act>, rest: &mut VecDeque<Act>) -> Option<Act>
     ensures next { all_of (tasks again.old rest.old.items) ≡ option_to_list result ++ all_of (tasks again.new rest.new.items) }
     ensures none { result ≡ None → all_of (tasks again.old rest.old.items) ≡ [] }
     ensures first { again.new ≡ None }
+    ensures light { weight_of_all rest.new.items ≤ weight_of_all rest.old.items }
     ensures empty { rest.new.items ≡ [] → deque_capacity rest.new ≡ 0 }
 {
     let act = match again.take() {
@@ -125,15 +126,4 @@ fn give_back(rest: &mut VecDeque<Act>)
     if rest.is_empty() {
         rest.shrink_to_fit();
     }
-}
-
-// What is left of the sum: one that has reached 2^64 - 1 stays.
-fn less(bytes: u64, of: u64) -> u64
-    ensures exact { of ≤ bytes → bytes < 2 ^ 64 - 1 → result + of ≡ bytes }
-    ensures full { bytes ≡ 2 ^ 64 - 1 → result ≡ bytes }
-{
-    if bytes == u64::MAX {
-        return bytes;
-    }
-    bytes.saturating_sub(of)
 }

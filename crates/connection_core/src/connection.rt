@@ -48,14 +48,14 @@ impl Connection {
     ghost use Rattle.std.specs.Prelude.{◌<◌, ◌≤◌, ◌+◌, ◌-◌, ◌^◌, ◌++◌, min, [], List, ℕ, Some, None, IfSome, OnOk, OnErr, true, false};
     ghost use Rattle.session_core.specs.declared.act.Act.{Act};
     ghost use Rattle.session_core.specs.declared.act.Act.TheVariants as acts;
-    ghost use Rattle.session_core.specs.Sessions.{HasForm, held_in};
-    ghost use Rattle.connection_core.specs.Connections.{Asks, Fails, HasWantedForm, HearsBytes, IsSent, Listens, Takes, Wants, closed_by, evicted, filled, unheard, with_appended, with_given_up, with_lost, with_room};
+    ghost use Rattle.session_core.specs.Sessions.{HasForm};
+    ghost use Rattle.connection_core.specs.Connections.{Asks, Fails, HasWantedForm, HearsBytes, IsSent, Listens, Takes, Wants, closed_by, evicted, filled, kept_in, unheard, with_appended, with_given_up, with_lost, with_room};
     ghost use Rattle.connection_core.specs.Conversations.{number_in, over};
     ghost use Rattle.connection_core.specs.Footprints.{IsFootprint, charged, spent, total};
     ghost use Rattle.connection_core.specs.Histories.{HasHeard, Went};
     ghost use Rattle.connection_core.specs.Stages.{parted, stopped};
     ghost use Rattle.connection_core.specs.Tasks.{all_of, tasks};
-    ghost use Rattle.connection_core.specs.Weights.{IsWeight, weight_of_all};
+    ghost use Rattle.connection_core.specs.Weights.{weight_of_all};
     ghost use Rattle.connection_core.specs.declared.stage.Stage.TheVariants.{Closing};
     ghost use Rattle.connection_core.specs.declared.ended.Ended.TheVariants as ended;
 
@@ -100,7 +100,7 @@ impl Connection {
     /// How many bytes it keeps of what its client said: those of the frame that isn't finished, of the members of open transactions, and
     /// what `waiting` says. 2^64 - 1 if they are more.
     pub fn held(&self) -> u64
-        ensures { min (held_in self.now.session.phase + weight_of_all (all_of self.now.acts)) (2 ^ 64 - 1) ≤ result }
+        ensures { result ≡ min (kept_in self.now) (2 ^ 64 - 1) }
     {
         self.session.held().saturating_add(self.acts.bytes())
     }
@@ -108,7 +108,7 @@ impl Connection {
     /// How many bytes its acts count for that are still to be done: 512 for each, its record, and 128 for each header. 2^64 - 1 if they
     /// are more.
     pub fn waiting(&self) -> u64
-        ensures { IsWeight result (all_of self.now.acts) }
+        ensures { result ≡ min (weight_of_all (all_of self.now.acts)) (2 ^ 64 - 1) }
     {
         self.acts.bytes()
     }

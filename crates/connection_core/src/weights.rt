@@ -1,6 +1,6 @@
 //! What acts count for while they wait.
 
-ghost use Rattle.std.specs.Prelude.{◌≡◌, ◌≤◌, ◌*◌, ◌^◌, ◌-◌, length, min};
+ghost use Rattle.std.specs.Prelude.{◌≡◌, ◌≤◌, ◌*◌, ◌^◌, length};
 ghost use Rattle.connection_core.specs.Weights.{headers_of_all, headers_of_member, headers_of_op, op_weight, weight_of, weight_of_all};
 
 use command_core::{Member, Op, op_size};
@@ -28,13 +28,14 @@ pub(crate) fn weigh(act: &Act) -> u64
     }
 }
 
-/// The bytes that these acts count for together, or 2^64 - 1 if that is less.
-pub(crate) fn weigh_all(acts: &[Act]) -> u64
-    ensures { result ≡ min (weight_of_all acts.now) (2 ^ 64 - 1) }
+/// The bytes that these acts count for together.
+pub(crate) fn weigh_all(acts: &[Act]) -> u128
+    ensures weight { result ≡ weight_of_all acts.now }
+    ensures small { result ≤ 2 ^ 96 }
 {
-    let mut bytes = 0u64;
+    let mut bytes = 0u128;
     for act in acts {
-        bytes = bytes.saturating_add(weigh(act));
+        bytes += weigh(act) as u128;
     }
     bytes
 }
