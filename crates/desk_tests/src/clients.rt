@@ -121,6 +121,10 @@ impl Link for Client {
         self.link.ping()
     }
 
+    fn held(&self) -> u64 {
+        0
+    }
+
     fn end(&mut self, reason: CloseReason) -> Result<(), LinkFault> {
         self.code = Some(reason.code());
         self.link.end(reason)

@@ -111,6 +111,10 @@ impl Link for ScriptedLink {
         self.link.ping()
     }
 
+    fn held(&self) -> u64 {
+        0
+    }
+
     fn end(&mut self, reason: CloseReason) -> Result<(), LinkFault> {
         if is_refused(&self.short_ends) {
             return Err(LinkFault::Memory);
@@ -158,6 +162,10 @@ impl Link for Endless {
 
     fn ping(&mut self) -> Result<(), LinkFault> {
         self.link.ping()
+    }
+
+    fn held(&self) -> u64 {
+        0
     }
 
     fn end(&mut self, reason: CloseReason) -> Result<(), LinkFault> {

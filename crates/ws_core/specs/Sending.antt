@@ -1,5 +1,5 @@
 -- What a send of a link does.
-use Rattle.std.specs.Prelude.{◌≡◌, ◌≢◌, ◌++◌, ◌∷◌, [], ℕ, List, Bool, not, Option, option_map, true, false}
+use Rattle.std.specs.Prelude.{◌≡◌, ◌≢◌, ◌⊎◌, ◌++◌, ◌∷◌, [], ℕ, List, Bool, not, Option, option_map, true, false}
 use Rattle.std.specs.Str.{IsUtf8}
 use Rattle.tungstenite.specs.Content.{Content, text, binary, ping, pong, close}
 use Rattle.tungstenite.specs.Connection.{write_step}
@@ -20,6 +20,12 @@ IsMessageOf bytes (binary b) = (b ≡ bytes) × ¬ (IsUtf8 bytes)
 IsMessageOf bytes (ping _) = ⊥
 IsMessageOf bytes (pong _) = ⊥
 IsMessageOf bytes (close _) = ⊥
+
+-- A link was pinged, unless it refused that, and then it was flushed. These are what the link's own calls do.
+pub record IsPinged {L : Type 0} (pings : L → L → Type 0) (refuses : L → L → LinkFault → Type 0) (flushes : L → L → Type 0) (old new : L) : Type 0 where
+  pub after : L
+  pub pinged : pings old after ⊎ ((fault : LinkFault) × refuses old after fault)
+  pub flushed : flushes after new
 
 module _ {S : Type 0} where
   -- The message is one frame more after what still waited (sections 5.2 and 5.6), of which the stream took what it would. A
@@ -56,3 +62,7 @@ module _ {S : Type 0} where
     pub gone : fault ≡ Gone
     pub over : new.phase ≡ phases.Over
     pub stays : old.phase ≡ phases.Over → new ≡ old
+
+  -- a flush was done so, or it failed
+  abbrev pub IsFlushed : (S → Option (List ℕ)) → Linked S → Linked S → Type 0
+  IsFlushed contents old new = ((all : Bool) × Flushes contents old new all) ⊎ ((fault : LinkFault) × Fails old new fault)

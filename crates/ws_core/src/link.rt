@@ -33,7 +33,7 @@ pub enum Received {
 ///
 /// A link may tell what was sent: then contracts see a list of the messages, to which only a send that answers Ok adds one. It may
 /// tell what was received: then they see all the bytes that reads gave, to which only a read adds. It may also tell what a refusal
-/// leaves, by its fault: then nobody can take one fault for another.
+/// leaves, by its fault: then nobody can take one fault for another. And it may tell what a flush does.
 pub trait Outgoing {
     ghost use Rattle.ws_core.specs.declared.fault.LinkFault.{LinkFault};
 
@@ -45,6 +45,9 @@ pub trait Outgoing {
 
     /// What a refusal with that fault leaves, if the link tells it: the link before the call, and after it.
     ghost refuses: { Self → Self → LinkFault → Type 0 } = { λ _ _ _. ⊤ };
+
+    /// What a flush does, if the link tells it: the link before the call, and after it.
+    ghost flushes: { Self → Self → Type 0 } = { λ _ _. ⊤ };
 
     /// Whether the stream has not taken all that it was last offered.
     ghost is_held_up: { Self → Bool } = { λ _. false };
@@ -67,6 +70,7 @@ pub trait Outgoing {
     fn flush(&mut self) -> Result<bool, LinkFault>
         ensures told { sent self.new ≡ sent self.old }
         ensures unread { received self.new ≡ received self.old }
+        ensures flushes { flushes self.old self.new }
         ensures rest { IfOk result (λ all. is_held_up self.new ≡ not all) }
         ensures gone { IfErr result (λ fault. fault ≡ LinkFault.Gone) };
 
@@ -76,8 +80,14 @@ pub trait Outgoing {
         ensures { result ≡ is_held_up self.now };
 }
 
-/// A connection to one client, which carries one STOMP stream each way.
+/// A connection to one client, which carries one STOMP stream each way. A link may tell what a ping does, and how much it keeps.
 pub trait Link: Outgoing {
+    /// What a ping that is Ok does, if the link tells it: the link before the call, and after it.
+    ghost pings: { Self → Self → Type 0 } = { λ _ _. ⊤ };
+
+    /// That a link may say that it keeps so many bytes. One that doesn't tell this keeps none.
+    ghost keeps: { Self → ℕ → Type 0 } = { λ _ bytes. bytes ≡ 0 };
+
     /// Reads one message, or as much of it as there is. A link that was ended drops what comes, until the stream's end. A link that
     /// is over answers `Closed`.
     fn receive(&mut self, alloc: Global) -> Received
@@ -95,12 +105,13 @@ pub trait Link: Outgoing {
     fn ping(&mut self) -> Result<(), LinkFault>
         ensures told { Self.sent self.new ≡ Self.sent self.old }
         ensures unread { Self.received self.new ≡ Self.received self.old }
-        ensures memory { IfErr result (λ fault. fault ≡ LinkFault.Memory → self.new ≡ self.old) };
+        ensures pings { OnOk result (pings self.old self.new) }
+        ensures memory { IfErr result (λ fault. fault ≡ LinkFault.Memory → self.new ≡ self.old) }
+        ensures refused { IfErr result (λ fault. Self.refuses self.old self.new fault) };
 
     /// How many bytes it keeps, as far as it knows: those that wait to be written, and those of a message that isn't whole yet.
-    fn held(&self) -> u64 {
-        0
-    }
+    fn held(&self) -> u64
+        ensures { keeps self.now result };
 
     /// Says the close with that reason, after all that was sent, as far as the stream takes it; the rest leaves by later calls. From
     /// then on the link sends nothing, and `receive` hears the peer's close. A link that has answered `Failed` says nothing more and

@@ -94,6 +94,8 @@ impl Outgoing for MemLink {
 
     ghost refuses = { Forgoes };
 
+    ghost flushes = { λ old new. new ≡ old };
+
     fn send(&mut self, alloc: Global, released: &Released) -> Result<(), LinkFault>
         ensures ok { OnOk result ((self.old.over ≡ false) × (self.new ≡ with_sent self.old (written released.now.frame))) }
         ensures refused { OnErr result (self.new ≡ self.old) }
@@ -127,6 +129,8 @@ impl Link for MemLink {
     ghost use Rattle.frame_core.specs.Written.{written};
     ghost use Rattle.ws_core.specs.Memory.{Recalls, with_sent, ended};
 
+    ghost pings = { λ old new. (old.over ≡ false) × (new ≡ old) };
+
     fn receive(&mut self, _alloc: Global) -> Received
         ensures { Recalls self.old self.new result }
     {
@@ -157,6 +161,12 @@ impl Link for MemLink {
             return Err(LinkFault::Gone);
         }
         Ok(())
+    }
+
+    fn held(&self) -> u64
+        ensures { result ≡ 0 }
+    {
+        0
     }
 
     fn end(&mut self, _reason: CloseReason) -> Result<(), LinkFault>

@@ -174,9 +174,11 @@ impl<S: Read + Write + Drop> WsLink<S> {
 impl<S: Read + Write + Drop> Outgoing for WsLink<S> {
     ghost use Rattle.std.specs.Prelude.{◌≡◌, IfOk, OnOk, IfErr};
     ghost use Rattle.frame_core.specs.Written.{written};
-    ghost use Rattle.ws_core.specs.Sending.{Fails, Flushes, Sends, Refuses};
+    ghost use Rattle.ws_core.specs.Sending.{Fails, Flushes, IsFlushed, Sends, Refuses};
 
     ghost refuses = { Refuses };
+
+    ghost flushes = { IsFlushed S.contents };
 
     ghost is_held_up = { λ a. a.held_up };
 
@@ -222,6 +224,10 @@ impl<S: Read + Write + Ending + Drop> Link for WsLink<S> {
     ghost use Rattle.ws_core.specs.Links.{IsEnded, Keeps};
     ghost use Rattle.ws_core.specs.Receiving.{Receives};
     ghost use Rattle.ws_core.specs.Sending.{Pings, Sends, Refuses};
+
+    ghost pings = { Pings S.contents };
+
+    ghost keeps = { Keeps };
 
     fn receive(&mut self, alloc: Global) -> Received
         ensures { Receives S.remaining S.contents self.old self.new result }
