@@ -1,11 +1,12 @@
-use Rattle.std.specs.Prelude.{◌≡◌, ℕ, true, false, Result, Ok, Err}
+use Rattle.std.specs.Prelude.{◌≡◌, ◌++◌, ℕ, List, Option, true, false, Result, Ok, Err}
 use Rattle.command_core.specs.declared.command.Op.{Op}
+use Rattle.command_core.specs.Outs.{OutValue}
 use Rattle.broker_state.specs.declared.nack_rule.NackRule.{NackRule}
 use Rattle.broker_state.specs.Executing.{executed}
 use Rattle.broker_state.specs.HandOut.{Settling, settled}
 use Rattle.broker_state.specs.Sound.{IsSound}
 use Rattle.broker_state.specs.States.{BrokerValue, State, held_bytes, held_messages}
-use Rattle.broker_state.specs.Steps.{accepted_or_ended}
+use Rattle.broker_state.specs.Steps.{accepted_or_ended, answers, led_to}
 use Rattle.broker_tables.specs.Tables.{TablesValue}
 use Rattle.broker_core.specs.declared.fault.BrokerFault.{BrokerFault}
 use Rattle.broker_core.specs.declared.fault.BrokerFault.TheVariants.{Memory, Broken}
@@ -27,3 +28,7 @@ IsOutcome old new (Err Broken) = (old.broken ≡ true) × (new ≡ old)
 -- what an operation of an open session leads to with what is then handed out
 abbrev pub led_in_session : NackRule → State → ℕ → Op → Settling
 led_in_session rule s session op = settled (accepted_or_ended s session (executed rule s session op))
+
+-- what is handed out after an operation, and then what answers it
+abbrev pub outs_of : NackRule → State → ℕ → Option (List ℕ) → Op → List OutValue
+outs_of rule s session receipt op = (led_to rule s session op).outs ++ answers rule s session receipt op

@@ -1,21 +1,25 @@
-//! What a command answers to its own session.
+//! What a command answers to its own session. Each answer is made only if the outputs are kept.
 
-ghost use Rattle.std.specs.Prelude.{◌≡◌, ◌++◌, ◌∷◌, [], OnOk};
+ghost use Rattle.std.specs.Prelude.{◌≡◌, ◌∷◌, [], OnOk};
 ghost use Rattle.command_core.specs.Replies.{connected, error_frame};
 ghost use Rattle.broker_state.specs.Steps.{farewell, outs_to, receipts};
+ghost use Rattle.broker_tables.specs.Answers.{with_outs};
 
+use broker_tables::Answers;
 use command_core::{End, Fault, Out, connected_reply, error_reply, receipt_reply};
 use record_core::HeaderText;
 use std::alloc::{AllocError, Global};
 
 /// CONNECTED, to the session that the command of that number opens.
-pub fn answer_open(alloc: Global, number: u64, outs: &mut Vec<Out>) -> Result<(), AllocError>
-    ensures { OnOk result (outs.new.items ≡ outs.old.items ++ outs_to number number (connected number ∷ [])) }
+pub fn answer_open(alloc: Global, number: u64, answers: &mut Answers) -> Result<(), AllocError>
+    ensures { OnOk result (answers.new ≡ with_outs (outs_to number number (connected number ∷ [])) answers.old) }
 {
+    if !answers.are_kept() {
+        return Ok(());
+    }
     let frame = connected_reply(alloc, number)?;
     let out = Out::new(alloc, number, number, frame)?;
-    outs.push(out)?;
-    Ok(())
+    answers.add(out)
 }
 
 /// RECEIPT, if one was asked for.
@@ -24,16 +28,20 @@ pub fn answer_done(
     number: u64,
     session: u64,
     receipt: Option<HeaderText>,
-    outs: &mut Vec<Out>,
+    answers: &mut Answers,
 ) -> Result<(), AllocError>
-    ensures { OnOk result (outs.new.items ≡ outs.old.items ++ outs_to number session (receipts receipt)) }
+    ensures { OnOk result (answers.new ≡ with_outs (outs_to number session (receipts receipt)) answers.old) }
 {
-    if let Some(id) = receipt {
-        let frame = receipt_reply(alloc, id)?;
-        let out = Out::new(alloc, number, session, frame)?;
-        outs.push(out)?;
+    let Some(id) = receipt else {
+        return Ok(());
+    };
+    if !answers.are_kept() {
+        drop(id);
+        return Ok(());
     }
-    Ok(())
+    let frame = receipt_reply(alloc, id)?;
+    let out = Out::new(alloc, number, session, frame)?;
+    answers.add(out)
 }
 
 /// ERROR, with the receipt if one was asked for.
@@ -43,14 +51,17 @@ pub fn answer_refused(
     session: u64,
     fault: Fault,
     receipt: Option<HeaderText>,
-    outs: &mut Vec<Out>,
+    answers: &mut Answers,
 ) -> Result<(), AllocError>
-    ensures { OnOk result (outs.new.items ≡ outs.old.items ++ outs_to number session (error_frame fault receipt ∷ [])) }
+    ensures { OnOk result (answers.new ≡ with_outs (outs_to number session (error_frame fault receipt ∷ [])) answers.old) }
 {
+    if !answers.are_kept() {
+        drop(receipt);
+        return Ok(());
+    }
     let frame = error_reply(alloc, fault, receipt)?;
     let out = Out::new(alloc, number, session, frame)?;
-    outs.push(out)?;
-    Ok(())
+    answers.add(out)
 }
 
 /// What the end of a session answers.
@@ -60,13 +71,13 @@ pub fn answer_end(
     session: u64,
     end: End,
     receipt: Option<HeaderText>,
-    outs: &mut Vec<Out>,
+    answers: &mut Answers,
 ) -> Result<(), AllocError>
-    ensures { OnOk result (outs.new.items ≡ outs.old.items ++ outs_to number session (farewell end receipt)) }
+    ensures { OnOk result (answers.new ≡ with_outs (outs_to number session (farewell end receipt)) answers.old) }
 {
     match end {
-        End::Bye => answer_done(alloc, number, session, receipt, outs),
+        End::Bye => answer_done(alloc, number, session, receipt, answers),
         End::Lost => Ok(()),
-        End::Bad(fault) => answer_refused(alloc, number, session, fault, receipt, outs),
+        End::Bad(fault) => answer_refused(alloc, number, session, fault, receipt, answers),
     }
 }

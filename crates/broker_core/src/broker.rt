@@ -8,6 +8,7 @@ ghost use Rattle.broker_state.specs.PartsOf.{state_of_parts};
 ghost use Rattle.broker_state.specs.Sound.{IsSound};
 ghost use Rattle.broker_state.specs.States.{empty_state, held_messages, held_bytes};
 ghost use Rattle.broker_state.specs.declared.subscription.Subscription.{Subscription};
+ghost use Rattle.broker_tables.specs.Answers.{with_outs};
 ghost use Rattle.waiting_order.specs.Waiting.{subs_of};
 ghost use Rattle.broker_state.specs.Steps.{outs, outs_by, outs_v1, step, step_by, step_v1};
 
@@ -16,7 +17,7 @@ use crate::executing::execute;
 use crate::fault::BrokerFault;
 use broker_checks::{are_sound, held_of};
 use broker_state::{DurableName, GivenName, Held, NackRule, Parts, Subscription};
-use broker_tables::{SharedLines, Tables};
+use broker_tables::{Answers, SharedLines, Tables};
 use command_core::{Command, Out};
 use indexmap::map::Slice;
 use record_core::Dest;
@@ -77,7 +78,7 @@ impl Broker {
         ensures outs { IfOk result (λ given. given.items ≡ outs self.old.state command) }
         ensures outcome { IsOutcome self.old self.new result }
     {
-        self.step_by(alloc, NackRule::Keeps, command)
+        self.answer_by(alloc, NackRule::Keeps, command)
     }
 
     /// Carries out the command of the next number as `step` does, but for a NACK: it drops all messages that it settles, as
@@ -89,11 +90,26 @@ impl Broker {
         ensures outs { IfOk result (λ given. given.items ≡ outs_v1 self.old.state command) }
         ensures outcome { IsOutcome self.old self.new result }
     {
-        self.step_by(alloc, NackRule::Drops, command)
+        self.answer_by(alloc, NackRule::Drops, command)
     }
 
-    /// Carries out the command of the next number by that rule of NACK.
-    fn step_by(
+    /// Carries out the command of the next number once more, and makes no output: they were given out before a stop, or nobody
+    /// is there to hear them. A NACK goes by that rule. It answers `Memory` and `Broken` as `step` does.
+    pub fn repeat(
+        &mut self,
+        alloc: Global,
+        rule: NackRule,
+        command: Command,
+    ) -> Result<(), BrokerFault>
+        requires { self.old.state.count < 2 ^ 62 }
+        ensures state { OnOk result (self.new.state ≡ step_by rule self.old.state command) }
+        ensures outcome { IsOutcome self.old self.new result }
+    {
+        self.step_by(alloc, rule, command, &mut Answers::let_go())
+    }
+
+    /// Carries out the command of the next number by that rule of NACK, and answers its outputs.
+    fn answer_by(
         &mut self,
         alloc: Global,
         rule: NackRule,
@@ -104,13 +120,33 @@ impl Broker {
         ensures outs { IfOk result (λ given. given.items ≡ outs_by rule self.old.state command) }
         ensures outcome { IsOutcome self.old self.new result }
     {
+        let mut answers = Answers::kept(alloc);
+        match self.step_by(alloc, rule, command, &mut answers) {
+            Ok(()) => Ok(answers.into_outs(alloc)),
+            Err(fault) => Err(fault),
+        }
+    }
+
+    /// Carries out the command of the next number by that rule of NACK. Its outputs are made if they are kept.
+    fn step_by(
+        &mut self,
+        alloc: Global,
+        rule: NackRule,
+        command: Command,
+        answers: &mut Answers,
+    ) -> Result<(), BrokerFault>
+        requires { self.old.state.count < 2 ^ 62 }
+        ensures state { OnOk result (self.new.state ≡ step_by rule self.old.state command) }
+        ensures outs { OnOk result (answers.new ≡ with_outs (outs_by rule self.old.state command) answers.old) }
+        ensures outcome { IsOutcome self.old self.new result }
+    {
         if self.tables.is_broken() {
             return Err(BrokerFault::Broken);
         }
         have_few_members(command.op());
         let count = self.tables.count();
-        match execute(&mut self.tables, alloc, rule, command) {
-            Ok(given) => Ok(given),
+        match execute(&mut self.tables, alloc, rule, command, answers) {
+            Ok(()) => Ok(()),
             Err(refused) => {
                 self.tables.let_go(alloc, count);
                 Err(BrokerFault::Memory(refused))

@@ -8,42 +8,44 @@ ghost use Rattle.broker_state.specs.HandOut.{settled};
 ghost use Rattle.broker_state.specs.Executing.{executed};
 ghost use Rattle.broker_state.specs.Operations.{ended, opened};
 ghost use Rattle.broker_state.specs.Parts.{is_end, leaving};
-ghost use Rattle.broker_core.specs.Outcomes.{led_in_session};
-ghost use Rattle.broker_state.specs.Steps.{answers, is_opening, led_to, outs_by, outs_to, replies, step_by};
+ghost use Rattle.broker_core.specs.Outcomes.{led_in_session, outs_of};
+ghost use Rattle.broker_state.specs.Steps.{is_opening, led_to, outs_by, outs_to, replies, step_by};
+ghost use Rattle.broker_tables.specs.Answers.{with_outs};
 
 use crate::answers::{answer_done, answer_end, answer_open, answer_refused};
 use crate::committing::commit;
 use broker_state::NackRule;
-use broker_tables::Tables;
-use command_core::{Command, Fault, Op, Out};
+use broker_tables::{Answers, Tables};
+use command_core::{Command, Fault, Op};
 use record_core::HeaderText;
 use std::alloc::{AllocError, Global};
 
-/// Carries out the command whose number is how many were carried out before it, counts it, and answers its outputs. These
-/// are the MESSAGEs that it hands out, and then what answers it. A NACK goes by that rule. If memory is refused, the
-/// tables may be broken.
+/// Carries out the command whose number is how many were carried out before it, and counts it. Its outputs, if they are kept,
+/// are the MESSAGEs that it hands out, and then what answers it. A NACK goes by that rule. If memory is refused, the tables may
+/// be broken.
 pub fn execute(
     tables: &mut Tables,
     alloc: Global,
     rule: NackRule,
     command: Command,
-) -> Result<Vec<Out>, AllocError>
+    answers: &mut Answers,
+) -> Result<(), AllocError>
     requires small { tables.old.state.count < 2 ^ 62 }
     requires whole { tables.old.broken ≡ false }
     requires due { tables.old.due ≡ 0 }
     ensures state { OnOk result (tables.new.state ≡ step_by rule tables.old.state command) }
-    ensures outs { IfOk result (λ outs. outs.items ≡ outs_by rule tables.old.state command) }
+    ensures outs { OnOk result (answers.new ≡ with_outs (outs_by rule tables.old.state command) answers.old) }
     ensures whole { OnOk result (tables.new.broken ≡ false) }
     ensures due { OnOk result (tables.new.due ≡ 0) }
 {
     let number = tables.count();
     let (session, op, receipt) = command.into_parts();
-    let outs = match op {
-        Op::Open { client_id } => open(tables, alloc, client_id)?,
-        op => execute_if_open(tables, alloc, rule, session, op, receipt)?,
-    };
+    match op {
+        Op::Open { client_id } => open(tables, alloc, client_id, answers)?,
+        op => execute_if_open(tables, alloc, rule, session, op, receipt, answers)?,
+    }
     tables.set_count(number + 1);
-    Ok(outs)
+    Ok(())
 }
 
 /// An operation other than an Open is carried out, if its session is open.
@@ -54,20 +56,21 @@ fn execute_if_open(
     session: u64,
     op: Op,
     receipt: Option<HeaderText>,
-) -> Result<Vec<Out>, AllocError>
+    answers: &mut Answers,
+) -> Result<(), AllocError>
     requires form { IsOp op }
     requires other { is_opening op ≡ false }
     requires whole { tables.old.broken ≡ false }
     requires due { tables.old.due ≡ 0 }
     ensures state { OnOk result (tables.new.state ≡ (led_to rule tables.old.state session op).state) }
-    ensures outs { IfOk result (λ outs. outs.items ≡ (led_to rule tables.old.state session op).outs ++ answers rule tables.old.state session receipt op) }
+    ensures outs { OnOk result (answers.new ≡ with_outs (outs_of rule tables.old.state session receipt op) answers.old) }
     ensures whole { OnOk result (tables.new.broken ≡ false) }
     ensures due { OnOk result (tables.new.due ≡ 0) }
 {
     if !tables.sessions().contains_key(&session) {
-        return Ok(Vec::new(alloc));
+        return Ok(());
     }
-    execute_in_session(tables, alloc, rule, session, op, receipt)
+    execute_in_session(tables, alloc, rule, session, op, receipt, answers)
 }
 
 /// A session is opened.
@@ -75,20 +78,19 @@ fn open(
     tables: &mut Tables,
     alloc: Global,
     client_id: Option<HeaderText>,
-) -> Result<Vec<Out>, AllocError>
+    answers: &mut Answers,
+) -> Result<(), AllocError>
     requires form { IsGiven client_id }
     requires whole { tables.old.broken ≡ false }
     ensures state { OnOk result (tables.new.state ≡ (settled (opened tables.old.state client_id)).state) }
-    ensures outs { IfOk result (λ outs. outs.items ≡ (settled (opened tables.old.state client_id)).outs ++ outs_to tables.old.state.count tables.old.state.count (connected tables.old.state.count ∷ [])) }
+    ensures outs { OnOk result (answers.new ≡ with_outs ((settled (opened tables.old.state client_id)).outs ++ outs_to tables.old.state.count tables.old.state.count (connected tables.old.state.count ∷ [])) answers.old) }
     ensures whole { OnOk result (tables.new.broken ≡ false) }
     ensures due { OnOk result (tables.new.due ≡ 0) }
 {
     let number = tables.count();
     tables.open(client_id)?;
-    let mut outs = Vec::new(alloc);
-    tables.settle(alloc, &mut outs)?;
-    answer_open(alloc, number, &mut outs)?;
-    Ok(outs)
+    tables.settle(alloc, answers)?;
+    answer_open(alloc, number, answers)
 }
 
 /// An operation of an open session is carried out.
@@ -99,33 +101,31 @@ fn execute_in_session(
     session: u64,
     op: Op,
     receipt: Option<HeaderText>,
-) -> Result<Vec<Out>, AllocError>
+    answers: &mut Answers,
+) -> Result<(), AllocError>
     requires form { IsOp op }
     requires other { is_opening op ≡ false }
     requires whole { tables.old.broken ≡ false }
     ensures state { OnOk result (tables.new.state ≡ (led_in_session rule tables.old.state session op).state) }
-    ensures outs { IfOk result (λ outs. outs.items ≡ (led_in_session rule tables.old.state session op).outs ++ outs_to tables.old.state.count session (replies rule tables.old.state session op receipt)) }
+    ensures outs { OnOk result (answers.new ≡ with_outs ((led_in_session rule tables.old.state session op).outs ++ outs_to tables.old.state.count session (replies rule tables.old.state session op receipt)) answers.old) }
     ensures whole { OnOk result (tables.new.broken ≡ false) }
     ensures due { OnOk result (tables.new.due ≡ 0) }
 {
     let number = tables.count();
-    let mut outs = Vec::new(alloc);
     if let Op::End(end) = op {
-        end_and_settle(tables, alloc, session, &mut outs)?;
-        answer_end(alloc, number, session, end, receipt, &mut outs)?;
-        return Ok(outs);
+        end_and_settle(tables, alloc, session, answers)?;
+        return answer_end(alloc, number, session, end, receipt, answers);
     }
     match execute_operation(tables, alloc, rule, session, op)? {
         Ok(()) => {
-            tables.settle(alloc, &mut outs)?;
-            answer_done(alloc, number, session, receipt, &mut outs)?;
+            tables.settle(alloc, answers)?;
+            answer_done(alloc, number, session, receipt, answers)
         }
         Err(fault) => {
-            end_and_settle(tables, alloc, session, &mut outs)?;
-            answer_refused(alloc, number, session, fault, receipt, &mut outs)?;
+            end_and_settle(tables, alloc, session, answers)?;
+            answer_refused(alloc, number, session, fault, receipt, answers)
         }
     }
-    Ok(outs)
 }
 
 /// A session ends, and what waits is handed out.
@@ -133,16 +133,16 @@ fn end_and_settle(
     tables: &mut Tables,
     alloc: Global,
     session: u64,
-    outs: &mut Vec<Out>,
+    answers: &mut Answers,
 ) -> Result<(), AllocError>
     requires whole { tables.old.broken ≡ false }
     ensures state { OnOk result (tables.new.state ≡ (settled (ended tables.old.state session)).state) }
-    ensures outs { OnOk result (outs.new.items ≡ outs.old.items ++ (settled (ended tables.old.state session)).outs) }
+    ensures outs { OnOk result (answers.new ≡ with_outs (settled (ended tables.old.state session)).outs answers.old) }
     ensures whole { OnOk result (tables.new.broken ≡ false) }
     ensures due { OnOk result (tables.new.due ≡ 0) }
 {
     tables.end(alloc, session)?;
-    tables.settle(alloc, outs)
+    tables.settle(alloc, answers)
 }
 
 /// An operation of an open session other than its end is carried out, before anything is handed out. If it is refused, the

@@ -1,3 +1,4 @@
+mod Answering
 pub mod Awaiting
 pub mod Dues
 pub mod Handing

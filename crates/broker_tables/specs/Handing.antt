@@ -8,6 +8,7 @@ use Rattle.broker_state.specs.HandOut.{can_take, delivered, is_auto, message_out
 use Rattle.broker_state.specs.States.{bytes}
 use Rattle.broker_state.specs.Waiting.{Shared, left_line, left_shared, line_for}
 use Rattle.broker_tables.specs.declared.stock.Stock.{Stock}
+use Rattle.broker_tables.specs.Answers.{Answered, with_outs}
 use Rattle.broker_tables.specs.Returns.{HandFirst}
 use Rattle.broker_tables.specs.Stocks.{stocked}
 use Rattle.broker_state.specs.Parts.{IsFirst}
@@ -48,3 +49,9 @@ pub record IsServed (number : ℕ) (old : Stock) (key : Key) (new : Stock) (out 
   pub handed : IsHanded number old.next_delivery old.shared standing.sub old.held new.shared sub new.held out
   pub order : new.order ≡ record { all = remove old.order.all at ++ (key, record { ticket = old.order.next; sub = sub }) ∷ []; next = old.order.next + 1 }
   pub delivery : new.next_delivery ≡ old.next_delivery + 1
+
+-- the same, and its MESSAGE is kept, if the outputs are
+pub record Serves (number : ℕ) (old : Stock) (key : Key) (new : Stock) (earlier all : Answered) : Type 0 where
+  pub out : OutValue
+  pub served : IsServed number old key new out
+  pub answers : all ≡ with_outs (out ∷ []) earlier

@@ -1,3 +1,4 @@
+pub mod Answers
 pub mod Cursors
 pub mod Dues
 pub mod Handing

@@ -1,9 +1,9 @@
-use Rattle.std.specs.Prelude.{◌≡◌, ◌+◌, ◌++◌, ◌<◌, ◌≤◌, ◌^◌, List, [], ℕ, Option}
-use Rattle.command_core.specs.Outs.{OutValue}
+use Rattle.std.specs.Prelude.{◌≡◌, ◌+◌, ◌<◌, ◌≤◌, ◌^◌, List, [], ℕ, Option}
 use Rattle.broker_state.specs.HandOut.{settled}
 use Rattle.broker_state.specs.Names.{Name}
 use Rattle.broker_state.specs.States.{IsNext, State, held_bytes, held_messages}
 use Rattle.broker_tables.specs.declared.stock.Stock.{Stock}
+use Rattle.broker_tables.specs.Answers.{Answered, with_outs}
 use Rattle.waiting_order.specs.Waiting.{subs_of}
 
 -- the state that tables show
@@ -32,8 +32,8 @@ pub record IsStocked (stock : Stock) : Type 0 where
   pub deliveries : stock.next_delivery ≤ 2 ^ 63
   pub tickets : stock.order.next < 2 ^ 63 + stock.next_delivery
 
--- all that waited was handed out by the command of that number, and the MESSAGEs came
-abbrev pub HandsAll : ℕ → Stock → List OutValue → Stock → List OutValue → Type 0
-HandsAll number old outs new outs_after = (sessions : List (ℕ × Option (List ℕ))) (durables : List (Name × List ℕ))
+-- all that waited was handed out by the command of that number, and the MESSAGEs came, if they are kept
+abbrev pub HandsAll : ℕ → Stock → Answered → Stock → Answered → Type 0
+HandsAll number old earlier new all = (sessions : List (ℕ × Option (List ℕ))) (durables : List (Name × List ℕ))
     → (shown number sessions durables new ≡ (settled (shown number sessions durables old)).state)
-    × (outs_after ≡ outs ++ (settled (shown number sessions durables old)).outs)
+    × (all ≡ with_outs (settled (shown number sessions durables old)).outs earlier)

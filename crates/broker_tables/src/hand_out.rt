@@ -1,18 +1,21 @@
 //! What waits is handed out.
 
-ghost use Rattle.std.specs.Prelude.{◌≡◌, ◌+◌, ◌++◌, ◌≤◌, IfOk, OnOk, Some, drop, false, if◌then◌else◌, true};
+ghost use Rattle.std.specs.Prelude.{◌≡◌, ◌+◌, ◌≤◌, ◌∷◌, [], IfOk, OnOk, Some, drop, false, if◌then◌else◌, true};
 ghost use Rattle.line_core.specs.Flights.{IsOver};
 ghost use Rattle.line_core.specs.Lines.{first_of};
 ghost use Rattle.broker_state.specs.HandOut.{ack_of, delivered, is_auto, message_out, settled};
-ghost use Rattle.broker_state.specs.Lists.{is_none};
+ghost use Rattle.broker_state.specs.Lists.{changed, is_none};
 ghost use Rattle.broker_state.specs.States.{bytes, one};
 ghost use Rattle.broker_state.specs.Waiting.{left_line, line_for};
+ghost use Rattle.broker_tables.specs.Answers.{with_outs};
 ghost use Rattle.broker_tables.specs.Cursors.{AreAwaited, IsReady, NoneReady};
-ghost use Rattle.broker_tables.specs.Handing.{IsServed, LeavesLine, LetsGoIfAuto};
+ghost use Rattle.broker_tables.specs.Handing.{LeavesLine, LetsGoIfAuto, Serves};
 ghost use Rattle.broker_tables.specs.Places.{HoldsAtKey, StandsSo, with_changed};
 ghost use Rattle.broker_tables.specs.Stocks.{HandsAll, IsStocked};
 ghost use Rattle.broker_state.specs.declared.subscription.Subscription.{Subscription};
+ghost use Rattle.waiting_order.specs.Keeping.{kept_by};
 
+use crate::answers::Answers;
 use crate::cursors::Cursor;
 use crate::shared_lines::SharedLines;
 use crate::stock::Stock;
@@ -44,23 +47,29 @@ fn is_auto(sub: &Subscription) -> bool
     }
 }
 
-/// The MESSAGE that the command of that number hands to a subscription.
+/// The MESSAGE that the command of that number hands to a subscription is made, if the outputs are kept.
 fn reply(
     alloc: Global,
     number: u64,
     sub: &Subscription,
     delivery: u64,
     message: Message,
-) -> Result<Out, AllocError>
-    ensures { IfOk result (λ out. out ≡ message_out number sub.now delivery message) }
+    answers: &mut Answers,
+) -> Result<(), AllocError>
+    ensures { OnOk result (answers.new ≡ with_outs (message_out number sub.now delivery message ∷ []) answers.old) }
 {
+    if !answers.are_kept() {
+        drop(message);
+        return Ok(());
+    }
     let ack = ack_of(sub, delivery);
     let Message {
         number: name,
         sending,
     } = message;
     let frame = message_reply(alloc, &sub.id, name.command, name.place, ack, sending)?;
-    Out::new(alloc, number, sub.session, frame)
+    let out = Out::new(alloc, number, sub.session, frame)?;
+    answers.add(out)
 }
 
 /// Takes the least message for the subscription at that key out of its line, which has one. If memory is refused, that line
@@ -79,8 +88,29 @@ fn take_for(order: &mut Order, shared: &mut SharedLines, key: Key) -> Result<Mes
     shared.take_for(sub)
 }
 
-/// A message goes to the subscription at that key, by that number of its delivery. Gives the MESSAGE. With `auto` the message
-/// is held no more.
+/// A message goes to the subscription at that key, by that number of its delivery, and is unacknowledged from then on.
+fn hand_over(
+    alloc: Global,
+    number: u64,
+    order: &mut Order,
+    key: Key,
+    delivery: u64,
+    message: Message,
+    answers: &mut Answers,
+) -> Result<(), AllocError>
+    requires over { StandsSo order.old.all key (λ sub. IsOver delivery sub.unacknowledged) }
+    ensures answers { OnOk result (HoldsAtKey order.old.all key (λ at s. answers.new ≡ with_outs (message_out number s.sub delivery message ∷ []) answers.old)) }
+    ensures kept { OnOk result (HoldsAtKey order.old.all key (λ at s. order.new ≡ record order.old { all = changed at (kept_by delivery message) order.old.all })) }
+{
+    if !answers.are_kept() {
+        return order.keep(key, delivery, message);
+    }
+    let copy = message.clone()?;
+    reply(alloc, number, order.get(key), delivery, message, answers)?;
+    order.keep(key, delivery, copy)
+}
+
+/// A message goes to the subscription at that key, by that number of its delivery. With `auto` the message is held no more.
 fn deliver(
     alloc: Global,
     number: u64,
@@ -89,35 +119,39 @@ fn deliver(
     delivery: u64,
     message: Message,
     held: &mut Held,
-) -> Result<Out, AllocError>
+    answers: &mut Answers,
+) -> Result<(), AllocError>
     requires over { StandsSo order.old.all key (λ sub. IsOver delivery sub.unacknowledged) }
     requires held { (1 ≤ held.old.messages) × (bytes message ≤ held.old.bytes) }
-    ensures out { IfOk result (λ out. HoldsAtKey order.old.all key (λ at s. out ≡ message_out number s.sub delivery message)) }
+    ensures answers { OnOk result (HoldsAtKey order.old.all key (λ at s. answers.new ≡ with_outs (message_out number s.sub delivery message ∷ []) answers.old)) }
     ensures delivered { OnOk result (HoldsAtKey order.old.all key (λ at s. order.new ≡ with_changed at (λ sub. delivered sub delivery message) order.old)) }
     ensures held { OnOk result (HoldsAtKey order.old.all key (λ at s. LetsGoIfAuto s.sub message held.old held.new)) }
 {
     if is_auto(order.get(key)) {
         held.messages -= 1;
         held.bytes -= size(&message.sending) as u64;
-        return reply(alloc, number, order.get(key), delivery, message);
+        return reply(alloc, number, order.get(key), delivery, message, answers);
     }
-    let copy = message.clone()?;
-    let out = reply(alloc, number, order.get(key), delivery, message)?;
-    order.keep(key, delivery, copy)?;
-    Ok(out)
+    hand_over(alloc, number, order, key, delivery, message, answers)
 }
 
 impl Stock {
     /// The least message of the line of the subscription at that key, which has one, goes to the subscription, which then waits
-    /// last. Gives the MESSAGE. If memory is refused, part of it may be done.
-    fn serve(&mut self, alloc: Global, number: u64, key: Key) -> Result<Out, AllocError>
+    /// last. If memory is refused, part of it may be done.
+    fn serve(
+        &mut self,
+        alloc: Global,
+        number: u64,
+        key: Key,
+        answers: &mut Answers,
+    ) -> Result<(), AllocError>
         requires ready { IsReady self.old key }
         requires stocked { IsStocked self.old }
-        ensures served { IfOk result (λ out. IsServed number self.old key self.new out) }
+        ensures served { OnOk result (Serves number self.old key self.new answers.old answers.new) }
     {
         let delivery = self.next_delivery;
         let message = take_for(&mut self.order, &mut self.shared, key)?;
-        let out = deliver(
+        deliver(
             alloc,
             number,
             &mut self.order,
@@ -125,48 +159,49 @@ impl Stock {
             delivery,
             message,
             &mut self.held,
+            answers,
         )?;
         self.order.move_last(key);
         self.next_delivery = delivery + 1;
-        Ok(out)
+        Ok(())
     }
 
-    /// Hands out what waits, one delivery after another, until nothing can be handed out, and adds the MESSAGEs in their
-    /// order. If memory is refused, part of it may be done.
+    /// Hands out what waits, one delivery after another, until nothing can be handed out. The MESSAGEs come in their order, if
+    /// the outputs are kept. If memory is refused, part of it may be done.
     fn hand_out(
         &mut self,
         alloc: Global,
         number: u64,
         cursors: &mut Vec<Cursor>,
-        outs: &mut Vec<Out>,
+        answers: &mut Answers,
     ) -> Result<(), AllocError>
         requires awaited { AreAwaited cursors.old.items self.old }
         requires stocked { IsStocked self.old }
-        ensures settled { OnOk result (HandsAll number self.old outs.old.items self.new outs.new.items) }
+        ensures settled { OnOk result (HandsAll number self.old answers.old self.new answers.new) }
         ensures stocked { OnOk result (IsStocked self.new) }
         ensures none { OnOk result (NoneReady self.new) }
     {
         while let Some(key) = self.next_ready(cursors) {
             self.order.stand_in_order();
-            let out = self.serve(alloc, number, key)?;
-            outs.push(out)?;
+            self.serve(alloc, number, key, answers)?;
         }
         Ok(())
     }
 }
 
 impl Tables {
-    /// Hands out what waits, one delivery after another, until nothing can be handed out, and adds the MESSAGEs in their
-    /// order. Nothing is due then. If memory is refused, the tables may be broken.
-    pub fn settle(&mut self, alloc: Global, outs: &mut Vec<Out>) -> Result<(), AllocError>
+    /// Hands out what waits, one delivery after another, until nothing can be handed out. The MESSAGEs come in their order, if
+    /// the outputs are kept; else none is made. Nothing is due then. If memory is refused, the tables may be broken.
+    pub fn settle(&mut self, alloc: Global, answers: &mut Answers) -> Result<(), AllocError>
         requires whole { self.old.broken ≡ false }
         ensures state { OnOk result (self.new.state ≡ (settled self.old.state).state) }
-        ensures outs { OnOk result (outs.new.items ≡ outs.old.items ++ (settled self.old.state).outs) }
+        ensures outs { OnOk result (answers.new ≡ with_outs (settled self.old.state).outs answers.old) }
         ensures due { OnOk result (self.new.due ≡ 0) }
         ensures whole { OnOk result (self.new.broken ≡ false) }
     {
         self.broken = true;
-        self.stock.hand_out(alloc, self.count, &mut self.due, outs)?;
+        self.stock
+            .hand_out(alloc, self.count, &mut self.due, answers)?;
         self.due.clear();
         self.broken = false;
         Ok(())

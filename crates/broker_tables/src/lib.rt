@@ -3,6 +3,7 @@
 #![tactic(auto)]
 
 mod acknowledging;
+mod answers;
 mod cursors;
 mod due;
 mod durable_names;
@@ -16,6 +17,7 @@ mod stock;
 mod subscribing;
 mod tables;
 
+pub use answers::Answers;
 pub use refusing::{is_dropped, refused_size};
 pub use sending::{copies_to, find_room};
 pub use shared_lines::SharedLines;

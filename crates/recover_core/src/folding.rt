@@ -1,37 +1,30 @@
 //! Commands that were read are carried out again.
 
 ghost use Rattle.std.specs.Prelude.{◌≡◌, ◌<◌, ◌^◌, OnOk, IfErr, false};
-ghost use Rattle.broker_core.specs.Outcomes.{IsOutcome};
 ghost use Rattle.broker_core.specs.Steps.{step_by};
 ghost use Rattle.recover_core.specs.Opens.{IsFolded};
 ghost use Rattle.recover_core.specs.Standing.{rule_of};
 
 use area_core::Version;
 use broker_core::{Broker, BrokerFault};
-use command_core::{Command, Out};
+use broker_state::NackRule;
+use command_core::Command;
 use std::alloc::{AllocError, Global};
 
 /// A journal of more commands is not opened.
 pub(crate) const MOST_COUNTED: u64 = 1 << 61;
 
-// Carries out one command by the rule of that version.
-fn step_by(
-    alloc: Global,
-    broker: &mut Broker,
-    version: Version,
-    command: Command,
-) -> Result<Vec<Out>, BrokerFault>
-    requires count { broker.old.state.count < 2 ^ 62 }
-    ensures state { OnOk result (broker.new.state ≡ step_by (rule_of version) broker.old.state command) }
-    ensures outcome { IsOutcome broker.old broker.new result }
+// What a NACK does by that version.
+fn rule_of(version: Version) -> NackRule
+    ensures { result ≡ rule_of version }
 {
     match version {
-        Version::One => broker.step_v1(alloc, command),
-        Version::Two => broker.step(alloc, command),
+        Version::One => NackRule::Drops,
+        Version::Two => NackRule::Keeps,
     }
 }
 
-// Carries out one command and lets its outputs go: they were given out before the stop, or no client is there to hear them.
+// Carries out one command by the rule of that version, and makes no output.
 fn repeat(
     alloc: Global,
     broker: &mut Broker,
@@ -43,8 +36,8 @@ fn repeat(
     ensures state { OnOk result (broker.new.state ≡ step_by (rule_of version) broker.old.state command) }
     ensures whole { OnOk result (broker.new.broken ≡ false) }
 {
-    match step_by(alloc, broker, version, command) {
-        Ok(_) => Ok(()),
+    match broker.repeat(alloc, rule_of(version), command) {
+        Ok(()) => Ok(()),
         Err(BrokerFault::Memory(refused)) => Err(refused),
         Err(BrokerFault::Broken) => Err(AllocError),
     }

@@ -1,11 +1,10 @@
-use Rattle.std.proofs.Common.{rules, ◌≡◌, ◌-◌, ◌++◌, ◌∷◌, ◌∙◌, [], true, false, Some, ap, cond, slice_get, sym, ℕ}
-use Rattle.line_core.specs.declared.message.Message.{Message}
+use Rattle.std.proofs.Common.{◌≡◌, ◌-◌, ◌++◌, ◌∷◌, ◌∙◌, [], true, false, Some, ap, cond, slice_get, sym, ℕ}
 use Rattle.broker_state.specs.declared.subscription.Subscription.{Subscription}
-use Rattle.broker_state.specs.HandOut.{delivered, is_auto, message_out}
+use Rattle.broker_state.specs.HandOut.{delivered, is_auto}
 use Rattle.broker_state.specs.States.{bytes}
 use Rattle.waiting_order.specs.declared.standing.Standing.{Standing}
 use Rattle.waiting_order.specs.Keeping.{kept_by, with_sub}
-use Rattle.broker_tables.proofs.Waiters.{changed_alike, changed_none, on_ok}
+use Rattle.broker_tables.proofs.Waiters.{both_ok, changed_alike, changed_none, on_ok}
 use Rattle.broker_tables.proofs.hand_out.deliver.Goals as goal
 
 pub returns-then-is_auto-clause-delivered : goal.returns-then-is_auto-clause-delivered
@@ -24,19 +23,16 @@ returns c =
     let d = c.args.delivery in
     let held = c.args.held.now in
     let auto : (at : ℕ) (s : Standing) → slice_get o.all at ≡ Some (c.args.key, s) → is_auto s.sub.mode ≡ false = λ at s there. ap (λ (x : Subscription). is_auto x.mode) (sym (c.get.ensures.sub at s there)) ∙ sym c.is_auto.ensures ∙ c.if-is_auto.false in
-    let same_copy : c.in_ok-copy.copy ≡ m = search rules in
     record {
-      out = λ at s there. c.in_ok-out.ensures ∙ ap (λ (x : Subscription). message_out c.args.number x d m) (c.get-2.ensures.sub at s there);
-      delivered = λ at s there.
+      answers = c.hand_over.ensures.answers;
+      delivered = both_ok c.hand_over.result _ _ _ (λ kept _ at s there.
           let g : Subscription → Subscription = λ x. delivered x d m in
-          let same : record s.sub { unacknowledged = s.sub.unacknowledged ++ (d, c.in_ok-copy.copy) ∷ [] } ≡ g s.sub =
-          ap (λ (n : Message). record s.sub { unacknowledged = s.sub.unacknowledged ++ (d, n) ∷ [] }) same_copy
-          ∙ sym (ap (λ b. record s.sub { unacknowledged = cond b s.sub.unacknowledged (s.sub.unacknowledged ++ (d, m) ∷ []) }) (auto at s there)) in
-          c.in_ok-keep.ensures.ok at s there ∙ ap (λ l. record o { all = l }) (changed_alike (kept_by d c.in_ok-copy.copy) (with_sub g) o.all at (c.args.key, s) there (ap (λ (x : Subscription). (c.args.key, record s { sub = x })) same));
-      held = λ at s there. record {
+          let same : record s.sub { unacknowledged = s.sub.unacknowledged ++ (d, m) ∷ [] } ≡ g s.sub = sym (ap (λ b. record s.sub { unacknowledged = cond b s.sub.unacknowledged (s.sub.unacknowledged ++ (d, m) ∷ []) }) (auto at s there)) in
+          kept at s there ∙ ap (λ l. record o { all = l }) (changed_alike (kept_by d m) (with_sub g) o.all at (c.args.key, s) there (ap (λ (x : Subscription). (c.args.key, record s { sub = x })) same))) c.hand_over.ensures.kept c.hand_over.ensures.kept;
+      held = on_ok c.hand_over.result _ (λ at s there. record {
         messages = sym (ap (λ b. cond b (held.messages - 1) held.messages) (auto at s there));
         lighter = sym (ap (λ b. cond b (held.bytes - bytes m) held.bytes) (auto at s there));
-      };
+      });
     }
 
 pub returns-then-is_auto-clause-held : goal.returns-then-is_auto-clause-held

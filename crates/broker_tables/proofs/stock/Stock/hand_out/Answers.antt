@@ -1,31 +1,49 @@
-use Rattle.std.proofs.Common.{List, arith, subst, sym}
+use Rattle.std.proofs.Common.{◌++◌, ◌∷◌, ◌∙◌, [], List, ap, arith, refl, sym}
 use Rattle.command_core.specs.Outs.{OutValue}
-use Rattle.broker_state.specs.Settles.{SettlesSo}
+use Rattle.broker_tables.specs.Answers.{with_outs}
 use Rattle.broker_tables.specs.Stocks.{shown}
+use Rattle.broker_tables.proofs.Answering.{with_more, with_none}
 use Rattle.broker_tables.proofs.Settling.{fewer_wait, settles_all, settles_on, still_awaited, still_stocked}
 use Rattle.broker_tables.proofs.stock.Stock.hand_out.Goals as goal
 
+pub loop-key-init : goal.loop-key-init
+loop-key-init c = record {
+  awaited = c.requires.awaited;
+  stocked = c.requires.stocked;
+  way = record {
+    outs = [];
+    answers = sym (with_none c.args.answers.now);
+    settles = λ _ _. record { state = refl; all = refl; passed = tt };
+  };
+}
+
 pub loop-key-smaller : goal.loop-key-smaller
 loop-key-smaller c =
-    omega (arith, fewer_wait c.args.number c.loop-key.self c.serve.new.self c.in-Some.key c.in_ok-out.out c.in_ok-out.ensures.served c.loop-key.invariant.stocked)
+    let served = c.in_ok-serve.ensures.served in
+    omega (arith, fewer_wait c.args.number c.loop-key.self c.serve.new.self c.in-Some.key served.out served.served c.loop-key.invariant.stocked)
 
 pub loop-key-preserved : goal.loop-key-preserved
 loop-key-preserved c =
     let old = c.loop-key.self in
     let new = c.serve.new.self in
     let key = c.in-Some.key in
-    let out = c.in_ok-out.out in
-    let served = c.in_ok-out.ensures.served in
+    let out = c.in_ok-serve.ensures.served.out in
+    let served = c.in_ok-serve.ensures.served.served in
     let kept = c.loop-key.invariant.stocked in
+    let way = c.loop-key.invariant.way in
     record {
       awaited = still_awaited c.args.number old new key out served kept c.next_ready.new.cursors.items c.stand_in_order.ensures c.next_ready.ensures.awaited;
       stocked = still_stocked c.args.number old new key out served kept;
-      settles = λ sessions durables.
-          let first = shown c.args.number sessions durables c.args.self.now in
-          subst (λ (l : List OutValue). SettlesSo first c.args.outs.now.items (shown c.args.number sessions durables new) l 0) (sym c.in_ok-push.ensures.items)
-          (settles_on c.args.number old new key out served kept sessions durables first c.args.outs.now.items c.loop-key.outs.items (c.loop-key.invariant.settles sessions durables));
+      way = record {
+        outs = way.outs ++ out ∷ [];
+        answers = c.in_ok-serve.ensures.served.answers ∙ ap (with_outs (out ∷ [])) way.answers ∙ with_more way.outs (out ∷ []) c.args.answers.now;
+        settles = λ sessions durables.
+            settles_on c.args.number old new key out served kept sessions durables (shown c.args.number sessions durables c.args.self.now) [] way.outs (way.settles sessions durables);
+      };
     }
 
 pub returns-clause-settled : goal.returns-clause-settled
 returns-clause-settled c sessions durables =
-    settles_all (shown c.args.number sessions durables c.args.self.now) (shown c.args.number sessions durables c.loop-key.self) c.args.outs.now.items c.loop-key.outs.items (c.loop-key.invariant.settles sessions durables) c.in_default.ensures.ready
+    let way = c.loop-key.invariant.way in
+    let all = settles_all (shown c.args.number sessions durables c.args.self.now) (shown c.args.number sessions durables c.loop-key.self) [] way.outs (way.settles sessions durables) c.in_default.ensures.ready in
+    (all.0, way.answers ∙ ap (λ (outs : List OutValue). with_outs outs c.args.answers.now) all.1)

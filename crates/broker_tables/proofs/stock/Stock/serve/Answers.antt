@@ -1,7 +1,7 @@
 use Rattle.std.proofs.Common.{◌≡◌, ◌+◌, ◌++◌, ◌∷◌, ◌∙◌, [], List, Some, ap, arith, drop, refl, remove, slice_get, ℕ}
 use Rattle.line_core.specs.Flights.{IsOver}
 use Rattle.broker_state.specs.declared.subscription.Subscription.{Subscription}
-use Rattle.broker_state.specs.HandOut.{delivered}
+use Rattle.broker_state.specs.HandOut.{delivered, message_out}
 use Rattle.broker_state.specs.States.{bytes, one, weight_of_subscription}
 use Rattle.broker_state.specs.Waiting.{left_line, line_for}
 use Rattle.broker_state.proofs.Served.{number_of_ready}
@@ -52,7 +52,7 @@ move_last-requires-clause-there c =
     let s1 : Standing = record s { sub = f s.sub } in
     let taken = c.in_ok-message.ensures.order at s ready.there in
     let there : slice_get c.take_for.new.order.all at ≡ Some (c.args.key, s1) = ap (λ (o : Waiting). slice_get o.all at) taken ∙ changed_there (with_sub f) stock.order.all at (c.args.key, s) ready.there in
-    (at, record s { sub = g (f s.sub) }, ap (λ (o : Waiting). slice_get o.all at) (c.in_ok-out.ensures.delivered at s1 there) ∙ changed_there (with_sub g) c.take_for.new.order.all at (c.args.key, s1) there)
+    (at, record s { sub = g (f s.sub) }, ap (λ (o : Waiting). slice_get o.all at) (c.in_ok-deliver.ensures.delivered at s1 there) ∙ changed_there (with_sub g) c.take_for.new.order.all at (c.args.key, s1) there)
 
 pub move_last-requires-clause-number : goal.move_last-requires-clause-number
 move_last-requires-clause-number c =
@@ -65,7 +65,7 @@ move_last-requires-clause-number c =
     let taken = c.in_ok-message.ensures.order at s ready.there in
     let there : slice_get c.take_for.new.order.all at ≡ Some (c.args.key, s1) = ap (λ (o : Waiting). slice_get o.all at) taken ∙ changed_there (with_sub f) stock.order.all at (c.args.key, s) ready.there in
     let few = number_of_ready (stocked stock) s.sub (ready.first.passing s.sub (sub_at stock.order.all at (c.args.key, s) ready.there)) in
-    omega (arith, few, c.requires.stocked.tickets, ap (λ (o : Waiting). o.next) taken, ap (λ (o : Waiting). o.next) (c.in_ok-out.ensures.delivered at s1 there))
+    omega (arith, few, c.requires.stocked.tickets, ap (λ (o : Waiting). o.next) taken, ap (λ (o : Waiting). o.next) (c.in_ok-deliver.ensures.delivered at s1 there))
 
 pub returns : goal.returns
 returns c =
@@ -80,7 +80,7 @@ returns c =
     let s2 : Standing = record s { sub = g (f s.sub) } in
     let taken = c.in_ok-message.ensures.order at s ready.there in
     let there : slice_get c.take_for.new.order.all at ≡ Some (c.args.key, s1) = ap (λ (o : Waiting). slice_get o.all at) taken ∙ changed_there (with_sub f) stock.order.all at (c.args.key, s) ready.there in
-    let given = c.in_ok-out.ensures.delivered at s1 there in
+    let given = c.in_ok-deliver.ensures.delivered at s1 there in
     let there2 : slice_get c.deliver.new.order.all at ≡ Some (c.args.key, s2) = ap (λ (o : Waiting). slice_get o.all at) given ∙ changed_there (with_sub g) c.take_for.new.order.all at (c.args.key, s1) there in
     let left : remove c.deliver.new.order.all at ≡ remove stock.order.all at =
     ap (λ (o : Waiting). remove o.all at) given ∙ changed_removed (with_sub g) c.take_for.new.order.all at ∙ ap (λ (o : Waiting). remove o.all at) taken ∙ changed_removed (with_sub f) stock.order.all at in
@@ -88,24 +88,28 @@ returns c =
     let last : List W → ℕ → Waiting = λ l n. record { all = l ++ (c.args.key, record { ticket = n; sub = s2.sub }) ∷ []; next = n + 1 } in
     record {
       served = record {
-        at = at;
-        standing = s;
-        sub = s2.sub;
-        there = ready.there;
-        first = ready.first;
-        handed = record {
-          message = m;
-          left = f s.sub;
-          taken = c.in_ok-message.ensures.taken at s ready.there;
-          rest = (c.in_ok-message.ensures.left at s ready.there).rest;
-          line = refl;
-          weight = (c.in_ok-message.ensures.left at s ready.there).weight;
-          handed = refl;
-          out = c.in_ok-out.ensures.out at s1 there;
-          messages = (c.in_ok-out.ensures.held at s1 there).messages;
-          lighter = (c.in_ok-out.ensures.held at s1 there).lighter;
+        out = message_out c.args.number (f s.sub) stock.next_delivery m;
+        served = record {
+          at = at;
+          standing = s;
+          sub = s2.sub;
+          there = ready.there;
+          first = ready.first;
+          handed = record {
+            message = m;
+            left = f s.sub;
+            taken = c.in_ok-message.ensures.taken at s ready.there;
+            rest = (c.in_ok-message.ensures.left at s ready.there).rest;
+            line = refl;
+            weight = (c.in_ok-message.ensures.left at s ready.there).weight;
+            handed = refl;
+            out = refl;
+            messages = (c.in_ok-deliver.ensures.held at s1 there).messages;
+            lighter = (c.in_ok-deliver.ensures.held at s1 there).lighter;
+          };
+          order = c.move_last.ensures at s2 there2 ∙ ap (λ (l : List W). last l c.deliver.new.order.next) left ∙ ap (last (remove stock.order.all at)) next;
+          delivery = refl;
         };
-        order = c.move_last.ensures at s2 there2 ∙ ap (λ (l : List W). last l c.deliver.new.order.next) left ∙ ap (last (remove stock.order.all at)) next;
-        delivery = refl;
+        answers = c.in_ok-deliver.ensures.answers at s1 there;
       };
     }

@@ -1,6 +1,8 @@
 use Rattle.std.proofs.Common.{◌∙◌, List, ap, subst, sym}
 use Rattle.waiting_order.specs.Waiting.{subs_of}
 use Rattle.broker_tables.specs.declared.cursors.Cursor.{Cursor}
+use Rattle.broker_state.specs.HandOut.{settled}
+use Rattle.broker_tables.specs.Answers.{with_outs}
 use Rattle.broker_tables.specs.Dues.{AreDue}
 use Rattle.broker_tables.specs.Stocks.{stocked}
 use Rattle.broker_tables.specs.Tables.{TablesValue}
@@ -20,3 +22,9 @@ invariant_of-self-2 c _ =
       whole = c.in_ok-hand_out.ensures.stocked;
       ready = subst (λ (l : List Cursor). AreDue l (stocked new)) (sym c.clear.ensures.items) (none_due (stocked new) (subs_of new.order.all) c.in_ok-hand_out.ensures.none);
     }
+
+pub returns-clause-outs : goal.returns-clause-outs
+returns-clause-outs c =
+    let a = c.self.inside in
+    let handed = c.in_ok-hand_out.ensures.settled a.sessions.entries a.durables in
+    handed.1 ∙ ap (λ (b : TablesValue). with_outs (settled b.state).outs c.args.answers.now) c.self.view_is
