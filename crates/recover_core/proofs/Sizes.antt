@@ -7,6 +7,8 @@ use Rattle.std.proofs.lemmas.Bool.{and_parts, leb-true}
 use Rattle.std.proofs.lemmas.List.Sums.{sum_by-cons}
 use Rattle.record_core.specs.Destinations.{IsDestination, is_destination_byte, is_name, is_queue, is_topic}
 use Rattle.record_core.specs.Sendings.{SendingValue}
+use Rattle.record_core.specs.Sizes.{option_size, text_size}
+use Rattle.record_core.proofs.Sized.{each_sized, optional_sized}
 use Rattle.record_core.specs.Spellings.{IsText, counted, headers, mode_byte, optional, pair, sending}
 use Rattle.line_core.specs.declared.message.Message.{Message}
 use Rattle.line_core.specs.Messages.{header_size, size_of}
@@ -47,7 +49,7 @@ line_size : (ms : List Message) → IsLine ms → length (line ms) ≤ 4 + 534 *
 line_size ms form = omega (arith, messages_size ms form.each)
 
 -- the prefix, and a name of at most 200 bytes
-destination_size : (to : List ℕ) → IsDestination to → length to ≤ 207
+pub destination_size : (to : List ℕ) → IsDestination to → length to ≤ 207
 destination_size to form =
     let parts = and_parts (is_topic to || is_queue to) (is_name (drop 7 to)) form.valid in
     let lengths = and_parts (nat_le 1 (length (drop 7 to)) && nat_le (length (drop 7 to)) 200) (list_all is_destination_byte (drop 7 to)) parts.1 in
@@ -92,33 +94,14 @@ each_waits_once weight s sound = found-le name_cmp same_names (sum_by weight) []
 six : (a b c d e f : List ℕ) → length (a ++ b ++ c ++ d ++ e ++ f) ≡ length a + length b + length c + length d + length e + length f
 six a b c d e f = omega (arith, four (a ++ b ++ c) d e f, length-append (a ++ b) c, length-append a b)
 
--- a state with no session and no subscription
-snapshot_size : (s : State) → IsSound s → HasForm s → s.sessions ≡ [] → s.subscriptions ≡ [] → length (snapshot_of s) ≤ 24096544
-snapshot_size s sound form closed ended =
-    let names = durables_size s.shared form.names s.durables form.durables in
-    let queues = queues_size s.shared.queues form.queues sound.lines.queues in
-    let no_sessions : length (listed session s.sessions) ≡ 4 = ap (λ (l : List (ℕ × Option (List ℕ))). length (listed session l)) closed in
-    let no_subscriptions : length (listed subscription s.subscriptions) ≡ 4 = ap (λ (l : List Subscription). length (listed subscription l)) ended in
-    let whole = six (to_be_bytes w64 s.count) (to_be_bytes w64 s.next_delivery) (listed session s.sessions) (listed (durable s.shared) s.durables) (listed queue s.shared.queues) (listed subscription s.subscriptions) in
-    omega (arith, whole, no_sessions, no_subscriptions, names, queues, sound.names.few, each_waits_once one s sound, each_waits_once bytes s sound, sound.limits.messages, sound.limits.bytes)
+-- ---- what sessions and subscriptions take
 
-pub restart_fits : (s : State) (snapshot : List ℕ) → Spells snapshot (restarted s) → length snapshot < 24100000
-restart_fits s snapshot spells =
-    omega (arith, ap (λ (l : List ℕ). length l) spells.spelled, snapshot_size (restarted s) spells.sound spells.form refl refl)
+-- a session takes its number, and the name of its client
+abbrev pub opening_size : ℕ × Option (List ℕ) → ℕ
+opening_size e = 8 + option_size e.1
 
--- ---- a state with sessions and subscriptions
-
--- a text of at most 8,192 bytes, or none
-optional_size : (text : Option (List ℕ)) → IfSome text IsText → length (optional text) ≤ 8197
-optional_size None form = omega arith
-optional_size (Some text) form = omega (arith, length-append (to_be_bytes w32 (length text)) text, form.form.short)
-
-session_size : (e : ℕ × Option (List ℕ)) → IsSession e → length (session e) ≤ 8205
-session_size e form = omega (arith, length-append (to_be_bytes w64 e.0) (optional e.1), optional_size e.1 form.1)
-
-sessions_size : (es : List (ℕ × Option (List ℕ))) → AllByRecursion IsSession es → length (flat_map session es) ≤ 8205 * length es
-sessions_size [] form = omega arith
-sessions_size (e ∷ es) form = omega (arith, length-append (session e) (flat_map session es), session_size e form.0, sessions_size es form.1)
+opening_sized : (e : ℕ × Option (List ℕ)) → opening_size e ≡ length (session e)
+opening_sized e = omega (arith, length-append (to_be_bytes w64 e.0) (optional e.1), optional_sized e.1)
 
 deliveries_size : (ds : List (ℕ × Message)) → AllByRecursion IsDelivery ds → length (flat_map delivery ds) ≤ 542 * sum_by (λ d. one d.1) ds + sum_by (λ d. bytes d.1) ds
 deliveries_size [] form = omega arith
@@ -141,11 +124,11 @@ own_size sub form = by (is_own sub)
     by true = line_size sub.line form
     by false = omega arith
 
-own_name : (name : Option Name) → IfSome name IsName → IfSome (option_map (λ (n : Name). n.1) name) IsText
-own_name None form = tt
-own_name (Some name) form = form.own
+-- A subscription takes the session's number, its id, its destination, a byte for its mode, its durable name, and two counts of messages.
+abbrev pub subscribing_size : Subscription → ℕ
+subscribing_size sub = 17 + text_size sub.id + text_size sub.destination + option_size (option_map (λ (n : Name). n.1) sub.durable)
 
-subscription_size : (sub : Subscription) → IsSubscription sub → length (subscription sub) ≤ 17000 + 542 * weight_of_subscription one sub + weight_of_subscription bytes sub
+subscription_size : (sub : Subscription) → IsSubscription sub → length (subscription sub) ≤ subscribing_size sub + 542 * weight_of_subscription one sub + weight_of_subscription bytes sub
 subscription_size sub form =
     let name = optional (option_map (λ (n : Name). n.1) sub.durable) in
     let front = to_be_bytes w64 sub.session ++ counted sub.id ++ counted sub.destination in
@@ -156,14 +139,12 @@ subscription_size sub form =
       length-append (to_be_bytes w64 sub.session ++ counted sub.id) (counted sub.destination),
       length-append (to_be_bytes w64 sub.session) (counted sub.id),
       length-append (to_be_bytes w32 (length sub.unacknowledged)) (flat_map delivery sub.unacknowledged),
-      form.id.form.short,
-      destination_size sub.destination form.destination,
-      optional_size (option_map (λ (n : Name). n.1) sub.durable) (own_name sub.durable form.durable),
+      optional_sized (option_map (λ (n : Name). n.1) sub.durable),
       own_size sub form.line,
       deliveries_size sub.unacknowledged form.each,
     )
 
-subscriptions_size : (subs : List Subscription) → AllByRecursion IsSubscription subs → length (flat_map subscription subs) ≤ 17000 * length subs + 542 * sum_by (weight_of_subscription one) subs + sum_by (weight_of_subscription bytes) subs
+subscriptions_size : (subs : List Subscription) → AllByRecursion IsSubscription subs → length (flat_map subscription subs) ≤ sum_by subscribing_size subs + 542 * sum_by (weight_of_subscription one) subs + sum_by (weight_of_subscription bytes) subs
 subscriptions_size [] form = omega arith
 subscriptions_size (sub ∷ subs) form =
     omega (
@@ -171,31 +152,71 @@ subscriptions_size (sub ∷ subs) form =
       length-append (subscription sub) (flat_map subscription subs),
       subscription_size sub form.0,
       subscriptions_size subs form.1,
+      sum_by-cons subscribing_size sub subs,
       sum_by-cons (weight_of_subscription one) sub subs,
       sum_by-cons (weight_of_subscription bytes) sub subs,
     )
 
--- seven bytes count any snapshot
-pub seven_count : (s : State) (snapshot : List ℕ) → Spells snapshot s → length snapshot < 2 ^ 56
-seven_count s snapshot spells =
-    let sound = spells.sound in
-    let form = spells.form in
+-- ---- a whole snapshot
+
+-- A snapshot has at most 24,096,544 bytes beside what sessions and subscriptions take.
+pub snapshot_size : (s : State) → IsSound s → HasForm s → length (snapshot_of s) ≤ 24096544 + sum_by opening_size s.sessions + sum_by subscribing_size s.subscriptions
+snapshot_size s sound form =
     let names = durables_size s.shared form.names s.durables form.durables in
     let queues = queues_size s.shared.queues form.queues sound.lines.queues in
     let whole = six (to_be_bytes w64 s.count) (to_be_bytes w64 s.next_delivery) (listed session s.sessions) (listed (durable s.shared) s.durables) (listed queue s.shared.queues) (listed subscription s.subscriptions) in
     omega (
       arith,
-      ap (λ (l : List ℕ). length l) spells.spelled,
       whole,
-      sessions_size s.sessions form.sessions,
-      form.few_sessions,
+      each_sized opening_size session opening_sized s.sessions,
       names,
       queues,
       subscriptions_size s.subscriptions form.subscriptions,
-      form.few_subscriptions,
       sound.names.few,
       each_waits_once one s sound,
       each_waits_once bytes s sound,
       sound.limits.messages,
       sound.limits.bytes,
+    )
+
+pub restart_fits : (s : State) (snapshot : List ℕ) → Spells snapshot (restarted s) → length snapshot < 24100000
+restart_fits s snapshot spells =
+    omega (arith, ap (λ (l : List ℕ). length l) spells.spelled, snapshot_size (restarted s) spells.sound spells.form)
+
+-- a text of at most 8,192 bytes, or none
+pub optional_size : (text : Option (List ℕ)) → IfSome text IsText → option_size text ≤ 8197
+optional_size None form = omega arith
+optional_size (Some text) form = omega (arith, form.form.short)
+
+openings_most : (es : List (ℕ × Option (List ℕ))) → AllByRecursion IsSession es → sum_by opening_size es ≤ 8205 * length es
+openings_most [] form = omega arith
+openings_most (e ∷ es) form = omega (arith, sum_by-cons opening_size e es, optional_size e.1 form.0.1, openings_most es form.1)
+
+own_name : (name : Option Name) → IfSome name IsName → IfSome (option_map (λ (n : Name). n.1) name) IsText
+own_name None form = tt
+own_name (Some name) form = form.own
+
+subscribing_most : (subs : List Subscription) → AllByRecursion IsSubscription subs → sum_by subscribing_size subs ≤ 17000 * length subs
+subscribing_most [] form = omega arith
+subscribing_most (sub ∷ subs) form =
+    omega (
+      arith,
+      sum_by-cons subscribing_size sub subs,
+      form.0.id.form.short,
+      destination_size sub.destination form.0.destination,
+      optional_size (option_map (λ (n : Name). n.1) sub.durable) (own_name sub.durable form.0.durable),
+      subscribing_most subs form.1,
+    )
+
+-- seven bytes count any snapshot
+pub seven_count : (s : State) (snapshot : List ℕ) → Spells snapshot s → length snapshot < 2 ^ 56
+seven_count s snapshot spells =
+    omega (
+      arith,
+      ap (λ (l : List ℕ). length l) spells.spelled,
+      snapshot_size s spells.sound spells.form,
+      openings_most s.sessions spells.form.sessions,
+      spells.form.few_sessions,
+      subscribing_most s.subscriptions spells.form.subscriptions,
+      spells.form.few_subscriptions,
     )
