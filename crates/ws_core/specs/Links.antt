@@ -1,5 +1,5 @@
 -- What a link holds.
-use Rattle.std.specs.Prelude.{◌≡◌, ◌≤◌, ◌⊎◌, ◌==◌, ◌+◌, ℕ, length, Bool, false, Option, Some, List, [], cond, refl, ⊤}
+use Rattle.std.specs.Prelude.{◌≡◌, ◌≤◌, ◌⊎◌, ◌==◌, ◌+◌, ◌*◌, ℕ, length, Bool, false, Option, Some, List, [], cond, refl, ⊤}
 use Rattle.std.specs.Coded.{Coded, code_by, coded×, coded_bool, coded_list, coded_ℕ}
 use Rattle.websocket.specs.declared.protocol.config.Role.TheVariants.{Server}
 use Rattle.tungstenite.specs.Connection.{close_step}
@@ -78,8 +78,8 @@ module _ {S : Type 0} where
   abbrev pub IsEnded : (S → Option (List ℕ)) → CloseReason → Linked S → Linked S → Type 0
   IsEnded contents reason old new = Ends contents reason old new ⊎ (HasFailed old.phase × (new ≡ old))
 
-  -- What a link keeps: what is left of a message, and besides that no more than may wait to be sent, and a message that is not whole, with
-  -- what one read gives.
+  -- What a link keeps: what is left of a message, and besides that no more than what was fed of it, what may wait to be sent, and twice a
+  -- message that is not whole, with what one read gives.
   pub record Keeps (l : Linked S) (bytes : ℕ) : Type 0 where
     pub least : length l.unfed ≤ bytes
-    pub most : bytes ≤ length l.unfed + (1048576 + (131072 + 4096))
+    pub most : bytes ≤ length l.unfed + (131072 + 1048576 + 2 * (131072 + 4096))

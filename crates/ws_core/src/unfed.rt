@@ -44,6 +44,11 @@ impl Unfed {
         self.message.len() - self.fed
     }
 
+    /// How many bytes are kept beside these, since they were fed.
+    pub fn fed(&self) -> usize {
+        self.fed
+    }
+
     /// The next piece. If memory is refused for it, nothing has changed. Of a message that is wholly fed nothing is kept.
     pub fn next(&mut self, alloc: Global) -> Result<Vec<u8>, AllocError>
         ensures ok { IfOk result (λ piece. IsPiece self.old piece.items self.new) }

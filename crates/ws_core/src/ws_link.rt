@@ -25,6 +25,8 @@ const MESSAGE_BYTES: usize = 131_072;
 const WAITING_BYTES: usize = 1_048_576;
 // How many of them a send leaves to the next flush.
 const WRITING_BYTES: usize = 65_536;
+// The most bytes that are read of a message before it is whole.
+const UNREAD_BYTES: u64 = (MESSAGE_BYTES + READ_BYTES) as u64;
 // What one read of the stream asks for. A peer may fill it with the smallest fragments, some 700, before others have their turns.
 const READ_BYTES: usize = 4_096;
 // The most bytes that a ping or a pong of a client takes (RFC 6455, section 5.5): its head, its mask and what it says.
@@ -54,6 +56,8 @@ pub struct WsLink<S> {
     unsent: u64,
     // How many bytes the stream had given when the last message was whole.
     whole: u64,
+    // The most bytes that were read of a message before it was whole. From then on the socket has room for twice as many.
+    most_read: u64,
 }
 
 impl<S> Model for WsLink<S> {
@@ -102,6 +106,7 @@ impl<S: Read + Write + Drop> WsLink<S> {
             unfed: Unfed::new(Vec::new(alloc)),
             unsent: 0,
             whole: 0,
+            most_read: 0,
         }
     }
 
@@ -248,16 +253,15 @@ impl<S: Read + Write + Ending + Drop> Link for WsLink<S> {
         }
     }
 
-    // Both are counted for more than they are. The first has messages of up to 64 KiB that the stream has taken, until a flush; the second
-    // has the heads of a message's fragments, while it isn't whole.
+    // What is counted may be more than it is. What wasn't sent has messages of up to 64 KiB that the stream has taken, until a flush. What was
+    // read has the heads of a message's fragments. The socket grows by doubling, and keeps what it has. A message stays whole while it is fed.
     fn held(&self) -> u64
         ensures { Keeps self.now result }
     {
-        let given = self.socket.get_ref().given();
-        let most = (MESSAGE_BYTES + READ_BYTES) as u64;
-        let unread = given.saturating_sub(self.whole).min(most);
         let unsent = self.unsent.min(WAITING_BYTES as u64);
-        (unsent + unread).saturating_add(self.unfed.len() as u64)
+        let room = 2 * self.most_read.max(self.unread()).min(UNREAD_BYTES);
+        let fed = self.unfed.fed().min(MESSAGE_BYTES);
+        (unsent + room + fed as u64).saturating_add(self.unfed.len() as u64)
     }
 
     fn send_direct(&mut self, alloc: Global, notice: &Notice) -> Result<(), LinkFault>
@@ -333,10 +337,16 @@ impl<S: Read + Write + Ending + Drop> WsLink<S> {
         }
     }
 
+    // How many bytes were read of a message that isn't whole.
+    fn unread(&self) -> u64 {
+        self.socket.get_ref().given().saturating_sub(self.whole)
+    }
+
     // Notes how far it has come by what a read gave.
     fn note(&mut self, received: &Received)
         ensures { self.new ≡ record self.old { phase = after self.old.phase received.now } }
     {
+        self.most_read = self.most_read.max(self.unread());
         match received {
             Received::Failed => self.phase = Phase::Failed,
             Received::Closed => self.phase = Phase::Over,
