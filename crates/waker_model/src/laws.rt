@@ -5,6 +5,9 @@ ghost use Rattle.waker_model.specs.declared.step.Step.{Step};
 ghost use Rattle.waker_model.specs.declared.step.Step.TheVariants.{Check, Look, Note, Return, Ring, SayAsleep, SayAwake, TakeCalls, TakeRing, Wake};
 ghost use Rattle.waker_model.specs.declared.step.Worker.TheVariants.{Waits};
 ghost use Rattle.waker_model.specs.Machines.{Machine, Runs, begin};
+ghost use Rattle.waker_model.specs.MarkMachines.{IsLeft, MarkMachine, RunsMarked, begin_marked};
+ghost use Rattle.waker_model.specs.declared.mark_step.MarkStep.{MarkStep};
+ghost use Rattle.waker_model.specs.declared.mark_step.MarkStep.TheVariants.{LookWhoWaits, Raise, ReadMark, SayWaiting};
 ghost use Rattle.waker_model.specs.Promises.{IsHeard};
 
 /// After any steps of the worker and of any number of callers, in any order, no call is lost. The worker finds a client that was called for
@@ -22,4 +25,11 @@ pub fn what_was_called_for_is_taken()
         → Runs m (Return told ∷ SayAwake ∷ TakeRing ∷ TakeCalls ∷ []) n → n.called ≡ false }
     ensures possible { (steps : List Step) (m : Machine) (told : Bool) → Runs begin steps m → m.worker ≡ Waits → m.called ≡ true → m.noting ≡ 0
         → (n : Machine) × Runs m (Return told ∷ SayAwake ∷ TakeRing ∷ TakeCalls ∷ []) n }
+{}
+
+/// After any steps of a worker that waits for the mark and of the flusher, in any order, no mark is missed: if the worker waits though the mark
+/// would let its client in, its bell was rung, once the flusher has looked who waits. The mark may rise while the worker waits (`reached`).
+pub fn no_mark_is_missed()
+    ensures told { (steps : List MarkStep) (m : MarkMachine) → RunsMarked begin_marked steps m → IsLeft m → m.rung ≡ true }
+    ensures reached { (m : MarkMachine) × (RunsMarked begin_marked (SayWaiting ∷ ReadMark ∷ Raise ∷ LookWhoWaits ∷ []) m × IsLeft m) }
 {}
