@@ -1,7 +1,7 @@
 #!/usr/bin/env python3
 """Looks for a wake-up that is lost: 640 clients send with random pauses, some to a topic that others hear, and nobody may wait over a second, for a
-receipt or for a message. Some send a burst, of which only the last SEND asks for a receipt: it waits for room in its window, which the mark gives. Needs
-Python 3 alone.
+receipt or for a message. Some send a burst, of which only the last SEND asks for a receipt: it waits for room in its window, which the mark gives. First
+a client that is alone sends such bursts, so that nothing but the mark wakes its worker. Needs Python 3 alone.
 
     python3 tests/program/waits.py [PROGRAM] [--minutes N] [--clients N] [--seed N]
 
@@ -19,6 +19,7 @@ import time
 
 from lib import scenario
 from lib.stomp_client import Client
+from lib.wire import TEXT, message_bytes, stomp_bytes
 
 # In seconds: no wait may be longer, and this long a client pauses at most between two SENDs.
 LONGEST_WAIT, LONGEST_PAUSE = 1.0, 4.0
@@ -28,6 +29,8 @@ MEMORY, ROOM_FOR_JOURNAL = pathlib.Path("/dev/shm"), 1 << 30
 BURSTS = (0, 0, 0, 1, 15, 16, 40)
 # A topic's clients: one sends at a time, and all hear it.
 ROOM = 4
+# How many bursts the client that is alone sends, each of so many SENDs: more than twice what a desk may have under way.
+ALONE, LONE_BURST = 4_000, 40
 
 
 class Talker:
@@ -63,6 +66,23 @@ class Talker:
                 return
 
 
+def alone(port):
+    """One client sends bursts, of which only the last SEND asks for a receipt; how long each receipt was waited for."""
+    client, waits = Client(port, timeout=10 * LONGEST_WAIT).connect(), []
+    one = message_bytes(TEXT, stomp_bytes("SEND", [("destination", "/topic/none")]))
+    for number in range(ALONE):
+        last = message_bytes(TEXT, stomp_bytes("SEND", [("destination", "/topic/none"), ("receipt", f"{number}")]))
+        start = time.monotonic()
+        client.write((LONE_BURST - 1) * one + last)
+        try:
+            client.receipt(f"{number}")
+        except TimeoutError:
+            return [*waits, 10 * LONGEST_WAIT]
+        waits.append(time.monotonic() - start)
+    client.close()
+    return waits
+
+
 def talk(talkers, seconds):
     """Lets them talk for so long; how long each message and receipt was waited for."""
     poll, by_descriptor = select.epoll(), {}
@@ -93,6 +113,9 @@ def main():
     if MEMORY.is_dir() and shutil.disk_usage(MEMORY).free >= ROOM_FOR_JOURNAL:
         tempfile.tempdir = str(MEMORY)
     with scenario.serving(words.program) as broker:
+        lone = alone(broker.port)
+        checks.check(f"a client that is alone waits {LONGEST_WAIT} s at most", max(lone) <= LONGEST_WAIT, f"{max(lone):.1f} s after {len(lone)} bursts")
+        checks.tell(f"{len(lone)} bursts of one that is alone: the longest wait {max(lone) * 1000:.1f} ms")
         talkers = [Talker(broker.port, number, chance) for number in range(words.clients)]
         waits = talk(talkers, 60 * words.minutes)
     least = words.clients * words.minutes * 60 / LONGEST_PAUSE
