@@ -2,8 +2,8 @@
 """A server whose clients may hold 256 MiB together: 2,000 subscribe to a topic and read nothing, while somebody sends to it. Those who hold most are
 given up, before they would be for taking nothing; one that reads everything and one that sends hear what is theirs at once; and the server lives under
 a limit of memory that it would pass if all of them held what waits for them. Then 4,000 send most of a head, to a server whose clients may hold 16 MiB;
-and 1,500 one message of 600 SENDs each, to one whose disk is so slow that these wait. Then 3,000 come to a topic and go. Last, of 20 that send members of
-transactions, only the one that holds most is given up.
+and 1,500 one message of 600 SENDs each, to one whose disk is so slow that these wait. Then 3,000 come to a topic and go; and of 20 that send members of
+transactions, only the one that holds most is given up. Last, 400 send one message of 128 KiB each.
 
     python3 tests/program/memory_budget.py [PROGRAM]
 
@@ -19,6 +19,7 @@ PROGRAM is the built program; without it, bin/stompd. It takes a minute or less,
 
 import contextlib
 import os
+import re
 import resource
 import signal
 import socket
@@ -48,8 +49,12 @@ KEEPS_NOTHING = "glibc.malloc.mxfast=0:glibc.malloc.tcache_count=0:glibc.malloc.
 # may take beside the budget.
 SENDERS, SENDS, WAVE, SYNC, WAITING_REST = 1_500, 600, 100, 100_000, 67_108_864
 # Of members of transactions that are not committed: each client sits at a desk of its own. So many bytes has a member, and so many a transaction takes.
-# One client has a megabyte of them, and the others so many: more than a fair share of the least budget, and together with it more than that.
-DESKS, MEMBER, EACH_TRANSACTION, MEMBERS, MOST_MEMBERS = 20, 65_000, 4, 13, 16
+# One client has a megabyte of them, and the others so many: more than a fair share of the least budget, and together with it more than that. With so many
+# fewer each they keep to it.
+DESKS, MEMBER, EACH_TRANSACTION, MEMBERS, MOST_MEMBERS, FEWER = 20, 4_000, 64, 208, 250, 16
+# Of the longest messages: how many clients send one each, by how many threads, of how many bytes at most, with how many headers a frame; and what they
+# may take beside the budget.
+LONGEST, THREADS, LONGEST_BYTES, HEADERS, LONGEST_REST = 400, 8, 131_072, (0, 60), 67_108_864
 # A wait of an honest client, and after how many seconds a client is given up that takes nothing.
 LONGEST_WAIT, TAKES_NOTHING = 1.0, 10
 # After so many seconds all who went are gone.
@@ -303,7 +308,7 @@ def who_holds_most(broker, checks):
     for most, all_of_them in zip((0, DESKS // 2, DESKS - 1), groups):
         others = [one for number, one in enumerate(all_of_them) if number != most]
         all_of_them[most].grow_to(MOST_MEMBERS)
-        grown = [one.grow_to(MEMBERS - 1) for one in others]
+        grown = [one.grow_to(MEMBERS - FEWER) for one in others]
         checks.check("they keep to the budget", all(grown) and all_of_them[most].is_served(), grown)
         # One of these asks for more than all may hold.
         grown = [one.grow_to(MEMBERS) for one in others]
@@ -312,6 +317,58 @@ def who_holds_most(broker, checks):
         checks.check(f"of {DESKS} client {most} is given up, which holds most, and nobody else", all(grown) and served == left, (grown, served))
         for number in served:
             all_of_them[number].client.close()
+        # What they held counts no more once their ends are heard.
+        time.sleep(2)
+
+
+class AsServed(scenario.Broker):
+    """The program with the least budget and what `bin/serve` asks of the C library."""
+
+    def __init__(self, program, journal):
+        super().__init__(program, journal, more=["--memory", str(LEAST_BUDGET)])
+
+    def serve(self):
+        asked = re.search(r"GLIBC_TUNABLES=\$\{GLIBC_TUNABLES:-(.*)\}", (scenario.TOP / "bin" / "serve").read_text(encoding="utf-8"))[1]
+        before = os.environ.get("GLIBC_TUNABLES")
+        os.environ["GLIBC_TUNABLES"] = asked
+        try:
+            super().serve()
+        finally:
+            os.environ.pop("GLIBC_TUNABLES")
+            if before is not None:
+                os.environ["GLIBC_TUNABLES"] = before
+
+
+def send_each(clients, message):
+    for one in clients:
+        # Whoever was given up meanwhile is sent nothing.
+        with contextlib.suppress(OSError):
+            one.write(message)
+
+
+def longest_messages(broker, checks):
+    """messages as long as may be count with all that they take: clients that send one each keep to the budget at every moment"""
+    told = Listener(broker)
+    for headers in HEADERS:
+        senders = [Client(broker.port, timeout=60).connect() for _ in range(LONGEST)]
+        before, gone = broker.memory("VmRSS"), told.given_up("clients that took the most memory")[0]
+        broker.forget_peak()
+        frame = stomp_bytes("SEND", [("destination", "/topic/none"), *((f"h{at}", "x") for at in range(headers))])
+        message = message_bytes(TEXT, LONGEST_BYTES // len(frame) * frame)
+        threads = [threading.Thread(target=send_each, args=(senders[at::THREADS], message)) for at in range(THREADS)]
+        for one in threads:
+            one.start()
+        for one in threads:
+            one.join()
+        time.sleep(2)
+        peak = broker.memory("VmHWM") - before
+        most = told.given_up("clients that took the most memory")[0] - gone
+        checks.check(f"with {headers} headers a frame all took at most the budget and {LONGEST_REST >> 20} MiB", peak * 1024 <= LEAST_BUDGET + LONGEST_REST, f"{peak >> 10} MiB")
+        checks.check("some were given up, and some are left", 0 < most < LONGEST, most)
+        checks.tell(f"{most} were given up; the peak was {peak >> 10} MiB more than before them")
+        for one in senders:
+            one.close()
+        time.sleep(1)
 
 
 def with_least_budget(program, journal):
@@ -334,6 +391,8 @@ def main():
         scenario.try_one(who_holds_most, broker, checks)
     with scenario.serving(program, kind=Slow) as broker:
         scenario.try_one(frames_that_wait, broker, checks)
+    with scenario.serving(program, kind=AsServed) as broker:
+        scenario.try_one(longest_messages, broker, checks)
     checks.tell(f"{time.monotonic() - start:.1f} s")
     return 1 if checks.failed else 0
 
