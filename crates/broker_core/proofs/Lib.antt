@@ -1,3 +1,4 @@
+pub mod Answering
 pub mod Transactions
 pub mod Flights
 pub mod FlightsFrom

@@ -40,12 +40,34 @@ pub fn execute(
 {
     let number = tables.count();
     let (session, op, receipt) = command.into_parts();
-    match op {
-        Op::Open { client_id } => open(tables, alloc, client_id, answers)?,
-        op => execute_if_open(tables, alloc, rule, session, op, receipt, answers)?,
-    }
+    carry_out(tables, alloc, rule, session, op, receipt, answers)?;
     tables.set_count(number + 1);
     Ok(())
+}
+
+/// The same, before the command is counted.
+fn carry_out(
+    tables: &mut Tables,
+    alloc: Global,
+    rule: NackRule,
+    session: u64,
+    op: Op,
+    receipt: Option<HeaderText>,
+    answers: &mut Answers,
+) -> Result<(), AllocError>
+    requires form { IsOp op }
+    requires whole { tables.old.broken ≡ false }
+    requires due { tables.old.due ≡ 0 }
+    ensures state { OnOk result (tables.new.state ≡ (led_to rule tables.old.state session op).state) }
+    ensures outs { OnOk result (answers.new ≡ with_outs (outs_of rule tables.old.state session receipt op) answers.old) }
+    ensures whole { OnOk result (tables.new.broken ≡ false) }
+    ensures due { OnOk result (tables.new.due ≡ 0) }
+{
+    if let Op::Open { client_id } = op {
+        open(tables, alloc, client_id, answers)?;
+        return Ok(());
+    }
+    execute_if_open(tables, alloc, rule, session, op, receipt, answers)
 }
 
 /// An operation other than an Open is carried out, if its session is open.
@@ -70,7 +92,8 @@ fn execute_if_open(
     if !tables.sessions().contains_key(&session) {
         return Ok(());
     }
-    execute_in_session(tables, alloc, rule, session, op, receipt, answers)
+    execute_in_session(tables, alloc, rule, session, op, receipt, answers)?;
+    Ok(())
 }
 
 /// A session is opened.
@@ -114,7 +137,8 @@ fn execute_in_session(
     let number = tables.count();
     if let Op::End(end) = op {
         end_and_settle(tables, alloc, session, answers)?;
-        return answer_end(alloc, number, session, end, receipt, answers);
+        answer_end(alloc, number, session, end, receipt, answers)?;
+        return Ok(());
     }
     match execute_operation(tables, alloc, rule, session, op)? {
         Ok(()) => {
@@ -123,7 +147,8 @@ fn execute_in_session(
         }
         Err(fault) => {
             end_and_settle(tables, alloc, session, answers)?;
-            answer_refused(alloc, number, session, fault, receipt, answers)
+            answer_refused(alloc, number, session, fault, receipt, answers)?;
+            Ok(())
         }
     }
 }
