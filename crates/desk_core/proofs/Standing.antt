@@ -22,8 +22,10 @@ use Rattle.desk_core.specs.Desks.{Admits, AreApart, Changes, DeskValue, IsCounte
 use Rattle.desk_core.specs.Effects.{commands_of}
 use Rattle.desk_core.specs.Halting.{FindsEnd}
 use Rattle.desk_core.specs.Histories.{Idles}
-use Rattle.desk_core.specs.Places.{ChangedAt, IsChanged, ServedAt, UnservedAt, counted_at, progress_at}
+use Rattle.desk_core.specs.Places.{ChangedAt, IsChanged, PingedAt, ServedAt, UnservedAt, counted_at, progress_at}
 use Rattle.desk_core.specs.Slots.{IsNew, Unserved}
+use Rattle.ws_core.specs.Sending.{IsPinged}
+use Rattle.ws_core.specs.declared.fault.LinkFault.{LinkFault}
 use Rattle.desk_core.proofs.Lists.{cond_same}
 use Rattle.desk_core.proofs.Going.{heeds_none}
 use Rattle.desk_core.proofs.Talking.{beside}
@@ -241,6 +243,13 @@ pub unserved_some : {B L : Type 0} (sent : L → Option (List (List ℕ))) (rece
     → UnservedAt sent received o (Some is)
 unserved_some sent received o was is e u h = subst (λ x. UnservedAt sent received x (Some is)) (sym e) (is, refl, u, h)
 
+-- what holds of what sat at a place and what sits there
+pub at_place : {B L : Type 0} (R : Option (Seated B L) → Option (Seated B L) → Type 0) (old : DeskValue B L) (limit : ℕ) (before seat : SessionSeatValue) (places : List (Option (Seated B L))) (at : ℕ) (was is : Option (Seated B L))
+    → desk limit before seat places ≡ old → at < length places → was ≡ get_or places at was → R was is → R (seated_at old.places at) (seated_at (set places at is) at)
+at_place {B} {L} R old limit before seat places at was is same within there so =
+    let sat : was ≡ seated_at old.places at = sym (get_or_from_slice_get places at was None (sitting places at was within there)) ∙ ap (λ (d : DeskValue B L). seated_at d.places at) same in
+    subst (λ o. R o (seated_at (set places at is) at)) sat (subst (λ o. R was o) (sym (get_same_or places at is within)) so)
+
 -- what the connection at a place is told
 pub changes : {B L : Type 0} (f : ConnectionValue → ConnectionValue) (old : DeskValue B L) (limit : ℕ) (before seat : SessionSeatValue) (places : List (Option (Seated B L))) (at : ℕ) (was is : Option (Seated B L))
     → desk limit before seat places ≡ old → at < length places → was ≡ get_or places at was → ChangedAt f was is → Changes f old (desk limit before seat (set places at is)) at
@@ -249,9 +258,7 @@ changes {B} {L} f old limit before seat places at was is same within there so = 
   seat = ap (λ (d : DeskValue B L). d.seat) same;
   limit = ap (λ (d : DeskValue B L). d.limit) same;
   others = others old.places places at is (ap (λ (d : DeskValue B L). d.places) same);
-  changed =
-      let sat : was ≡ seated_at old.places at = sym (get_or_from_slice_get places at was None (sitting places at was within there)) ∙ ap (λ (d : DeskValue B L). seated_at d.places at) same in
-      subst (λ o. ChangedAt f o (seated_at (set places at is) at)) sat (subst (λ o. ChangedAt f was o) (sym (get_same_or places at is within)) so);
+  changed = at_place (ChangedAt f) old limit before seat places at was is same within there so;
 }
 
 pub changes_none : {B L : Type 0} (f : ConnectionValue → ConnectionValue) (old new : DeskValue B L) (at : ℕ) → new ≡ old → length old.places ≤ at → Changes f old new at
@@ -270,6 +277,18 @@ changed_progress f same (Some was) is c = ap progress_at c.1 ∙ ap (λ (x : Con
 
 pub changed_some : {B L : Type 0} (f : ConnectionValue → ConnectionValue) (o : Option (Seated B L)) (was is : Seated B L) → o ≡ Some was → IsChanged f was is → ChangedAt f o (Some is)
 changed_some f o was is e c = subst (λ x. ChangedAt f x (Some is)) (sym e) (is, refl, c)
+
+-- ── a ping ──
+
+pub pinged_some : {B L : Type 0} (pings : L → L → Type 0) (refuses : L → L → LinkFault → Type 0) (flushes : L → L → Type 0) (o : Option (Seated B L)) (was is : Seated B L) → o ≡ Some was
+    → IsPinged pings refuses flushes was.link is.link → PingedAt pings refuses flushes o (Some is)
+pinged_some pings refuses flushes o was is e p = subst (λ x. PingedAt pings refuses flushes x (Some is)) (sym e) (is, refl, p)
+
+pub pinged_none : {B L : Type 0} (pings : L → L → Type 0) (refuses : L → L → LinkFault → Type 0) (flushes : L → L → Type 0) (old new : DeskValue B L) (at : ℕ) → new ≡ old → length old.places ≤ at
+    → PingedAt pings refuses flushes (seated_at old.places at) (seated_at new.places at)
+pinged_none {B} {L} pings refuses flushes old new at same past =
+    let free : seated_at old.places at ≡ None = get_or_past old.places at None past in
+    subst (λ o. PingedAt pings refuses flushes o (seated_at new.places at)) (sym free) (ap (λ (d : DeskValue B L). seated_at d.places at) same ∙ free)
 
 -- ── a turn ──
 

@@ -1,8 +1,9 @@
--- What is kept of what a connection's client said, and counts as its memory.
-use Rattle.std.specs.Prelude.{◌+◌, ℕ, Bool, true, Option, Some, None, cond}
-use Rattle.session_core.specs.Sessions.{held_in}
-use Rattle.connection_core.specs.Tasks.{all_of}
-use Rattle.connection_core.specs.Weights.{op_weight, weight_of_all}
+-- What is kept for a connection, and counts as its memory.
+use Rattle.std.specs.Prelude.{◌≡◌, ◌≤◌, ◌+◌, ◌-◌, ◌^◌, ℕ, true, false, Option, Some, None, min}
+use Rattle.connection_core.specs.Connections.{kept_in}
+use Rattle.connection_core.specs.Weights.{op_weight}
+use Rattle.outbox_core.specs.Boxes.{TakerValue}
+use Rattle.outbox_core.specs.Weights.{most_waiting}
 use Rattle.desk_core.specs.declared.pending.Pending.{Pending}
 use Rattle.desk_core.specs.declared.place.Seated.{Seated}
 use Rattle.desk_core.specs.declared.slot.Slot.{Slot}
@@ -13,16 +14,28 @@ abbrev pub entry_weight : {B : Type 0} → Option (Pending B) → ℕ
 entry_weight None = 0
 entry_weight (Some pending) = op_weight pending.entry.command.op pending.entry.command.receipt
 
--- the members of open transactions, the acts that are still to be done, and the entry that waits for room
+-- what is kept of what its client said, with the entry that waits for room
 abbrev pub kept_by : {B : Type 0} → Slot B → ℕ
-kept_by slot = held_in slot.connection.session.phase + weight_of_all (all_of slot.connection.acts) + entry_weight slot.pending
+kept_by slot = kept_in slot.connection + entry_weight slot.pending
 
--- nobody sits there, or its link is over
-abbrev pub has_left : {B L : Type 0} → Option (Seated B L) → Bool
-has_left None = true
-has_left (Some seated) = has_no_link seated.slot.connection.stage
+-- so many bytes may wait in an outbox, if there is one
+abbrev pub MayWait : Option TakerValue → ℕ → Type 0
+MayWait None bytes = bytes ≡ 0
+MayWait (Some taker) bytes = bytes ≤ most_waiting taker.size
 
--- what is kept for a place: nothing once its link is over, since then it is being let go
-abbrev pub kept_at : {B L : Type 0} → Option (Seated B L) → ℕ
-kept_at None = 0
-kept_at (Some seated) = cond (has_no_link seated.slot.connection.stage) 0 (kept_by seated.slot)
+-- So many bytes are kept for a slot whose link keeps so many: these, what its client said, and what waits in its outbox; or 2^64 - 1 if
+-- they are more.
+pub record IsKept {B : Type 0} (slot : Slot B) (linked bytes : ℕ) : Type 0 where
+  pub waiting : ℕ
+  pub waits : MayWait slot.outbox waiting
+  pub sum : bytes ≡ min (waiting + kept_by slot + linked) (2 ^ 64 - 1)
+
+-- So many bytes are kept for one who sits there: nothing once its link is over, since then it is being let go.
+pub record IsHeld {B L : Type 0} (keeps : L → ℕ → Type 0) (seated : Seated B L) (bytes : ℕ) : Type 0 where
+  pub left : has_no_link seated.slot.connection.stage ≡ true → bytes ≡ 0
+  pub stays : has_no_link seated.slot.connection.stage ≡ false → (linked : ℕ) × keeps seated.link linked × IsKept seated.slot linked bytes
+
+-- so many bytes are kept for a place: nothing if nobody sits there
+abbrev pub HeldAt : {B L : Type 0} → (L → ℕ → Type 0) → Option (Seated B L) → ℕ → Type 0
+HeldAt keeps None bytes = bytes ≡ 0
+HeldAt keeps (Some seated) bytes = IsHeld keeps seated bytes

@@ -16,6 +16,8 @@ use Rattle.desk_core.specs.Spending.{IsEvicted}
 use Rattle.connection_core.specs.declared.stage.Stage.{Stage}
 use Rattle.connection_core.specs.declared.stage.Stage.TheVariants.{Running, GivingUp, Closing, Parting, Leaving, Over}
 use Rattle.desk_core.specs.Slots.{Served, Unserved, number_at}
+use Rattle.ws_core.specs.Sending.{IsPinged}
+use Rattle.ws_core.specs.declared.fault.LinkFault.{LinkFault}
 
 -- how far the conversation has come of what sits at a place
 abbrev pub progress_at : {B L : Type 0} → Option (Seated B L) → Progress
@@ -107,3 +109,8 @@ abbrev pub UnservedAt : {B L : Type 0} → (L → Option (List (List ℕ))) → 
 UnservedAt sent received None new = new ≡ None
 UnservedAt sent received (Some was) new =
     (is : Seated _ _) × (new ≡ Some is) × Unserved sent was.slot was.link is.slot is.link × Idles received was.slot was.link is.slot is.link
+
+-- nobody came or went, and the link of one who sits there was pinged
+abbrev pub PingedAt : {B L : Type 0} → (L → L → Type 0) → (L → L → LinkFault → Type 0) → (L → L → Type 0) → Option (Seated B L) → Option (Seated B L) → Type 0
+PingedAt pings refuses flushes None new = new ≡ None
+PingedAt pings refuses flushes (Some was) new = (is : Seated _ _) × (new ≡ Some is) × IsPinged pings refuses flushes was.link is.link

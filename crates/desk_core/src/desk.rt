@@ -18,7 +18,8 @@ use std::snapshot::Snapshot;
 use ws_core::Link;
 
 /// One seat at the broker, and the connections that speak through it, each at a place of its own, which is its client's number. Contracts
-/// see the seat as it was when the desk was made and as it is, and what sits at the places.
+/// see the seat as it was when the desk was made and as it is, what sits at the places, and the limit: how many bytes all sessions of the
+/// desk together may have in a snapshot of the broker.
 ///
 /// After what was the seat's own when the desk was made, what belongs to each session is one conversation, and no two connections have
 /// one session. This holds for each desk, whatever was called of it.
@@ -50,9 +51,9 @@ impl<B: Bell, L: Link + Drop> Desk<B, L> {
     ghost use Rattle.desk_core.specs.Conversations.{Converse};
     ghost use Rattle.connection_core.specs.Connections.{evicted, with_given_up, with_lost};
     ghost use Rattle.desk_core.specs.Desks.{Admits, Changes, IsWhy, Leaves, Others, TalkApart, Turns, Touches, desk, seated_at};
-    ghost use Rattle.desk_core.specs.Places.{cut_at, is_open_at, is_over_at};
+    ghost use Rattle.desk_core.specs.Places.{PingedAt, cut_at, is_open_at, is_over_at};
 
-    /// A desk with no connection, whose sessions may have so many bytes together in a snapshot of the broker. No memory is taken.
+    /// A desk with no connection, whose sessions may have `limit` bytes together in a snapshot of the broker. No memory is taken.
     pub fn new(alloc: Global, seat: BrokerSeat<OutSender<B>>, limit: u64) -> Desk<B, L>
         ensures { result ≡ desk limit seat seat [] }
     {
@@ -186,7 +187,8 @@ impl<B: Bell, L: Link + Drop> Desk<B, L> {
     /// Sends a ping to the client at that place (RFC 6455, section 5.5.2), as far as its stream takes it. It does nothing if there is
     /// none, or if memory is refused. A link that is over is found so by the connection's next turn.
     pub fn ping(&mut self, at: usize)
-        ensures { Touches L.sent L.received self.old self.new at }
+        ensures pinged { PingedAt L.pings L.refuses L.flushes (seated_at self.old.places at) (seated_at self.new.places at) }
+        ensures touches { Touches L.sent L.received self.old self.new at }
     {
         if at < self.places.len() {
             ping_at(&mut self.places[at]);

@@ -1,8 +1,7 @@
 //! How much a desk keeps for its connections.
 
-ghost use Rattle.std.specs.Prelude.{◌≡◌, ◌≤◌, ◌-◌, ◌^◌, min, true};
 ghost use Rattle.desk_core.specs.Desks.{seated_at};
-ghost use Rattle.desk_core.specs.Holdings.{has_left, kept_at};
+ghost use Rattle.desk_core.specs.Holdings.{HeldAt};
 
 use crate::desk::Desk;
 use crate::place::Place;
@@ -12,10 +11,10 @@ use ws_core::Link;
 impl<B: Bell, L: Link + Drop> Desk<B, L> {
     /// How many bytes are kept for the connection at that place. These are what waits in its outbox, the members of open transactions,
     /// the frame that its client has not finished, the frames that wait for the ring, and what its link keeps. 0 if there is none, or if
-    /// its link is over: then it is being let go.
+    /// its link is over: then it is being let go. 2^64 - 1 if they are more. Of what waits in the outbox the clause says only that it is
+    /// no more than that has room for.
     pub fn held(&self, at: usize) -> u64
-        ensures least { min (kept_at (seated_at self.now.places at)) (2 ^ 64 - 1) ≤ result }
-        ensures none { has_left (seated_at self.now.places at) ≡ true → result ≡ 0 }
+        ensures { HeldAt L.keeps (seated_at self.now.places at) result }
     {
         match self.places.get(at) {
             Some(place) => held_at(place),
@@ -26,8 +25,7 @@ impl<B: Bell, L: Link + Drop> Desk<B, L> {
 
 // How many bytes are kept for the connection there.
 fn held_at<B: Bell, L: Link>(place: &Place<B, L>) -> u64
-    ensures least { min (kept_at place.now) (2 ^ 64 - 1) ≤ result }
-    ensures none { has_left place.now ≡ true → result ≡ 0 }
+    ensures { HeldAt L.keeps place.now result }
 {
     match place {
         Some(seated) => seated.held(),

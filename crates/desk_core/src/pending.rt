@@ -24,7 +24,7 @@ pub struct Pending<B: Bell> {
     pub(crate) taker: Option<OutTaker>,
     // What its command counts for while it waits.
     pub(crate) bytes: u64,
-    ghost weighs: { op_weight entry.command.op entry.command.receipt ≤ bytes },
+    ghost weighs: { bytes ≡ op_weight entry.command.op entry.command.receipt },
     ghost said_is: { said ≡ said_of entry.command },
     ghost opens: { (t : TakerValue) → taker ≡ Some t → (role_of entry.command.op ≡ Opens) × (t.taken ≡ []) },
     ghost one_box: { (t : TakerValue) → taker ≡ Some t → box_of entry.outbox ≡ Some t.box },

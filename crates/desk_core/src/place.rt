@@ -25,12 +25,12 @@ pub enum NotAdmitted {
 pub(crate) type Place<B, L> = Option<Seated<B, L>>;
 
 impl<B: Bell, L: Link> Seated<B, L> {
-    ghost use Rattle.std.specs.Prelude.{◌≡◌, ◌≤◌, ◌-◌, ◌^◌, Some, min, true};
     ghost use Rattle.connection_core.specs.Connections.{with_given_up, with_lost};
     ghost use Rattle.desk_core.specs.Histories.{Idles};
-    ghost use Rattle.desk_core.specs.Holdings.{kept_at};
-    ghost use Rattle.desk_core.specs.Places.{IsChanged, has_no_link};
+    ghost use Rattle.desk_core.specs.Holdings.{IsHeld};
+    ghost use Rattle.desk_core.specs.Places.{IsChanged};
     ghost use Rattle.desk_core.specs.Slots.{Unserved};
+    ghost use Rattle.ws_core.specs.Sending.{IsPinged};
 
     // Its link is over.
     pub(crate) fn lose(&mut self)
@@ -52,8 +52,7 @@ impl<B: Bell, L: Link> Seated<B, L> {
 
     // How many bytes are kept for it, and none once its link is over.
     pub(crate) fn held(&self) -> u64
-        ensures least { min (kept_at (Some self.now)) (2 ^ 64 - 1) ≤ result }
-        ensures none { has_no_link self.now.slot.connection.stage ≡ true → result ≡ 0 }
+        ensures { IsHeld L.keeps self.now result }
     {
         match self.slot.connection.stage() {
             Stage::Leaving | Stage::Over(_) => 0,
@@ -63,6 +62,7 @@ impl<B: Bell, L: Link> Seated<B, L> {
 
     // Sends its client a ping.
     pub(crate) fn ping(&mut self)
+        ensures pinged { IsPinged L.pings L.refuses L.flushes self.old.link self.new.link }
         ensures unserved { Unserved L.sent self.old.slot self.old.link self.new.slot self.new.link }
         ensures lives { Idles L.received self.old.slot self.old.link self.new.slot self.new.link }
     {

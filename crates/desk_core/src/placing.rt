@@ -5,7 +5,7 @@ ghost use Rattle.std.specs.Vec.{vec_capacity};
 ghost use Rattle.desk_core.specs.Continues.{Continues};
 ghost use Rattle.connection_core.specs.Connections.{evicted, with_given_up, with_lost};
 ghost use Rattle.desk_core.specs.Desks.{Trims, reaching};
-ghost use Rattle.desk_core.specs.Places.{ChangedAt, KeepsWithin, Recounts, ServedAt, UnservedAt, counted_at, is_over_at, progress_at};
+ghost use Rattle.desk_core.specs.Places.{ChangedAt, KeepsWithin, PingedAt, Recounts, ServedAt, UnservedAt, counted_at, is_over_at, progress_at};
 
 use crate::place::{Place, Seated};
 use crate::ringers::Ringers;
@@ -81,7 +81,8 @@ pub fn evict_at<B: Bell, L>(alloc: Global, place: &mut Place<B, L>)
 
 // Sends the client there a ping.
 pub fn ping_at<B: Bell, L: Link>(place: &mut Place<B, L>)
-    ensures { UnservedAt L.sent L.received place.old place.new }
+    ensures pinged { PingedAt L.pings L.refuses L.flushes place.old place.new }
+    ensures unserved { UnservedAt L.sent L.received place.old place.new }
 {
     if let Some(seated) = place {
         seated.ping();

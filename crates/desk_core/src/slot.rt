@@ -25,10 +25,10 @@ pub struct Slot<B: Bell> {
 }
 
 impl<B: Bell> Slot<B> {
-    ghost use Rattle.std.specs.Prelude.{◌≤◌, ◌-◌, ◌^◌, min};
+    ghost use Rattle.std.specs.Prelude.{◌≤◌};
     ghost use Rattle.connection_core.specs.Connections.{evicted, with_room};
     ghost use Rattle.connection_core.specs.Footprints.{IsFootprint};
-    ghost use Rattle.desk_core.specs.Holdings.{kept_by};
+    ghost use Rattle.desk_core.specs.Holdings.{IsKept, MayWait, entry_weight};
     ghost use Rattle.desk_core.specs.Places.{is_over};
     ghost use Rattle.desk_core.specs.Slots.{IsNew};
 
@@ -65,19 +65,31 @@ impl<B: Bell> Slot<B> {
 
     // How many bytes wait in its outbox, or are kept of what its client said, with the entry that waits.
     pub(crate) fn held(&self) -> u64
-        ensures { min (kept_by self.now) (2 ^ 64 - 1) ≤ result }
+        ensures { IsKept self.now 0 result }
     {
-        let waiting = match &self.outbox {
+        self.waiting()
+            .saturating_add(self.connection.held())
+            .saturating_add(self.entry_bytes())
+    }
+
+    // How many bytes wait in its outbox.
+    fn waiting(&self) -> u64
+        ensures { MayWait self.now.outbox result }
+    {
+        match &self.outbox {
             Some(taker) => taker.waiting(),
             None => 0,
-        };
-        let entry = match &self.pending {
+        }
+    }
+
+    // What the entry counts for that waits.
+    fn entry_bytes(&self) -> u64
+        ensures { result ≡ entry_weight self.now.pending }
+    {
+        match &self.pending {
             Some(pending) => pending.bytes,
             None => 0,
-        };
-        waiting
-            .saturating_add(self.connection.held())
-            .saturating_add(entry)
+        }
     }
 
     // It is evicted: its link is over, and what its client has asked for is dropped, but for the entry that waits.
