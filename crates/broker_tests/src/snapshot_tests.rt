@@ -201,18 +201,22 @@ fn a_state_of_every_part_is_written_and_read(rt: HostRuntime) -> Result<(), Fail
     Ok(())
 }
 
-// Whether the bytes with that one greater are read as a state that is written so.
-fn goes_both_ways_with(alloc: Global, bytes: &mut [u8], at: usize) -> Result<bool, Fail> {
+// Whether the bytes with that one greater are what a mark says: a state that is written so, or none.
+fn is_marked_so(alloc: Global, bytes: &mut [u8], at: usize, mark: u8) -> Result<bool, Fail> {
     let Some(byte) = bytes.get_mut(at) else {
         return Err(Fail::from("a mark of no byte"));
     };
     let was = *byte;
     *byte = was.wrapping_add(1);
-    let is_state = goes_both_ways(alloc, bytes)?;
+    let is_so = if mark == b'.' {
+        goes_both_ways(alloc, bytes)?
+    } else {
+        is_no_state(alloc, bytes)
+    };
     if let Some(byte) = bytes.get_mut(at) {
         *byte = was;
     }
-    Ok(is_state)
+    Ok(is_so)
 }
 
 // The first byte that gives something other than the marks say, or how many bytes are marked.
@@ -220,7 +224,7 @@ fn marked(alloc: Global, bytes: &mut [u8]) -> Result<usize, Fail> {
     let mut at = 0_usize;
     for (_, marks) in &STATE {
         for mark in marks.as_bytes() {
-            if goes_both_ways_with(alloc, bytes, at)? != (*mark == b'.') {
+            if !is_marked_so(alloc, bytes, at, *mark)? {
                 return Ok(at);
             }
             at = at.wrapping_add(1);

@@ -49,11 +49,14 @@ fn speak(rt: &HostRuntime, stream: &mut TcpStream, answer: &mut Vec<u8>) -> bool
     hear(stream, answer)
 }
 
-// Whether an answer takes the handshake, with the key's answer.
+// Whether an answer takes the handshake, with the key's answer. No subprotocol was offered, so none is chosen.
 fn takes(answer: &[u8]) -> bool {
     match str::from_utf8(answer) {
         Ok(text) => {
-            text.starts_with("HTTP/1.1 101") && text.contains("s3pPLMBiTxaQ9kYGzzhZRbK+xOo=")
+            text.starts_with("HTTP/1.1 101 ")
+                && text.contains("\r\nsec-websocket-accept: s3pPLMBiTxaQ9kYGzzhZRbK+xOo=\r\n")
+                && !text.contains("sec-websocket-protocol")
+                && text.ends_with("\r\n\r\n")
         }
         Err(_) => false,
     }

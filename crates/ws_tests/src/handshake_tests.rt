@@ -5,11 +5,33 @@ use std::sync::Arc;
 use std::test::Fail;
 use ws_core::{Greeted, Greeting, Refusal, Vacancy};
 
-// The accept key of section 1.3.
-const ACCEPT: &str = "sec-websocket-accept: s3pPLMBiTxaQ9kYGzzhZRbK+xOo=";
+// What section 4.2.2 asks of a response, with the accept key of section 1.3. A field's name may be written in either case.
+const FIELDS: &[&str] = &[
+    "\r\nupgrade: websocket\r\n",
+    "\r\nconnection: Upgrade\r\n",
+    "\r\nsec-websocket-accept: s3pPLMBiTxaQ9kYGzzhZRbK+xOo=\r\n",
+];
 
-// What is written to a client with this request, and whether it is accepted.
-fn answered(alloc: Global, request: &str) -> Result<(bool, String), Fail> {
+// A handshake that waits, or what it has come to: + for a client that is accepted, - for one that is refused, ! if it failed.
+fn outcome(greeted: Greeted<&Wire>) -> Result<Greeting<&Wire>, u8> {
+    match greeted {
+        Greeted::Waits(greeting) => Ok(greeting),
+        Greeted::Accepted(_link) => Err(b'+'),
+        Greeted::Refused(_refusal, _wire) => Err(b'-'),
+        Greeted::Failed(_fault) => Err(b'!'),
+    }
+}
+
+// What it has come to, a point if it waits.
+fn mark_of(greeted: Greeted<&Wire>) -> u8 {
+    match outcome(greeted) {
+        Ok(_greeting) => b'.',
+        Err(mark) => mark,
+    }
+}
+
+// What the handshake of a client with this request has come to after one call, and what is written to it.
+fn answered(alloc: Global, request: &str) -> Result<(u8, String), Fail> {
     answered_for(alloc, request, all_origins(alloc)?)
 }
 
@@ -18,12 +40,10 @@ fn answered_for(
     alloc: Global,
     request: &str,
     origins: Arc<Vec<Vec<u8>>>,
-) -> Result<(bool, String), Fail> {
+) -> Result<(u8, String), Fail> {
     let wire = Wire::new(alloc, request.as_bytes(), b"", usize::MAX)?;
-    let greeted = Greeting::new(alloc, &wire, origins).greet(alloc);
-    let is_accepted = matches!(greeted, Greeted::Accepted(_));
-    drop(greeted);
-    Ok((is_accepted, written(alloc, &wire)?))
+    let mark = mark_of(Greeting::new(alloc, &wire, origins).greet(alloc));
+    Ok((mark, written(alloc, &wire)?))
 }
 
 // What was written since this was last asked.
@@ -79,13 +99,18 @@ const OFFERS: &[(&str, &str, bool)] = &[
 // Whether a request with these lines is answered so.
 fn is_answer(alloc: Global, lines: &str, status: &str, chosen: bool) -> Result<bool, Fail> {
     let request = with_lines(alloc, lines)?;
-    let (is_accepted, answer) = answered(alloc, request.as_str())?;
+    let (mark, answer) = answered(alloc, request.as_str())?;
     let answer = answer.as_str();
     let accepts = status == ACCEPTED;
+    let mut tells = true;
+    for field in FIELDS {
+        tells &= answer.contains(*field) == accepts;
+    }
     Ok(
         answer.starts_with(status)
-            && is_accepted == accepts
-            && answer.contains(ACCEPT) == accepts
+            && mark == if accepts { b'+' } else { b'-' }
+            && tells
+            && answer.ends_with("\r\n\r\n") == accepts
             && answer.contains("sec-websocket-protocol: v12.stomp\r\n") == chosen
             && answer.contains("sec-websocket-protocol") == chosen,
     )
@@ -118,7 +143,7 @@ const SPOILED: &[(&str, &str, &str)] = &[
     ),
     ("GET", "\u{0}", "HTTP/1.1 400 "),
     ("\r\n\r\n", "\r\n\r\nmore", "HTTP/1.1 400 "),
-    // Half of a head is not answered.
+    // Half of a head is not answered: the stream has ended.
     ("\r\n\r\n", "\r\n", ""),
 ];
 
@@ -141,10 +166,12 @@ fn is_refusal(answer: &str) -> bool {
 fn what_is_no_handshake_is_told_why(rt: HostRuntime) -> Result<(), Fail> {
     for (old, new, status) in SPOILED {
         let request = REQUEST.replace(rt.alloc(), *old, *new)?;
-        let (is_accepted, answer) = answered(rt.alloc(), request.as_str())?;
+        let (mark, answer) = answered(rt.alloc(), request.as_str())?;
         let answer = answer.as_str();
+        let is_answered = !status.is_empty();
+        assert!(rt; answer.starts_with(*status), "{new}: {answer}");
         assert!(rt;
-            !is_accepted && answer.starts_with(*status),
+            mark == if is_answered { b'-' } else { b'!' } && answer.is_empty() != is_answered,
             "{new}: {answer}"
         );
         assert!(rt; is_refusal(answer), "{answer}");
@@ -179,56 +206,37 @@ fn pages_of_other_origins_are_told_403(rt: HostRuntime) -> Result<(), Fail> {
     for (lines, accepts) in ORIGINS {
         let request = REQUEST.replace(alloc, "Origin: http://example.com\r\n", *lines)?;
         let (all, _) = answered(alloc, request.as_str())?;
-        let (is_accepted, answer) = answered_for(alloc, request.as_str(), two_origins(alloc)?)?;
-        assert!(rt; all && is_accepted == *accepts, "{lines}");
-        assert!(rt;
-            *accepts || answer.as_str().starts_with("HTTP/1.1 403 "),
-            "{lines}"
-        );
+        let (mark, answer) = answered_for(alloc, request.as_str(), two_origins(alloc)?)?;
+        let (outcome, status) = if *accepts {
+            (b'+', ACCEPTED)
+        } else {
+            (b'-', "HTTP/1.1 403 ")
+        };
+        assert!(rt; all == b'+' && mark == outcome, "{lines}");
+        assert!(rt; answer.as_str().starts_with(status), "{lines}");
     }
     Ok(())
 }
 
-// How many bytes are read of a head that does not end, if a read gives so many. `None` if it is accepted.
-fn bytes_read(alloc: Global, step: usize) -> Result<Option<usize>, Fail> {
+// What the handshake comes to of a head that does not end, if a read gives so many bytes; what is written, and how many bytes are read.
+fn given_up(alloc: Global, step: usize) -> Result<(u8, String, usize), Fail> {
     let endless = vec![in alloc; b'a'; 1_000_000]?;
     let wire = Wire::new(alloc, b"", endless.as_slice(), step)?;
-    let greeted = Greeting::new(alloc, &wire, all_origins(alloc)?).greet(alloc);
-    if matches!(greeted, Greeted::Accepted(_)) {
-        return Ok(None);
-    }
-    drop(greeted);
-    Ok(Some(wire.read_so_far()))
+    let mark = mark_of(Greeting::new(alloc, &wire, all_origins(alloc)?).greet(alloc));
+    Ok((mark, written(alloc, &wire)?, wire.read_so_far()))
 }
 
 #[test]
 fn a_head_that_does_not_end_is_given_up(rt: HostRuntime) -> Result<(), Fail> {
-    // The limit and one read of 4,096 bytes; 64 reads and one more.
-    for (step, most) in [(usize::MAX, 20_480), (1, 65)] {
-        let Some(count) = bytes_read(rt.alloc(), step)? else {
-            return Err(Fail::from("accepted"));
-        };
-        assert!(rt; count <= most, "{count}");
-    }
+    // The limit and one read of 4,096 bytes is refused.
+    let (mark, answer, count) = given_up(rt.alloc(), usize::MAX)?;
+    let answer = answer.as_str();
+    assert!(rt; mark == b'-' && count == 20_480, "{count}");
+    assert!(rt; answer.starts_with("HTTP/1.1 431 ") && is_refusal(answer));
+    // 64 reads and one more of a byte each are too slow, and not answered.
+    let (mark, answer, count) = given_up(rt.alloc(), 1)?;
+    assert!(rt; mark == b'!' && answer.is_empty() && count == 65, "{count}");
     Ok(())
-}
-
-// A handshake that waits, or what it has come to: + for a client that is accepted, - for one that is refused, ! if it failed.
-fn outcome(greeted: Greeted<&Wire>) -> Result<Greeting<&Wire>, u8> {
-    match greeted {
-        Greeted::Waits(greeting) => Ok(greeting),
-        Greeted::Accepted(_link) => Err(b'+'),
-        Greeted::Refused(_refusal, _wire) => Err(b'-'),
-        Greeted::Failed(_fault) => Err(b'!'),
-    }
-}
-
-// What the next call makes of it: a point if it waits.
-fn mark_of_next(alloc: Global, greeting: Greeting<&Wire>) -> u8 {
-    match outcome(greeting.greet(alloc)) {
-        Ok(_greeting) => b'.',
-        Err(mark) => mark,
-    }
 }
 
 // What a handshake comes to at the first call, a point if it waits, and what is written then. Also what it comes to at the next
@@ -244,7 +252,7 @@ fn greeted_twice(
     wire.open_to(usize::MAX);
     wire.take_only(usize::MAX);
     let (before, after) = match first {
-        Ok(greeting) => (b'.', mark_of_next(alloc, greeting)),
+        Ok(greeting) => (b'.', mark_of(greeting.greet(alloc))),
         Err(mark) => (mark, mark),
     };
     Ok((before, String::from_utf8(shown)?, after))

@@ -1,9 +1,11 @@
-use crate::driver::{Do, Row, first_wrong, shown};
+use crate::driver::{Do, REQUEST, Row, accepted, first_wrong, shown};
 use crate::frames::{frames, put_head};
+use crate::wire::Wire;
 use command_core::Op;
 use session_core::{Act, Session};
 use std::alloc::Global;
 use std::test::Fail;
+use ws_core::{Link, Received, WsLink};
 
 const ONCE: &[Do] = &[Do::Hear];
 
@@ -200,27 +202,51 @@ fn a_message_is_given_in_pieces_of_1024_bytes(rt: HostRuntime) -> Result<(), Fai
     Ok(())
 }
 
-// A CONNECT in two parts, of which the first has 19 bytes. That they come out of two messages is a row above.
-const CONNECT: [&[u8]; 2] = [b"CONNECT\naccept-vers", b"ion:1.2\n\n\0"];
+// A CONNECT in two messages, of which the first has 19 bytes.
+const CONNECT: &[(u8, &[u8])] = &[(0x82, b"CONNECT\naccept-vers"), (0x82, b"ion:1.2\n\n\0")];
 
-// What a session does for each of these bytes: nothing, a command that opens it, or something else.
-fn heard_by_session(alloc: Global, parts: &[&[u8]]) -> Result<Vec<u8>, Fail> {
-    let mut session = Session::new(alloc);
+// What a session does for the next message of a link: nothing, a command that opens it, or something else.
+fn hear_next(alloc: Global, link: &mut WsLink<&Wire>, session: &mut Session) -> Result<u8, Fail> {
+    let Received::Bytes(bytes) = link.receive(alloc) else {
+        return Err(Fail::from("no message"));
+    };
+    let acts = session.feed(alloc, bytes.as_slice())?;
+    Ok(match acts.as_slice() {
+        [] => b'.',
+        [Act::Do(Op::Open { .. }, None)] => b'o',
+        _ => b'?',
+    })
+}
+
+// What it does for each of so many.
+fn hear_all(
+    alloc: Global,
+    link: &mut WsLink<&Wire>,
+    session: &mut Session,
+    count: usize,
+) -> Result<Vec<u8>, Fail> {
     let mut heard = Vec::new(alloc);
-    for part in parts {
-        let acts = session.feed(alloc, part)?;
-        heard.push(match acts.as_slice() {
-            [] => b'.',
-            [Act::Do(Op::Open { .. }, None)] => b'o',
-            _ => b'?',
-        })?;
+    for _message in 0..count {
+        let mark = hear_next(alloc, link, session)?;
+        heard.push(mark)?;
     }
     Ok(heard)
 }
 
+// What it does for each of these frames, which a link reads off a stream, at most so many bytes a read.
+fn heard_over_a_link(alloc: Global, sent: &[(u8, &[u8])], step: usize) -> Result<Vec<u8>, Fail> {
+    let input = frames(alloc, sent)?;
+    let wire = Wire::new(alloc, REQUEST.as_bytes(), input.as_slice(), step)?;
+    let mut link = accepted(alloc, &wire)?;
+    let mut session = Session::new(alloc);
+    hear_all(alloc, &mut link, &mut session, sent.len())
+}
+
 #[test]
 fn a_frame_of_stomp_may_be_cut_over_two_messages(rt: HostRuntime) -> Result<(), Fail> {
-    let heard = heard_by_session(rt.alloc(), &CONNECT)?;
-    assert_eq!(rt; heard.as_slice(), b".o".as_slice());
+    for step in [usize::MAX, 1] {
+        let heard = heard_over_a_link(rt.alloc(), CONNECT, step)?;
+        assert_eq!(rt; heard.as_slice(), b".o".as_slice());
+    }
     Ok(())
 }
