@@ -23,6 +23,7 @@ use disk_core::FileDisk;
 use event_log::{Event, ServeFault, Start};
 use flush_core::FlushFault;
 use hub_core::{Hub, HubFlusher, SeatRoom, compact_last, flush_loop};
+use snapshot_room::{HELD_BYTES, desk_bytes};
 use std::alloc::Global;
 use std::fs::{File, Files};
 use std::io::Write;
@@ -41,9 +42,6 @@ pub const MOST_CLIENTS: u64 = 16_384;
 
 /// How many bytes its clients may hold together, if nothing else is said.
 pub const MOST_MEMORY: u64 = 1_073_741_824;
-
-/// How many bytes of an area all that may be held takes at most, with a block of commands and what a snapshot has besides.
-const HELD_BYTES: u64 = 25_300_000;
 
 /// Why a server serves no more.
 #[derive(Debug, Drop)]
@@ -348,19 +346,10 @@ fn share<R: Wait + Clone + Drop>(
         wakeups,
         memory,
         pace: Pace::new(alloc, SEATS)?,
-        desk_bytes: desk_bytes(most_clients, flusher.size()),
+        desk_bytes: desk_bytes(SEATS as u64, most_clients, flusher.size()),
     };
     let shared = shared_by(alloc, shared)?;
     Ok((shared, acceptor, setups))
-}
-
-// How many bytes the sessions of a desk may have together in a snapshot of the broker. All desks have `SESSION_BYTES` for each client, or what
-// an area has room for beside what may be held; but each has as many as one client.
-fn desk_bytes(most_clients: u64, area: u64) -> u64 {
-    let all = most_clients
-        .saturating_mul(SESSION_BYTES)
-        .min(area.saturating_sub(HELD_BYTES));
-    (all / SEATS as u64).max(SESSION_BYTES)
 }
 
 // Says how the server does, and whether a compaction has left little room.
