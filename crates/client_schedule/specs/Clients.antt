@@ -1,5 +1,5 @@
 -- What contracts see of a worker's clients.
-use Rattle.std.specs.Prelude.{◌≡◌, ◌≢◌, ◌||◌, ◌+◌, ◌-◌, ◌^◌, not, ℕ, Bool, true, false, [], Option, Some, None, MatchOption, cond, length, min, option_map, suc, zero}
+use Rattle.std.specs.Prelude.{◌≡◌, ◌≢◌, ◌||◌, ◌+◌, ◌-◌, ◌^◌, not, ℕ, Bool, true, false, [], Option, Some, None, MatchOption, cond, length, max, min, option_map, suc, zero}
 use Rattle.std.specs.Option.{is_some}
 use Rattle.desk_core.specs.declared.turned.Turned.{Turned}
 use Rattle.desk_core.specs.declared.turned.Next.{Next}
@@ -37,12 +37,13 @@ pub record IsEmpty (c : Clients) : Type 0 where
   pub timers : (length c.timers.all ≡ CLIENTS) × (c.timers.earliest ≡ NEVER)
   pub retry : c.retry ≡ NEVER
 
--- a client has come, under the next number, and stands in line for a turn; it is to be looked at now
+-- A client has come, under the next number, and stands in line for a turn. It is to be looked at now, and among those that are looked through.
 pub record Admits (now : ℕ) (old new : Clients) (client : Client) : Type 0 where
   pub all : Updates old.all new.all old.all.vacant_key (Some client)
   pub lines : new.lines ≡ woken old.all.vacant_key old.lines
   pub timers : new.timers ≡ with_moment old.all.vacant_key now old.timers
   pub retry : new.retry ≡ old.retry
+  pub reach : new.reach ≡ max old.reach (min (old.all.vacant_key + 1) (2 ^ 64 - 1))
 
 -- A client has gone, and is not to be looked at; in lines its number may stand yet. Once there is none, no room is kept for any.
 pub record Removes (old new : Clients) (n : ℕ) : Type 0 where
@@ -50,6 +51,7 @@ pub record Removes (old new : Clients) (n : ℕ) : Type 0 where
   pub lines : new.lines ≡ old.lines
   pub timers : new.timers ≡ with_moment n NEVER old.timers
   pub retry : new.retry ≡ old.retry
+  pub reach : new.reach ≡ old.reach
   pub nothing : slab_len new.all ≡ 0 → new.all.slots ≡ []
 
 -- it sits at the desk

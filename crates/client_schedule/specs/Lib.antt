@@ -1,6 +1,7 @@
 pub mod Clients
 pub mod Kept
 pub mod Lines
+pub mod Outlooks
 pub mod Deadlines
 pub mod Frames
 pub mod ReadBudget
