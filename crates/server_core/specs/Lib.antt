@@ -1,3 +1,4 @@
 pub mod Bells
 pub mod Handing
 pub mod Serving
+pub mod Waits

@@ -3,13 +3,14 @@
 ghost use Rattle.std.specs.Prelude.{◌≡◌, ◌<◌, ◌≤◌, ◌+◌, [], IfOk, length, vec_len, vec_capacity};
 ghost use Rattle.atomic_table.specs.Seated.{TableId};
 ghost use Rattle.server_core.specs.Serving.{AreAt, AreBack, AreServed};
+ghost use Rattle.server_core.specs.Waits.{first_due, is_anybody_let_in, is_anybody_ready, is_mark_awaited, wait_of};
 
 use crate::doorbell::Doorbell;
 use crate::mailbox::Mailbox;
 use crate::service::{Service, client_of};
 use crate::shared::{ServerSeat, Shared};
 use crate::worker_setup::{WorkerSetup, room_for_events};
-use client_schedule::{Clients, Watch, told_by};
+use client_schedule::{Clients, Outlook, Watch, told_by};
 use mio::{Events, Poll, Registry};
 use std::alloc::{AllocError, Global};
 use std::marker::Model;
@@ -17,15 +18,8 @@ use std::sync::{Arc, Wait};
 use std::thread;
 use std::time::{Clock, Duration};
 
-/// For how many milliseconds a worker waits at most before it looks again. Nothing waits for this to end.
-const LONGEST_SLEEP: u64 = 10_000;
-
 /// For how many milliseconds a worker waits at most, once the server ends, for clients to take what is theirs and to close.
 const LONGEST_FAREWELL: u64 = 2_000;
-
-/// For how many milliseconds it waits at most before it looks again whether that time is over. Or, while all clients together hold more
-/// memory than they may, before it looks whether one of its own holds most.
-const LONGEST_LOOK: u64 = 250;
 
 /// For how many milliseconds a worker rests before it tries again, if memory was refused to it before it had begun.
 const SHORTAGE: u64 = 20;
@@ -161,46 +155,17 @@ impl<'a, R: Wait + Clock + Drop> EventLoop<'a, R> {
     fn wait(&mut self)
         ensures { self.new ≡ self.old }
     {
-        let awaits_mark = self.services.iter().any(|service| service.awaits_mark());
-        if awaits_mark {
-            self.shared.wakeups.begin_to_wait(&self.bell);
-        }
-        let longest = self.longest_wait();
+        let awaits = is_mark_awaited(&self.services);
+        let mark = self.shared.wakeups.begin_to_wait(&self.bell, awaits);
+        let was_rung = !is_anybody_ready(&self.services) && !self.bell.falls_asleep();
+        let looks_soon = self.parting.is_some() || self.shared.memory.is_over();
+        let longest = longest_wait(&self.services, mark, was_rung, looks_soon, self.now);
         let _ = self
             .poll
             .poll(&mut self.events, Some(Duration::from_millis(longest)));
-        if awaits_mark {
-            self.shared.wakeups.end_to_wait(&self.bell);
-        }
+        self.shared.wakeups.end_to_wait(&self.bell, awaits);
         self.watch.go_on(self.shared.moment(), longest);
         self.now = self.watch.now();
-    }
-
-    // For how many milliseconds it may wait. Anyone who has something for it from then on wakes it.
-    fn longest_wait(&self) -> u64 {
-        if self.is_ready() || !self.bell.falls_asleep() {
-            return 0;
-        }
-        // The mark is read once the flusher can see that it is waited for.
-        let mark = self.shared.wakeups.mark();
-        let mut until = u64::MAX;
-        for service in &self.services {
-            if service.is_over(mark) {
-                return 0;
-            }
-            until = until.min(service.until());
-        }
-        let longest = if self.parting.is_some() || self.shared.memory.is_over() {
-            LONGEST_LOOK
-        } else {
-            LONGEST_SLEEP
-        };
-        longest.min(until.saturating_sub(self.now).saturating_add(1))
-    }
-
-    // Whether a client stands in line for a turn.
-    fn is_ready(&self) -> bool {
-        self.services.iter().any(|service| service.is_ready())
     }
 
     // Gives those that stand in line their turns, and then those that go on by themselves, at whichever desk they are.
@@ -210,6 +175,58 @@ impl<'a, R: Wait + Clock + Drop> EventLoop<'a, R> {
         pass_all(&mut self.services);
         pass_again_all(&mut self.services);
     }
+}
+
+// For how many milliseconds the worker of these desks waits at most, at this mark and this moment, by whether its bell was rung and whether
+// it looks again soon.
+fn longest_wait<R: Wait + Clock + Drop>(
+    services: &[Service<'_, R>],
+    mark: u64,
+    was_rung: bool,
+    looks_soon: bool,
+    now: u64,
+) -> u64
+    ensures { result ≡ wait_of services.now mark was_rung looks_soon now }
+{
+    let is_wanted = was_rung || is_anybody_ready(services) || is_anybody_let_in(services, mark);
+    let outlook = Outlook {
+        is_wanted,
+        looks_soon,
+        due: first_due(services),
+    };
+    outlook.longest_wait(now)
+}
+
+// Whether a client of one of these desks is ready.
+fn is_anybody_ready<R: Wait + Clock + Drop>(services: &[Service<'_, R>]) -> bool
+    ensures { result ≡ is_anybody_ready services.now }
+{
+    services.iter().any(|service| service.is_ready())
+}
+
+// Whether a client of one of these desks waits for the mark.
+fn is_mark_awaited<R: Wait + Clock + Drop>(services: &[Service<'_, R>]) -> bool
+    ensures { result ≡ is_mark_awaited services.now }
+{
+    services.iter().any(|service| service.awaits_mark())
+}
+
+// Whether this mark lets a client of one of these desks in.
+fn is_anybody_let_in<R: Wait + Clock + Drop>(services: &[Service<'_, R>], mark: u64) -> bool
+    ensures { result ≡ is_anybody_let_in mark services.now }
+{
+    services.iter().any(|service| service.is_over(mark))
+}
+
+// A moment before which nothing is due at any of these desks.
+fn first_due<R: Wait + Clock + Drop>(services: &[Service<'_, R>]) -> u64
+    ensures { result ≡ first_due services.now }
+{
+    let mut first = u64::MAX;
+    for service in services {
+        first = first.min(service.until());
+    }
+    first
 }
 
 /// The room that a worker needs, which it makes itself: no other thread ever has it.

@@ -1,6 +1,7 @@
 //! A desk of a worker, and how its clients are served.
 
 ghost use Rattle.std.specs.Prelude.{◌≡◌};
+ghost use Rattle.client_schedule.specs.Outlooks.{awaits_mark, due_at, is_ready, lets_in};
 
 use crate::calls::{BITS, Called, WORDS};
 use crate::mailbox::{Arrival, BellRope, Mailbox, Ropes};
@@ -111,22 +112,30 @@ impl<'a, R: Wait + Clock + Drop> Service<'a, R> {
     }
 
     /// Whether a client stands in line for a turn, or goes on by itself.
-    pub(crate) fn is_ready(&self) -> bool {
-        self.clients.count_ready() > 0 || self.clients.count_again() > 0
+    pub(crate) fn is_ready(&self) -> bool
+        ensures { result ≡ is_ready self.entry.now.clients }
+    {
+        self.clients.is_ready()
     }
 
     /// Whether a client waits for the mark.
-    pub(crate) fn awaits_mark(&self) -> bool {
-        self.clients.count_waiting() > 0
+    pub(crate) fn awaits_mark(&self) -> bool
+        ensures { result ≡ awaits_mark self.entry.now.clients }
+    {
+        self.clients.awaits_mark()
     }
 
     /// Whether a client is let in at this mark.
-    pub(crate) fn is_over(&self, mark: u64) -> bool {
+    pub(crate) fn is_over(&self, mark: u64) -> bool
+        ensures { result ≡ lets_in mark self.entry.now.clients }
+    {
         self.clients.is_over(mark)
     }
 
     /// Until when there is nothing to do of which neither the poll nor the doorbell tells.
-    pub(crate) fn until(&self) -> u64 {
+    pub(crate) fn until(&self) -> u64
+        ensures { result ≡ due_at self.entry.now.clients }
+    {
         self.clients.until()
     }
 

@@ -174,17 +174,22 @@ impl<T> Wakeups<T> {
         self.mark.load(Ordering::SeqCst)
     }
 
-    /// Says that this worker waits for a greater mark from now on: it is told of one that is published from then on. It has to
-    /// look at the mark before it sleeps.
-    pub(crate) fn begin_to_wait(&self, bell: &Doorbell) {
-        bell.await_mark(true);
-        self.waiting.fetch_add(1, Ordering::SeqCst);
+    /// Says whether this worker waits for a greater mark from now on: then it is told of one that is published from then on. Answers the
+    /// mark as it is after that, which the worker looks at before it sleeps.
+    pub(crate) fn begin_to_wait(&self, bell: &Doorbell, awaits: bool) -> u64 {
+        if awaits {
+            bell.await_mark(true);
+            self.waiting.fetch_add(1, Ordering::SeqCst);
+        }
+        self.mark()
     }
 
-    /// Says that this worker waits no more.
-    pub(crate) fn end_to_wait(&self, bell: &Doorbell) {
-        bell.await_mark(false);
-        self.waiting.fetch_sub(1, Ordering::SeqCst);
+    /// Says that this worker waits no more, if it did.
+    pub(crate) fn end_to_wait(&self, bell: &Doorbell, awaits: bool) {
+        if awaits {
+            bell.await_mark(false);
+            self.waiting.fetch_sub(1, Ordering::SeqCst);
+        }
     }
 }
 
