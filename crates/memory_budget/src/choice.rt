@@ -1,7 +1,16 @@
 //! The choice of a client that is given up.
 
 ghost use Rattle.std.specs.Prelude.{◌≡◌, ◌+◌, ◌-◌, ◌^◌, [], ℕ, max, min, IfSome, IsNone, IsTrue, ◌↔◌};
-ghost use Rattle.memory_budget.specs.Budgets.{HasFairShare, IsGivenUp, IsMost};
+ghost use Rattle.memory_budget.specs.Budgets.{HasFairShare, IsGivenUp, IsMost, IsMostElsewhere, count_clients, counts_for};
+
+/// What a desk tells of its clients.
+#[derive(Clone, Copy)]
+pub struct DeskHolds {
+    /// How many clients it has.
+    pub clients: u64,
+    /// The most bytes that one of them holds.
+    pub most: u64,
+}
 
 /// What is known of all clients of a server. Bytes are those that a server counts for its clients.
 #[derive(Clone, Copy)]
@@ -36,8 +45,27 @@ impl Holdings {
         }
     }
 
-    /// The same, if so many clients more sit at a desk, and another decides for these, of which one holds so many bytes and none holds more.
-    pub fn with(self, clients: u64, most: u64) -> Holdings
+    /// What the desk of that number knows of all clients, which hold so many bytes, by what each desk tells. Of clients that hold the same,
+    /// one at a desk of a lower number counts for a byte more. So one of them is given up, and not one of each desk.
+    pub fn known_at(desk: usize, budget: u64, total: u64, desks: &[DeskHolds]) -> Holdings
+        ensures bytes { (result.budget ≡ budget) × (result.total ≡ total) }
+        ensures clients { result.clients ≡ min (count_clients desks.now) (2 ^ 64 - 1) }
+        ensures elsewhere { IsMostElsewhere desk desks.now result.elsewhere }
+    {
+        let mut holdings = Holdings {
+            budget,
+            total,
+            clients: 0,
+            elsewhere: 0,
+        };
+        for (at, holds) in desks.iter().enumerate() {
+            holdings = holdings.with(holds.clients, counts_for(desk, at, *holds));
+        }
+        holdings
+    }
+
+    // The same, if so many clients more sit at a desk, and another decides for these, of which one counts for so many bytes and none for more.
+    fn with(self, clients: u64, most: u64) -> Holdings
         ensures { result ≡ record self { clients = min (self.clients + clients) (2 ^ 64 - 1); elsewhere = max self.elsewhere most } }
     {
         Holdings {
@@ -52,6 +80,19 @@ impl Holdings {
         ensures { IsTrue result ↔ HasFairShare self.now held }
     {
         u128::from(held) * u128::from(self.clients) >= u128::from(self.budget)
+    }
+}
+
+// For how many bytes the client counts that holds most at the desk of a number, if that other desk decides.
+fn counts_for(decides: usize, at: usize, holds: DeskHolds) -> u64
+    ensures { result ≡ counts_for decides at holds }
+{
+    if at == decides {
+        0
+    } else if at < decides {
+        holds.most.saturating_add(1)
+    } else {
+        holds.most
     }
 }
 

@@ -1,6 +1,7 @@
 //! What each of some clients holds.
 
 use crate::choice::most;
+use crate::sum::Change;
 use std::marker::Model;
 use std::mem;
 
@@ -25,8 +26,9 @@ impl Model for Held {
 }
 
 impl Held {
-    ghost use Rattle.std.specs.Prelude.{◌≡◌, ◌<◌, ◌≤◌, length, slice_set};
+    ghost use Rattle.std.specs.Prelude.{◌≡◌, ◌<◌, ◌≤◌, ◌+◌, ◌↔◌, ℕ, length, slice_set, sum, true};
     ghost use Rattle.std.specs.List.{All, slice_index_or};
+    ghost use Rattle.memory_budget.specs.Sums.{Applies, changed, is_more};
     ghost use Rattle.memory_budget.specs.declared.held.TheConstants.{PLACES};
 
     /// Nobody holds anything.
@@ -39,11 +41,13 @@ impl Held {
         Held { bytes, most: 0 }
     }
 
-    /// The client at that place holds so many bytes from now on. Answers how many it held before.
-    pub fn set(&mut self, at: usize, holds: u64) -> u64
+    /// The client at that place holds so many bytes from now on. Answers how the sum changes of what all hold.
+    pub fn set(&mut self, at: usize, holds: u64) -> Change
         requires { at < PLACES }
         ensures holds { self.new.bytes ≡ slice_set self.old.bytes at holds }
-        ensures held { result ≡ slice_index_or self.old.bytes at 0 }
+        ensures change { changed result (sum self.old.bytes) ≡ sum self.new.bytes }
+        ensures applies { Applies result (sum self.old.bytes) }
+        ensures more { is_more result ≡ true ↔ (slice_index_or self.old.bytes at 0 < holds) }
     {
         let greatest = self.bytes[self.most];
         let held = mem::replace(&mut self.bytes[at], holds);
@@ -52,7 +56,7 @@ impl Held {
         } else if at == self.most {
             self.most = most(&self.bytes).unwrap_or(0);
         }
-        held
+        Change::of(held, holds)
     }
 
     /// The most bytes that one of them holds.

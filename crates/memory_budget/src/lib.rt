@@ -2,10 +2,14 @@
 
 #![tactic(auto)]
 
+mod account;
 mod choice;
 mod held;
 mod sum;
+mod total;
 
-pub use choice::Holdings;
+pub use account::{Account, Counted};
+pub use choice::{DeskHolds, Holdings};
 pub use held::{Held, PLACES};
 pub use sum::{Change, passes};
+pub use total::Total;

@@ -1,11 +1,13 @@
 //! The sum of what all clients hold.
 
-ghost use Rattle.std.specs.Prelude.{◌≡◌, ◌≤◌, ◌<◌, ◌+◌, ◌↔◌, ℕ, IsTrue};
-ghost use Rattle.memory_budget.specs.Sums.{changed};
+ghost use Rattle.std.specs.Prelude.{◌≡◌, ◌≤◌, ◌<◌, ◌+◌, ◌↔◌, ℕ, IsTrue, true};
+ghost use Rattle.memory_budget.specs.Sums.{Applies, changed, is_more};
 
 /// How the sum changes of what all clients hold.
 #[derive(Clone, Copy)]
 pub enum Change {
+    /// It stays.
+    Same,
     /// It is so many bytes more.
     More(u64),
     /// It is so many bytes less.
@@ -15,12 +17,15 @@ pub enum Change {
 impl Change {
     /// How a client that held so many bytes, and now holds so many, changes the sum.
     pub fn of(held: u64, holds: u64) -> Change
-        ensures { (total : ℕ) → held ≤ total → changed result total + held ≡ total + holds }
+        ensures change { (total : ℕ) → held ≤ total → (changed result total + held ≡ total + holds) × Applies result total }
+        ensures more { is_more result ≡ true ↔ (held < holds) }
     {
         if holds < held {
             Change::Less(held - holds)
-        } else {
+        } else if held < holds {
             Change::More(holds - held)
+        } else {
+            Change::Same
         }
     }
 }

@@ -1,11 +1,15 @@
 //! How the clients of a desk keep to the memory that all may hold together.
 
-ghost use Rattle.std.specs.Prelude.{◌≡◌};
+ghost use Rattle.std.specs.Prelude.{◌≡◌, ◌<◌, None, slice_index_or};
+ghost use Rattle.client_schedule.specs.Clients.{client_at};
+ghost use Rattle.memory_budget.specs.Sums.{counted};
+ghost use Rattle.memory_budget.specs.declared.held.TheConstants.{PLACES};
+ghost use Rattle.server_core.specs.Keeping.{EvictsMost};
 
 use crate::service::Service;
 use client_schedule::CLIENTS;
 use event_log::Kind;
-use memory_budget::PLACES;
+use memory_budget::{Counted, PLACES};
 use std::sync::Wait;
 use std::time::Clock;
 
@@ -15,25 +19,27 @@ impl<'a, R: Wait + Clock + Drop> Service<'a, R> {
     /// Counts that a client holds so many bytes. If by this all clients hold more than they may, each worker looks whether it is one of its
     /// own that holds most.
     pub(crate) fn count(&mut self, number: usize, holds: u64)
+        ensures account { self.new.account ≡ counted number holds self.old.account }
+        ensures its { number < PLACES → slice_index_or self.new.account number 0 ≡ holds }
         ensures shared { self.new.shared ≡ self.old.shared }
+        ensures desk { self.new.desk ≡ self.old.desk }
     {
-        if number >= PLACES {
-            return;
+        match self
+            .account
+            .count(self.shared.memory.total(), number, holds)
+        {
+            Counted::Same => return,
+            Counted::Changed => {}
+            Counted::Passed => self.shared.wakeups.ring_all(),
         }
-        let held = self.held.set(number, holds);
-        if held == holds {
-            return;
-        }
-        if self.shared.memory.count(held, holds) {
-            self.shared.wakeups.ring_all();
-        }
-        self.mailbox.say_most(self.held.most());
+        self.mailbox.say_most(self.account.most());
     }
 
     /// If all clients hold more than they may, evicts the one that holds most, if it is one of its own. This is looked at after each turn
     /// that may have heard a client: a round of many would hold far more.
     pub(crate) fn keep_to_memory(&mut self)
         ensures shared { self.new.shared ≡ self.old.shared }
+        ensures most { EvictsMost self.old.account self.new.account }
     {
         if self.shared.memory.is_over() {
             self.evict_most();
@@ -44,23 +50,47 @@ impl<'a, R: Wait + Clock + Drop> Service<'a, R> {
     // all clients still hold more than they may.
     fn evict_most(&mut self)
         ensures shared { self.new.shared ≡ self.old.shared }
+        ensures most { EvictsMost self.old.account self.new.account }
     {
         let holdings = self.shared.memory.holdings(self.mailbox.desk());
-        let Some(number) = holdings.given_up(self.held.bytes()) else {
+        let Some(number) = holdings.given_up(self.account.bytes()) else {
             return;
         };
+        self.evict(number);
+        if self.shared.memory.is_over() {
+            self.shared.wakeups.ring_all();
+        }
+    }
+
+    // Evicts a client.
+    fn evict(&mut self, number: usize)
+        ensures shared { self.new.shared ≡ self.old.shared }
+        ensures account { self.new.account ≡ counted number 0 self.old.account }
+    {
+        if self.is_greeted(number) {
+            self.shared.wakeups.log().count(Kind::TookMost);
+            self.leave(number);
+            return;
+        }
         self.count(number, 0);
         if self.is_seated(number) {
             self.shared.wakeups.log().count(Kind::TookMost);
             self.desk.evict(self.alloc, number);
             self.clients.wake(number);
-        } else if self.is_greeted(number) {
-            self.shared.wakeups.log().count(Kind::TookMost);
-            self.leave(number);
         }
-        if self.shared.memory.is_over() {
-            self.shared.wakeups.ring_all();
-        }
+    }
+
+    /// Lets a client go, which holds nothing from then on.
+    pub(crate) fn leave(&mut self, number: usize)
+        ensures shared { self.new.shared ≡ self.old.shared }
+        ensures account { self.new.account ≡ counted number 0 self.old.account }
+        ensures gone { client_at number self.new.clients ≡ None }
+    {
+        self.count(number, 0);
+        let desk = self.mailbox.desk();
+        self.shared.pace.leave(desk, number as u64);
+        self.clients.remove(number);
+        self.mailbox.leaves();
     }
 
     // Whether that client sits at the desk.

@@ -10,6 +10,7 @@ use crate::doorbell::Doorbell;
 use command_core::Op;
 use crossbeam_queue::ArrayQueue;
 use desk_core::{Next, Ringers, Turned};
+use memory_budget::DeskHolds;
 use outbox_core::Bell;
 use std::alloc::{AllocError, Global};
 use std::net::TcpStream;
@@ -75,9 +76,12 @@ impl Mailbox {
         self.desk
     }
 
-    /// The most bytes that one of its clients holds.
-    pub(crate) fn most(&self) -> u64 {
-        self.most.load(Ordering::SeqCst)
+    /// How many clients it has, and the most bytes that one of them holds.
+    pub(crate) fn holds(&self) -> DeskHolds {
+        DeskHolds {
+            clients: self.clients(),
+            most: self.most.load(Ordering::SeqCst),
+        }
     }
 
     /// Says the most bytes that one of its clients holds.

@@ -1,7 +1,11 @@
 //! A desk of a worker, and how its clients are served.
 
-ghost use Rattle.std.specs.Prelude.{◌≡◌};
+ghost use Rattle.std.specs.Prelude.{◌≡◌, ◌<◌};
 ghost use Rattle.client_schedule.specs.Outlooks.{awaits_mark, due_at, is_ready, lets_in};
+ghost use Rattle.desk_core.specs.Desks.{seated_at};
+ghost use Rattle.desk_core.specs.Holdings.{kept_at};
+ghost use Rattle.memory_budget.specs.declared.held.TheConstants.{PLACES};
+ghost use Rattle.server_core.specs.Keeping.{IsCounted};
 
 use crate::calls::{BITS, Called, WORDS};
 use crate::mailbox::{Arrival, BellRope, Mailbox, Ropes};
@@ -10,7 +14,7 @@ use client_schedule::{CLIENTS, Clients, Due, Flow, Phase, ReadBudget, Standing, 
 use connection_core::Cut;
 use desk_core::{Desk, Next, Turned};
 use event_log::Kind;
-use memory_budget::Held;
+use memory_budget::Account;
 use mio::net::TcpStream;
 use mio::{Interest, Registry, Token};
 use std::alloc::Global;
@@ -39,7 +43,7 @@ pub(crate) struct Service<'a, R: Drop> {
     pub(crate) clients: Clients,
     // The moment of this round, in milliseconds of the worker's watch.
     pub(crate) now: u64,
-    pub(crate) held: Held,
+    pub(crate) account: Account,
     // How many of its clients went on by themselves when this round began.
     going_on: usize,
     // Whether it parts with its clients, since the server ends.
@@ -78,7 +82,7 @@ impl<'a, R: Wait + Clock + Drop> Service<'a, R> {
             desk: Desk::new(alloc, seat, shared.desk_bytes),
             clients,
             now: 0,
-            held: Held::new(),
+            account: Account::new(),
             going_on: 0,
             parting: false,
         }
@@ -96,11 +100,11 @@ impl<'a, R: Wait + Clock + Drop> Service<'a, R> {
             desk,
             clients,
             now: _,
-            held,
+            account,
             going_on: _,
             parting: _,
         } = self;
-        drop(held);
+        drop(account);
         drop(clients);
         drop(mailbox);
         desk.into_seat()
@@ -408,15 +412,23 @@ impl<'a, R: Wait + Clock + Drop> Service<'a, R> {
                 self.leave(number);
             }
             _ => {
-                let flow = self.flow(number);
-                self.clients.settle(number, turned, flow, self.now);
-                let holds = self.desk.held(number);
-                self.count(number, holds);
+                self.settle(number, turned);
                 if self.parting {
                     self.part(number, turned.next);
                 }
             }
         }
+    }
+
+    // What comes of the turns of a client that has not ended: what it waits for, and what it holds.
+    fn settle(&mut self, number: usize, turned: Turned)
+        ensures shared { self.new.shared ≡ self.old.shared }
+        ensures holds { number < PLACES → IsCounted number (kept_at (seated_at self.new.desk.places number)) self.new.account }
+    {
+        let flow = self.flow(number);
+        self.clients.settle(number, turned, flow, self.now);
+        let holds = self.desk.held(number);
+        self.count(number, holds);
     }
 
     // Parts with a client that has nothing more to do at once: it hears the close.
@@ -441,17 +453,6 @@ impl<'a, R: Wait + Clock + Drop> Service<'a, R> {
                 has_rest: false,
             },
         }
-    }
-
-    // Lets a client go.
-    pub(crate) fn leave(&mut self, number: usize)
-        ensures shared { self.new.shared ≡ self.old.shared }
-    {
-        self.count(number, 0);
-        let desk = self.mailbox.desk();
-        self.shared.pace.leave(desk, number as u64);
-        self.clients.remove(number);
-        self.mailbox.leaves();
     }
 }
 
