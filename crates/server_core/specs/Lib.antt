@@ -1,4 +1,5 @@
 pub mod Bells
+pub mod Endings
 pub mod Handing
 pub mod Keeping
 pub mod Serving

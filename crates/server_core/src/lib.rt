@@ -11,6 +11,7 @@ mod entrance;
 mod event_loop;
 mod greeting;
 mod keeping;
+mod last_rounds;
 mod log_thread;
 mod mailbox;
 mod memory;

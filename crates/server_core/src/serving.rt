@@ -10,6 +10,7 @@ use crate::acceptor::Acceptor;
 use crate::descriptors::clients_allowed;
 use crate::ending::Ending;
 use crate::entrance::{Entrance, Reception, bells_of, mailboxes_again};
+use crate::last_rounds::LastRounds;
 use crate::log_thread::LogThread;
 use crate::mailbox::{BellRope, Mailbox};
 use crate::memory::Memory;
@@ -17,7 +18,7 @@ use crate::shared::{ServerRing, ServerSeat, Shared};
 use crate::wakeups::Wakeups;
 use crate::worker::WorkerThread;
 use crate::worker_setup::WorkerSetup;
-use claim_core::{PLACES, SEATS};
+use claim_core::SEATS;
 use connection_core::SESSION_BYTES;
 use disk_core::FileDisk;
 use event_log::{Event, ServeFault, Start};
@@ -393,8 +394,7 @@ fn flush<R: Wait + Clock + Drop>(
     ensures stops { flusher.new.seat.stopped ≡ true }
     ensures fails { IfErr result (λ _. flusher.new.broken ≡ true) }
 {
-    // Once the server was asked to end, a number over all that was claimed by then.
-    let mut last = None;
+    let mut last = LastRounds::new();
     for _round in shared.rt.forever() {
         match flush_loop(alloc, &shared.ring, flusher, &shared.wakeups, 1) {
             Ok(mark) if is_last(shared, &mut last, mark) => {
@@ -410,16 +410,8 @@ fn flush<R: Wait + Clock + Drop>(
     unreachable!()
 }
 
-// Whether the server was asked to end, and all that was claimed by then is published. This is so if the last turn took nothing, or the
-// mark has come over as many commands as the ring has places, and those that the flusher had taken.
-fn is_last<R>(shared: &Shared<R>, last: &mut Option<u64>, mark: u64) -> bool {
-    if !shared.wakeups.is_asked_to_end() {
-        return false;
-    }
-    let end = match *last {
-        Some(end) => end,
-        None => mark.saturating_add(2 * PLACES as u64),
-    };
-    *last = Some(end);
-    mark >= end || !shared.wakeups.has_taken()
+// Whether the server was asked to end, and all that was claimed by then is published.
+fn is_last<R>(shared: &Shared<R>, last: &mut LastRounds, mark: u64) -> bool {
+    let (is_asked, took) = (shared.wakeups.is_asked_to_end(), shared.wakeups.has_taken());
+    last.is_last(is_asked, mark, took)
 }
