@@ -35,31 +35,31 @@ impl<'a, R: Wait + Clock + Drop> Service<'a, R> {
         self.mailbox.say_most(self.account.most());
     }
 
-    /// If all clients hold more than they may, evicts the one that holds most, if it is one of its own. This is looked at after each turn
-    /// that may have heard a client: a round of many would hold far more.
-    pub(crate) fn keep_to_memory(&mut self)
+    /// If all clients hold more than they may, evicts the one that holds most, if it is one of its own. Answers which it was.
+    pub(crate) fn keep_to_memory(&mut self) -> Option<usize>
         ensures shared { self.new.shared ≡ self.old.shared }
         ensures most { EvictsMost self.old.account self.new.account }
     {
         if self.shared.memory.is_over() {
-            self.evict_most();
+            self.evict_most()
+        } else {
+            None
         }
     }
 
     // Evicts the client that holds most of all, if it is one of its own. It counts for nothing from then on. The workers look again if
     // all clients still hold more than they may.
-    fn evict_most(&mut self)
+    fn evict_most(&mut self) -> Option<usize>
         ensures shared { self.new.shared ≡ self.old.shared }
         ensures most { EvictsMost self.old.account self.new.account }
     {
         let holdings = self.shared.memory.holdings(self.mailbox.desk());
-        let Some(number) = holdings.given_up(self.account.bytes()) else {
-            return;
-        };
+        let number = holdings.given_up(self.account.bytes())?;
         self.evict(number);
         if self.shared.memory.is_over() {
             self.shared.wakeups.ring_all();
         }
+        Some(number)
     }
 
     // Evicts a client.
@@ -76,7 +76,6 @@ impl<'a, R: Wait + Clock + Drop> Service<'a, R> {
         if self.is_seated(number) {
             self.shared.wakeups.log().count(Kind::TookMost);
             self.desk.evict(self.alloc, number);
-            self.clients.wake(number);
         }
     }
 

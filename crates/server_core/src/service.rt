@@ -256,7 +256,17 @@ impl<'a, R: Wait + Clock + Drop> Service<'a, R> {
         ensures shared { self.new.shared ≡ self.old.shared }
     {
         self.look_at_timers();
-        self.keep_to_memory();
+        self.give_way();
+    }
+
+    // Sees that all clients keep to their memory. One that is evicted has a turn at once, in which what it took is given back. This is done
+    // after each turn that may have heard a client: else a round of many would take far more.
+    fn give_way(&mut self)
+        ensures shared { self.new.shared ≡ self.old.shared }
+    {
+        if let Some(number) = self.keep_to_memory() {
+            self.turn(number);
+        }
     }
 
     fn look_at_timers(&mut self)
@@ -330,7 +340,7 @@ impl<'a, R: Wait + Clock + Drop> Service<'a, R> {
         for _client in 0..self.clients.count_ready() {
             if let Some((number, standing)) = self.clients.next() {
                 self.give_turn(number, standing);
-                self.keep_to_memory();
+                self.give_way();
             }
             self.let_in();
         }
@@ -344,6 +354,7 @@ impl<'a, R: Wait + Clock + Drop> Service<'a, R> {
         for _client in 0..self.going_on {
             if let Some((number, standing)) = self.clients.next_again() {
                 self.give_turn(number, standing);
+                self.give_way();
             }
             self.let_in();
         }
