@@ -11,8 +11,7 @@ use Rattle.disk_core.specs.declared.file.FileDisk.{FileDisk}
 use Rattle.flush_core.specs.Flushed.{Flushed}
 use Rattle.hub_core.specs.Hubs.{HubValue, IsWhole}
 use Rattle.command_core.specs.Commands.{CommandValue}
-use Rattle.claim_core.specs.Endings.{Ends}
-use Rattle.hub_core.specs.Closings.{end_of}
+use Rattle.hub_core.specs.Closings.{Closes}
 use Rattle.hub_core.specs.declared.closed.Closed.{Closed}
 use Rattle.hub_core.specs.declared.hub.SeatRoom.{SeatRoom}
 use Rattle.event_log.specs.declared.fault.ServeFault.TheVariants.{Output, Flushing}
@@ -124,10 +123,8 @@ IsEnd old new (Fault Output) = new ≡ old
 IsEnd old new (Fault (Flushing fault)) = IsFailed old new
 IsEnd old new (Fault _) = ⊥
 
--- The hub has ended with this flusher: there was one history, each seat's commands stand in it at their tickets, and what the
--- flusher took begins it.
-pub record IsClosed (f : Flushed FileDisk) (closed : Closed FileDisk) : Type 0 where
+-- The hub has ended with this flusher: all that hubs promise of an end holds, over a disk with these images.
+pub record IsClosed (honest : FileDisk → Type 0) (images : FileDisk → List ℕ → Type 0) (f : Flushed FileDisk) (closed : Closed FileDisk) : Type 0 where
   pub seats : List SessionSeatValue
   pub history : List CommandValue
-  pub ended : Ends seats f.seat history (end_of closed)
-  pub stored : (closed.mark ≤ f.stored) × (f.stored ≤ closed.taken)
+  pub closes : Closes honest images seats f history closed

@@ -15,7 +15,7 @@ use crate::shared::{ServerRing, ServerSeat, Shared};
 use crate::worker::{Worker, WorkerThread, start};
 use crate::worker_setup::WorkerSetup;
 use claim_core::SEATS;
-use disk_core::FileDisk;
+use disk_core::{Disk, FileDisk};
 use event_log::ServeFault;
 use hub_core::{Closed, Hub, SeatRoom};
 use std::alloc::{AllocError, Global};
@@ -205,7 +205,7 @@ impl<R: Threads + Wait + Drop> Server<R> {
     /// the disk goes, with its lock. `None` if memory was refused for that, or not all workers had started; the server has ended all the
     /// same.
     pub fn close(self, rt: &R) -> Option<Closed<FileDisk>>
-        ensures { IfSome result (IsClosed self.flusher) }
+        ensures { IfSome result (IsClosed ⟦<FileDisk as Disk>⟧.honest ⟦<FileDisk as Disk>⟧.images self.flusher) }
     {
         let Server {
             shared,
@@ -247,7 +247,7 @@ fn finish<R: Drop>(
     requires back { AreAllAt (arc_value shared).ring back.items }
     requires room { room.seats.items ≡ [] }
     requires all { flusher.seat.seats ≡ SEATS }
-    ensures { IfSome result (IsClosed flusher) }
+    ensures { IfSome result (IsClosed ⟦<FileDisk as Disk>⟧.honest ⟦<FileDisk as Disk>⟧.images flusher) }
 {
     let mut all = seats;
     let joined = join_all(&mut all, back);
@@ -302,7 +302,7 @@ fn close(
     requires seats { AreAt ring seats.items }
     requires room { room.seats.items ≡ [] }
     requires all { length seats.items ≡ flusher.seat.seats }
-    ensures { IfSome result (IsClosed flusher) }
+    ensures { IfSome result (IsClosed ⟦<FileDisk as Disk>⟧.honest ⟦<FileDisk as Disk>⟧.images flusher) }
 {
     let hub: ServerHub = Hub::again(ring, room);
     match hub.close(seats, flusher) {
