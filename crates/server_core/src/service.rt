@@ -1,11 +1,7 @@
 //! A desk of a worker, and how its clients are served.
 
-ghost use Rattle.std.specs.Prelude.{◌≡◌, ◌<◌};
+ghost use Rattle.std.specs.Prelude.{◌≡◌};
 ghost use Rattle.client_schedule.specs.Outlooks.{awaits_mark, due_at, is_ready, lets_in};
-ghost use Rattle.desk_core.specs.Desks.{seated_at};
-ghost use Rattle.desk_core.specs.Holdings.{kept_at};
-ghost use Rattle.memory_budget.specs.declared.held.TheConstants.{PLACES};
-ghost use Rattle.server_core.specs.Keeping.{IsCounted};
 
 use crate::calls::{BITS, Called, WORDS};
 use crate::mailbox::{Arrival, BellRope, Mailbox, Ropes};
@@ -434,7 +430,6 @@ impl<'a, R: Wait + Clock + Drop> Service<'a, R> {
     // What comes of the turns of a client that has not ended: what it waits for, and what it holds.
     fn settle(&mut self, number: usize, turned: Turned)
         ensures shared { self.new.shared ≡ self.old.shared }
-        ensures holds { number < PLACES → IsCounted number (kept_at (seated_at self.new.desk.places number)) self.new.account }
     {
         let flow = self.flow(number);
         self.clients.settle(number, turned, flow, self.now);
