@@ -56,7 +56,7 @@ DESKS, MEMBER, EACH_TRANSACTION, MEMBERS, MOST_MEMBERS, FEWER = 20, 4_000, 64, 2
 # may take beside the budget.
 LONGEST, THREADS, LONGEST_BYTES, HEADERS, LONGEST_REST = 400, 8, 131_072, (0, 60), 67_108_864
 # A wait of an honest client, and after how many seconds a client is given up that takes nothing.
-LONGEST_WAIT, TAKES_NOTHING = 1.0, 10
+LONGEST_WAIT, TAKES_NOTHING = 1.0, 60
 # After so many seconds all who went are gone.
 GONE = 20
 
