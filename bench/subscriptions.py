@@ -11,8 +11,10 @@ to it and one to a topic of their own; the others have 16 topics of their own.
 import argparse
 import contextlib
 import pathlib
+import select
 import sys
 import tempfile
+import threading
 import time
 
 from lib.scenario import take_descriptors
@@ -25,6 +27,43 @@ EACH, LISTENERS = 16, 4_096
 COUNTS = (1_000, 16_000, 260_000)
 SENDS, WIDE_SENDS, PAIRS, WINDOW = 4_000, 16, 2_000, 16
 WIDE = "/topic/wide"
+
+
+# A masked pong without a text, which nobody asked for: it shows that a client still listens (RFC 6455, section 5.5.3).
+PONG = b"\x8a\x80\x00\x00\x00\x00"
+PONG_SECONDS = 10
+
+
+class Readers:
+    """Reads what all these clients get, in a thread of its own, and drops it."""
+
+    def __init__(self, clients):
+        self.sockets = {it.socket.fileno(): it.socket for it in clients}
+        self.is_over = threading.Event()
+        self.poll = select.epoll()
+        for number in self.sockets:
+            self.poll.register(number, select.EPOLLIN)
+        self.thread = threading.Thread(target=self.read)
+
+    def __enter__(self):
+        self.thread.start()
+        return self
+
+    def __exit__(self, *_):
+        self.is_over.set()
+        self.thread.join()
+        self.poll.close()
+
+    def read(self):
+        ponged = time.monotonic()
+        while not self.is_over.is_set():
+            for number, _ in self.poll.poll(0.5):
+                if not self.sockets[number].recv(1 << 18):
+                    raise SystemExit("a subscriber was disconnected")
+            if time.monotonic() - ponged > PONG_SECONDS:
+                ponged = time.monotonic()
+                for it in self.sockets.values():
+                    it.sendall(PONG)
 
 
 def flusher_seconds(server):
@@ -72,15 +111,21 @@ def pairs(client):
 def figures(server, count):
     """The costs by name, in microseconds."""
     clients, listeners = crowd(server, count)
+    with Readers(clients):
+        costs = measured(server, clients, listeners)
+    for one_of_them in clients:
+        with contextlib.suppress(OSError):
+            one_of_them.close()
+    return costs
+
+
+def measured(server, clients, listeners):
     client = Client(server.port, timeout=120).connect()
     own = f"/topic/{len(clients) - 1}.{EACH - 1}"
     none = cost(server, client, lambda: client.publish_all("/topic/none", ["x" * 100] * SENDS, WINDOW), SENDS)
     one = cost(server, client, lambda: client.publish_all(own, ["x" * 100] * SENDS, WINDOW), SENDS)
     wide = cost(server, client, lambda: client.publish_all(WIDE, ["x" * 100] * WIDE_SENDS, 1), WIDE_SENDS * listeners)
     both = cost(server, client, lambda: pairs(client), PAIRS)
-    for one_of_them in clients:
-        with contextlib.suppress(OSError):
-            one_of_them.close()
     return {"SEND to none": none, "SEND to one": one, f"delivery to {listeners:,}": wide, "SUBSCRIBE and UNSUBSCRIBE": both}
 
 

@@ -1,4 +1,4 @@
-use Rattle.std.proofs.Common.{◌≡◌, ◌==◌, ◌≤◌, ◌+◌, ◌^◌, ◌&&◌, ◌||◌, ◌++◌, List, [], ◌∷◌, ℕ, suc, zero, Bool, true, false, Option, Some, None, cond, is_some, length, map, nat_le, nat_lt, not, refl, remove, slice_get, sym, ap, subst, ◌∙◌, arith, if◌then◌else◌}
+use Rattle.std.proofs.Common.{◌≡◌, ◌==◌, ◌≤◌, ◌+◌, ◌^◌, ◌&&◌, ◌||◌, ◌++◌, List, [], ◌∷◌, ℕ, suc, zero, Bool, true, false, Option, Some, None, cond, is_some, length, map, nat_lt, not, refl, remove, slice_get, sym, ap, subst, ◌∙◌, arith, if◌then◌else◌}
 use Rattle.std.specs.BTreeMap.{is_at}
 use Rattle.std.specs.List.{AllByRecursion, insert, list_any}
 use Rattle.std.specs.Map.{remove_entry}
@@ -27,14 +27,13 @@ use Rattle.broker_state.proofs.Keys.{is_eq-name_cmp, same_names, same_texts}
 use Rattle.broker_state.proofs.Lookups.{is_equal, other_way}
 use Rattle.broker_state.proofs.Sendings.{copied_other, copied_own, fanned_out_by}
 use Rattle.waiting_order.specs.Directories.{is_plain_at}
-use Rattle.broker_tables.specs.declared.cursors.Cursor.{Cursor}
 use Rattle.broker_tables.specs.declared.due.Due.{Due}
 use Rattle.broker_tables.specs.declared.due.Due.TheVariants.{Session, Destination, Durable}
 use Rattle.broker_tables.proofs.Nexts.{plain_listens}
-use Rattle.broker_tables.specs.Dues.{AreDue, awaits_at, due_from, is_awaited, is_due, is_under, line_due}
+use Rattle.broker_tables.specs.Dues.{AreDue, due_from, is_due, is_under, line_due}
 
 -- what was due is due still
-abbrev pub Grows : List Cursor → List Cursor → Type 0
+abbrev pub Grows : List Due → List Due → Type 0
 Grows d e = (sub : Subscription) → is_due d sub ≡ true → is_due e sub ≡ true
 
 -- subscriptions of the same session, destination and durable name are under the same keys
@@ -45,13 +44,10 @@ same_keys a b session destination durable (Destination to) =
 same_keys a b session destination durable (Durable name) =
     ap (λ o. elim o as (λ p. Bool) [ None ↦ false | Some other ↦ bytes_eq name.0 other.0 && bytes_eq name.1 other.1 ]) durable
 
-pub alike_at : (n : ℕ) (a b : Subscription) → ((due : Due) → is_under due a ≡ is_under due b) → (cursors : List Cursor) → is_awaited cursors n a ≡ is_awaited cursors n b
-alike_at n a b same [] = refl
-alike_at n a b same (c ∷ cursors) =
-    ap (λ u. (nat_le c.from n && u) || is_awaited cursors n a) (same c.due) ∙ ap (λ r. awaits_at n b c || r) (alike_at n a b same cursors)
-
-pub alike : (a b : Subscription) → ((due : Due) → is_under due a ≡ is_under due b) → (cursors : List Cursor) → is_due cursors a ≡ is_due cursors b
-alike a b same cursors = alike_at 0 a b same cursors
+pub alike : (a b : Subscription) → ((due : Due) → is_under due a ≡ is_under due b) → (marks : List Due) → is_due marks a ≡ is_due marks b
+alike a b same [] = refl
+alike a b same (due ∷ marks) =
+    ap (λ u. u || is_due marks a) (same due) ∙ ap (λ r. is_under due b || r) (alike a b same marks)
 
 pub or_left : (a b : Bool) → a ≡ true → (a || b) ≡ true
 or_left true b is = refl
@@ -117,7 +113,7 @@ pub can_from : (s : State) (sub : Subscription) → CanTake s sub → can_take s
 can_from s sub can = rw (can.number, can.room, can.line) refl
 
 -- who is not due has the line that it had
-module _ (s t : State) (d e : List Cursor) (number : t.next_delivery ≡ s.next_delivery) (more : Grows d e) where
+module _ (s t : State) (d e : List Due) (number : t.next_delivery ≡ s.next_delivery) (more : Grows d e) where
   pub moved : (x : Subscription) → (is_due e x ≡ false → line_for t.shared x ≡ line_for s.shared x) → (can_take s x ≡ true → is_due d x ≡ true) → can_take t x ≡ true → is_due e x ≡ true
   moved x same was can = by (is_due e x) refl
     where
@@ -246,18 +242,8 @@ item_of P [] i x is all = absurd (none-some x is)
 item_of P (y ∷ xs) zero x is all = subst P (same_Some y x is) all.0
 item_of P (y ∷ xs) (suc i) x is all = item_of P xs i x is all.1
 
--- where the line under a key is empty, nothing waits for those under it
+-- where the line of a name is empty, nothing waits for those that use it
 module _ (shared : Shared) (sub : Subscription) where
-  idle_at : (to : List ℕ) (o : Option Name) → is_queue to ≡ true → is_none (line_at text_cmp to shared.queues) ≡ true → (not (is_some o) && bytes_eq sub.destination to) ≡ true → is_none (line_from shared sub o) ≡ true
-  idle_at to (Some name) queue none under = absurd cc
-  idle_at to None queue none under =
-      let same = (bytes_eq-Decides sub.destination to).0 under in
-      ap (λ (q : List ℕ). is_none (if is_queue q then line_at text_cmp q shared.queues else sub.line)) same
-      ∙ ap (λ b. is_none (if b then line_at text_cmp to shared.queues else sub.line)) queue ∙ none
-
-  pub idle_queue : (to : List ℕ) → is_queue to ≡ true → is_none (line_at text_cmp to shared.queues) ≡ true → is_plain_at to sub ≡ true → is_none (line_for shared sub) ≡ true
-  idle_queue to queue none under = idle_at to sub.durable queue none under
-
   idle_under : (name : Name) (o : Option Name) → is_none (line_at name_cmp name shared.names) ≡ true → elim o as (λ p. Bool) [ None ↦ false | Some other ↦ bytes_eq name.0 other.0 && bytes_eq name.1 other.1 ] ≡ true → is_none (line_from shared sub o) ≡ true
   idle_under name None none under = absurd cc
   idle_under name (Some other) none under =
@@ -269,9 +255,9 @@ module _ (shared : Shared) (sub : Subscription) where
   idle_name name none under = idle_under name sub.durable none under
 
 -- The operations: who can be served after them is due.
-module _ (d : List Cursor) (s : State) (due : AreDue d s) where
+module _ (d : List Due) (s : State) (due : AreDue d s) where
   -- Lines change of those alone that are due.
-  module _ (t : State) (e : List Cursor) (more : Grows d e) (number : t.next_delivery ≡ s.next_delivery) (same : (x : Subscription) → is_due e x ≡ false → line_for t.shared x ≡ line_for s.shared x) where
+  module _ (t : State) (e : List Due) (more : Grows d e) (number : t.next_delivery ≡ s.next_delivery) (same : (x : Subscription) → is_due e x ≡ false → line_for t.shared x ≡ line_for s.shared x) where
     abbrev WasDue : Subscription → Type 0
     WasDue x = can_take s x ≡ true → is_due d x ≡ true
 
@@ -334,7 +320,7 @@ module _ (m : Message) where
           ap (λ b. line_for (record shared { names = copied_to_names m ds (cond b (with_message name_cmp d.0 m shared.names) shared.names) }) x) is
           ∙ rest shared behind
 
-  module _ (d : List Cursor) (s : State) (due : AreDue d s) (e : List Cursor) (more : Grows d e) (plain : (x : Subscription) → is_plain_at m.sending.destination x ≡ true → is_due e x ≡ true) (names : (x : Subscription) → list_any (is_bound x) s.durables ≡ true → is_due e x ≡ true) where
+  module _ (d : List Due) (s : State) (due : AreDue d s) (e : List Due) (more : Grows d e) (plain : (x : Subscription) → is_plain_at m.sending.destination x ≡ true → is_due e x ≡ true) (names : (x : Subscription) → list_any (is_bound x) s.durables ≡ true → is_due e x ≡ true) where
     abbrev Was : Subscription → Type 0
     Was x = can_take s x ≡ true → is_due d x ≡ true
 
@@ -374,12 +360,6 @@ refused_elsewhere (m ∷ ms) shared x other =
 pub none_due : (s : State) (xs : List Subscription) → AllByRecursion (λ x. can_take s x ≡ false) xs → AllByRecursion (λ x. can_take s x ≡ true → is_due [] x ≡ true) xs
 none_due s [] none = tt
 none_due s (x ∷ xs) none = (λ can. absurd (clash (can_take s x) can none.0), none_due s xs none.1)
-
-pub none_waits : (r b : Bool) → r ≡ not b → not r ≡ true → b ≡ true
-none_waits true true is idle = refl
-none_waits true false is idle = absurd cc
-none_waits false true is idle = refl
-none_waits false false is idle = absurd cc
 
 -- where nothing is handed out, none can be served
 module _ (s : State) where

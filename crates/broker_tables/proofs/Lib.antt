@@ -6,6 +6,7 @@ pub mod Keeping
 pub mod Marks
 pub mod Nexts
 pub mod Operating
+pub mod Scopes
 pub mod SettledSums
 pub mod Settling
 pub mod Topics

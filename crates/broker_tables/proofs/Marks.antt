@@ -1,6 +1,6 @@
 use Rattle.std.proofs.Common.{◌≡◌, ◌==◌, ◌<◌, ◌≤◌, ◌⊎◌, ℕ, List, Some, true, false, inl, inr, length, nat_lt, slice_get, slice_index_or, refl, sym, ap, subst, ◌∙◌, arith}
 use Rattle.std.specs.List.{HoldsAt}
-use Rattle.std.specs.Ordering.{nat_cmp, ordering_then}
+use Rattle.std.specs.Ordering.{nat_cmp}
 use Rattle.std.specs.declared.cmp.Ordering.{Ordering}
 use Rattle.std.specs.declared.cmp.Ordering.TheVariants.{Less, Equal, Greater}
 use Rattle.std.proofs.lemmas.Bool.{cases_lt}
@@ -11,12 +11,10 @@ use Rattle.broker_state.specs.declared.subscription.Subscription.{Subscription}
 use Rattle.broker_state.specs.Names.{AreSame}
 use Rattle.broker_state.proofs.Firsts.{found}
 use Rattle.broker_state.proofs.Keys.{same_names, same_texts}
-use Rattle.broker_tables.specs.declared.cursors.Cursor.{Cursor}
 use Rattle.broker_tables.specs.declared.due.Due.{Due}
 use Rattle.broker_tables.specs.declared.due.Due.TheVariants.{Session, Destination, Durable}
-use Rattle.broker_tables.specs.contracts.cursors.CursorOrd.TheImpl as cursor_ord
 use Rattle.broker_tables.specs.contracts.due.DueOrd.TheImpl as due_ord
-use Rattle.broker_tables.specs.Dues.{awaits_at, is_due, is_under}
+use Rattle.broker_tables.specs.Dues.{is_due, is_under}
 use Rattle.broker_tables.proofs.Dues.{any_there}
 
 less_differs : Less ≡ Equal → ⊥
@@ -44,7 +42,7 @@ same_number a b is = by (cases_lt a b) (cases_lt b a)
     by (inr le) (inl more) = absurd (greater_differs (sym (over more) ∙ is))
     by (inr le) (inr ge) = omega arith
 
-abbrev due_cmp : Due → Due → Ordering
+abbrev pub due_cmp : Due → Due → Ordering
 due_cmp = (due_ord.ghosts).cmp
 
 -- those that compare as equal are the same
@@ -59,31 +57,13 @@ same_due (Durable a) (Session b) is = absurd cc
 same_due (Durable a) (Destination b) is = absurd cc
 same_due (Durable a) (Durable b) is = ap Durable (same_names a b is)
 
-abbrev pub cursor_cmp : Cursor → Cursor → Ordering
-cursor_cmp = (cursor_ord.ghosts).cmp
-
-abbrev cursor : ℕ → Due → Cursor
-cursor n due = record { from = n; due = due }
-
-same_cursor : AreSame cursor_cmp
-same_cursor a b is =
-    by (nat_cmp a.from b.from) (due_cmp a.due b.due) refl refl is
-  where
-    by : (o p : Ordering) → nat_cmp a.from b.from ≡ o → due_cmp a.due b.due ≡ p → ordering_then o p ≡ Equal → a ≡ b
-    by Less p first second so = absurd cc
-    by Equal Less first second so = absurd cc
-    by Equal Equal first second so =
-        ap (λ (n : ℕ). cursor n a.due) (same_number a.from b.from first) ∙ ap (cursor b.from) (same_due a.due b.due second)
-    by Equal Greater first second so = absurd cc
-    by Greater p first second so = absurd cc
-
 -- who is under what is marked already is due
-pub marked_already : (cursors seen : List Cursor) (at : ℕ) (due : Due) → seen ≡ cursors → at < length seen → HoldsAt (λ (y : Cursor). cursor_cmp y (cursor 0 due) ≡ Equal) seen at
-    → (sub : Subscription) → is_under due sub ≡ true → is_due cursors sub ≡ true
-marked_already cursors seen at due same within equal sub under =
+pub marked_already : (marks seen : List Due) (at : ℕ) (due : Due) → seen ≡ marks → at < length seen → HoldsAt (λ (y : Due). due_cmp y due ≡ Equal) seen at
+    → (sub : Subscription) → is_under due sub ≡ true → is_due marks sub ≡ true
+marked_already marks seen at due same within equal sub under =
     let c = found seen at within in
-    let is : c.0 ≡ cursor 0 due = same_cursor c.0 (cursor 0 due) (subst (λ (y : Cursor). cursor_cmp y (cursor 0 due) ≡ Equal) (read seen at c.0 c.1) (equal c.0)) in
-    any_there (awaits_at 0 sub) (cursor 0 due) cursors at (ap (λ (l : List Cursor). slice_get l at) (sym same) ∙ c.1 ∙ ap (λ (y : Cursor). Some y) is) under
+    let is : c.0 ≡ due = same_due c.0 due (subst (λ (y : Due). due_cmp y due ≡ Equal) (read seen at c.0 c.1) (equal c.0)) in
+    any_there (λ (x : Due). is_under x sub) due marks at (ap (λ (l : List Due). slice_get l at) (sym same) ∙ c.1 ∙ ap (λ (y : Due). Some y) is) under
   where
-    read : (xs : List Cursor) (at : ℕ) (x : Cursor) → slice_get xs at ≡ Some x → slice_index_or xs at x ≡ x
+    read : (xs : List Due) (at : ℕ) (x : Due) → slice_get xs at ≡ Some x → slice_index_or xs at x ≡ x
     read xs at x is = grind (arith, common_steps, gets)

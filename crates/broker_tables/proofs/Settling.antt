@@ -18,14 +18,11 @@ use Rattle.waiting_order.specs.declared.key.Key.{Key}
 use Rattle.waiting_order.specs.Waiting.{IsOrdered, Waiting, subs_of}
 use Rattle.waiting_order.proofs.Keeping.{subs_pushed}
 use Rattle.broker_tables.specs.declared.cursors.Cursor.{Cursor}
-use Rattle.broker_tables.specs.declared.due.Due.{Due}
 use Rattle.broker_tables.specs.declared.stock.Stock.{Stock}
 use Rattle.broker_tables.specs.Cursors.{AreAwaited}
-use Rattle.broker_tables.specs.Dues.{is_under}
 use Rattle.broker_tables.specs.Handing.{IsServed}
 use Rattle.broker_tables.specs.Stocks.{IsStocked, shown, stocked}
-use Rattle.broker_tables.proofs.Awaiting.{awaited_served}
-use Rattle.broker_tables.proofs.Dues.{same_keys}
+use Rattle.broker_tables.proofs.Awaiting.{awaited_served, same_scopes}
 use Rattle.broker_tables.proofs.Waiters.{W, sub_at, subs_removed}
 
 -- What a delivery leaves.
@@ -53,7 +50,7 @@ module _ (number : ℕ) (old new : Stock) (key : Key) (out : OutValue) (served :
 
   subs_after : subs_of new.order.all ≡ remove subs served.at ++ delivered served.handed.left old.next_delivery message ∷ []
   subs_after =
-      ap (λ (o : Waiting). subs_of o.all) served.order ∙ subs_pushed (remove old.order.all served.at) (key, record { ticket = old.order.next; sub = served.sub })
+      ap (λ (o : Waiting). subs_of o.all) served.order ∙ subs_pushed (remove old.order.all served.at) (key, record served.standing { ticket = old.order.next; sub = served.sub })
       ∙ ap (λ (l : List Subscription). l ++ served.sub ∷ []) (subs_removed old.order.all served.at)
       ∙ ap (λ (x : Subscription). remove subs served.at ++ x ∷ []) served.handed.handed
 
@@ -103,14 +100,10 @@ module _ (number : ℕ) (old new : Stock) (key : Key) (out : OutValue) (served :
 
   pub still_awaited : (cursors : List Cursor) → IsOrdered old.order → AreAwaited cursors old → AreAwaited cursors new
   still_awaited cursors ordered all =
-      let w : W = (key, served.standing) in
-      let v : W = (key, record { ticket = old.order.next; sub = served.sub }) in
+      let v : W = (key, record served.standing { ticket = old.order.next; sub = served.sub }) in
       let h = served.handed in
-      let same : (due : Due) → is_under due served.sub ≡ is_under due before = same_keys served.sub before
-      (ap (λ (x : Subscription). x.session) h.handed ∙ ap (λ (x : Subscription). x.session) h.line)
-      (ap (λ (x : Subscription). x.destination) h.handed ∙ ap (λ (x : Subscription). x.destination) h.line)
-      (ap (λ (x : Subscription). x.durable) h.handed ∙ ap (λ (x : Subscription). x.durable) h.line) in
-      awaited_served cursors old new served.at w v message rest served.there ordered all ready line h.rest served.delivery (ap (λ (o : Waiting). o.all) served.order) refl same
+      let session = ap (λ (x : Subscription). x.session) h.handed ∙ ap (λ (x : Subscription). x.session) h.line in
+      awaited_served cursors old new served.at (key, served.standing) v message rest served.there ordered all ready line h.rest served.delivery (ap (λ (o : Waiting). o.all) served.order) refl (same_scopes v.1 served.standing session refl)
 
 -- where none can be served, all is handed out
 pub settles_all : (first s : State) (earlier outs : List OutValue) → SettlesSo first earlier s outs 0 → NonePass (can_take s) s.subscriptions → (s ≡ (settled first).state) × (outs ≡ earlier ++ (settled first).outs)

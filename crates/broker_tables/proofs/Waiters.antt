@@ -78,14 +78,17 @@ subs_put m topic (w ∷ ws) =
 
 -- The next one from the first ticket on is the first of all.
 module _ (p : Subscription → Bool) (ws : List W) where
-  pub none_first : NoneFrom p ws 0 → NonePass p (subs_of ws)
+  abbrev passes : Standing → Bool
+  passes s = p s.sub
+
+  pub none_first : NoneFrom passes ws 0 → NonePass p (subs_of ws)
   none_first none = all_subs (λ x. p x ≡ false) ws (go ws (λ i w is. none i w is (omega arith)))
     where
       go : (vs : List W) → ((i : ℕ) (w : W) → slice_get vs i ≡ Some w → p w.1.sub ≡ false) → AllByRecursion (λ (w : W). p w.1.sub ≡ false) vs
       go [] each = tt
       go (v ∷ vs) each = (each 0 v refl, go vs (λ i w is. each (suc i) w is))
 
-  pub first_from : (place : Place) (next : IsFirstFrom p ws 0 place) → IsFirst p (subs_of ws) next.at
+  pub first_from : (place : Place) (next : IsFirstFrom passes ws 0 place) → IsFirst p (subs_of ws) next.at
   first_from place next = record {
     within = omega (arith, slice_get_within ws next.at (place.key, next.standing) next.there, length_subs ws);
     passing = λ x is. subst (λ (y : Subscription). p y ≡ true) (same_Some next.standing.sub x (sym (sub_at ws next.at (place.key, next.standing) next.there) ∙ is)) next.passing;
@@ -94,7 +97,7 @@ module _ (p : Subscription → Bool) (ws : List W) where
         subst (λ (y : Subscription). p y ≡ false) w.2 (next.before i w.0 w.1 (omega arith) less));
   }
 
-  pub first_at : (place : Place) → IsFirstFrom p ws 0 place → IsFirstAt p ws place.key
+  pub first_at : (place : Place) → IsFirstFrom passes ws 0 place → IsFirstAt p ws place.key
   first_at place next = record { at = next.at; standing = next.standing; there = next.there; first = first_from place next }
 
 -- another item in a place

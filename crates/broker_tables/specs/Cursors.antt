@@ -1,38 +1,34 @@
-use Rattle.std.specs.Prelude.{◌≡◌, ◌-◌, ◌<◌, ◌≤◌, ◌^◌, List, ℕ, true, Some, slice_get}
-use Rattle.std.specs.List.{AllByRecursion, sum_by}
+use Rattle.std.specs.Prelude.{◌≡◌, ◌-◌, ◌&&◌, ◌^◌, List, ℕ, Bool, true, nat_le}
+use Rattle.std.specs.List.{AllByRecursion, list_any, sum_by}
 use Rattle.broker_state.specs.HandOut.{can_take}
-use Rattle.broker_state.specs.Lists.{is_none}
 use Rattle.broker_state.specs.Parts.{NonePass}
-use Rattle.broker_state.specs.Waiting.{Shared, line_for}
 use Rattle.broker_tables.specs.declared.cursors.Cursor.{Cursor}
 use Rattle.broker_tables.specs.declared.due.Due.{Due}
 use Rattle.broker_tables.specs.declared.stock.Stock.{Stock}
-use Rattle.broker_tables.specs.Dues.{is_awaited, is_under}
+use Rattle.broker_tables.specs.Dues.{is_due}
 use Rattle.broker_tables.specs.Places.{IsFirstAt}
+use Rattle.broker_tables.specs.Scopes.{is_within}
 use Rattle.broker_tables.specs.Stocks.{stocked}
 use Rattle.waiting_order.specs.declared.key.Key.{Key}
-use Rattle.waiting_order.specs.declared.places.Place.{Place}
 use Rattle.waiting_order.specs.declared.standing.Standing.{Standing}
 use Rattle.waiting_order.specs.Waiting.{subs_of}
 
--- each waiter who can be served is awaited at its ticket
+-- whether somebody of a cursor's scope is still ahead of it
+abbrev pub is_ahead : Standing → Cursor → Bool
+is_ahead standing cursor = nat_le cursor.from standing.ticket && is_within cursor.scope standing
+
+-- whether somebody is ahead of one of those cursors
+abbrev pub is_awaited : List Cursor → Standing → Bool
+is_awaited cursors standing = list_any (is_ahead standing) cursors
+
+-- each waiter who can be served is awaited
 abbrev pub AreAwaited : List Cursor → Stock → Type 0
 AreAwaited cursors stock =
-    AllByRecursion (λ (w : Key × Standing). can_take (stocked stock) w.1.sub ≡ true → is_awaited cursors w.1.ticket w.1.sub ≡ true) stock.order.all
+    AllByRecursion (λ (w : Key × Standing). can_take (stocked stock) w.1.sub ≡ true → is_awaited cursors w.1 ≡ true) stock.order.all
 
--- nothing waits for those that are due and have a ticket from the one on and under the other
-abbrev pub IdleUntil : Due → Shared → List (Key × Standing) → ℕ → ℕ → Type 0
-IdleUntil due shared ws from until = (i : ℕ) (w : Key × Standing) → slice_get ws i ≡ Some w → from ≤ w.1.ticket → w.1.ticket < until
-    → is_under due w.1.sub ≡ true → is_none (line_for shared w.1.sub) ≡ true
-
--- Nothing waits for those that are due, from a ticket on, before somebody's place.
-pub record WaitsUntil (due : Due) (shared : Shared) (ws : List (Key × Standing)) (from : ℕ) (place : Place) : Type 0 where
-  pub at : ℕ
-  pub standing : Standing
-  pub there : slice_get ws at ≡ Some (place.key, standing)
-  pub ticket : standing.ticket ≡ place.ticket
-  pub after : from ≤ place.ticket
-  pub idle : IdleUntil due shared ws from place.ticket
+-- each waiter who is due is awaited
+abbrev pub AwaitAllDue : List Cursor → List Due → List (Key × Standing) → Type 0
+AwaitAllDue cursors marks ws = AllByRecursion (λ (w : Key × Standing). is_due marks w.1.sub ≡ true → is_awaited cursors w.1 ≡ true) ws
 
 -- a cursor at another ticket
 abbrev pub at_ticket : ℕ → Cursor → Cursor

@@ -1,4 +1,4 @@
-use Rattle.std.specs.Prelude.{◌≡◌, ◌&&◌, List, ℕ, Bool, true, false, Option, Some, None, nat_le}
+use Rattle.std.specs.Prelude.{◌≡◌, ◌&&◌, List, ℕ, Bool, true, false, Option, Some, None}
 use Rattle.std.specs.List.{AllByRecursion, list_any}
 use Rattle.std.specs.Str.{bytes_eq}
 use Rattle.broker_state.specs.declared.subscription.Subscription.{Subscription}
@@ -8,7 +8,6 @@ use Rattle.broker_state.specs.Operations.{is_of, uses}
 use Rattle.broker_state.specs.States.{State}
 use Rattle.broker_state.specs.Waiting.{Shared, line_for, returned}
 use Rattle.waiting_order.specs.Directories.{is_plain_at}
-use Rattle.broker_tables.specs.declared.cursors.Cursor.{Cursor}
 use Rattle.broker_tables.specs.declared.due.Due.{Due}
 use Rattle.broker_tables.specs.declared.due.Due.TheVariants.{Session, Destination, Durable}
 
@@ -26,19 +25,12 @@ due_from sub (Some name) = Durable name
 abbrev pub line_due : Subscription → Due
 line_due sub = due_from sub sub.durable
 
--- whether a cursor at that ticket or before it is one of a subscription
-abbrev pub awaits_at : ℕ → Subscription → Cursor → Bool
-awaits_at ticket sub cursor = nat_le cursor.from ticket && is_under cursor.due sub
-
-abbrev pub is_awaited : List Cursor → ℕ → Subscription → Bool
-is_awaited cursors ticket sub = list_any (awaits_at ticket sub) cursors
-
--- whether a subscription is due, whatever its ticket
-abbrev pub is_due : List Cursor → Subscription → Bool
-is_due cursors sub = is_awaited cursors 0 sub
+-- whether a subscription is due by one of those marks
+abbrev pub is_due : List Due → Subscription → Bool
+is_due marks sub = list_any (λ due. is_under due sub) marks
 
 -- each subscription that passes is due
-abbrev pub AllDue : (Subscription → Bool) → List Cursor → Type 0
+abbrev pub AllDue : (Subscription → Bool) → List Due → Type 0
 AllDue who due = (sub : Subscription) → who sub ≡ true → is_due due sub ≡ true
 
 -- whether a subscription has one of the durable names that are bound to a topic
@@ -46,9 +38,9 @@ abbrev pub has_name_of : List ℕ → List (Name × List ℕ) → Subscription �
 has_name_of to durables sub = list_any (λ durable. bytes_eq durable.1 to && uses durable.0 sub) durables
 
 -- the lines from which others are served stand as they were when that subscription's deliveries have returned to its line
-abbrev pub OthersStand : List Cursor → Subscription → Type 0
+abbrev pub OthersStand : List Due → Subscription → Type 0
 OthersStand due sub = (lines : Shared) (other : Subscription) → is_due due other ≡ false → line_for (returned lines sub) other ≡ line_for lines other
 
 -- a subscription that can be served is due
-abbrev pub AreDue : List Cursor → State → Type 0
+abbrev pub AreDue : List Due → State → Type 0
 AreDue due s = AllByRecursion (λ sub. can_take s sub ≡ true → is_due due sub ≡ true) s.subscriptions

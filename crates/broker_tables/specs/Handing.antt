@@ -1,6 +1,7 @@
-use Rattle.std.specs.Prelude.{◌≡◌, ◌+◌, ◌-◌, ◌++◌, ◌∷◌, [], ℕ, Some, drop, if◌then◌else◌, remove, slice_get}
+use Rattle.std.specs.Prelude.{◌≡◌, ◌+◌, ◌-◌, ◌++◌, ◌∷◌, [], List, ℕ, Some, drop, if◌then◌else◌, remove, slice_get}
 use Rattle.command_core.specs.Outs.{OutValue}
 use Rattle.line_core.specs.declared.message.Message.{Message}
+use Rattle.line_core.specs.Flights.{IsOver}
 use Rattle.line_core.specs.Lines.{first_of}
 use Rattle.broker_state.specs.declared.held.Held.{Held}
 use Rattle.broker_state.specs.declared.subscription.Subscription.{Subscription}
@@ -9,6 +10,7 @@ use Rattle.broker_state.specs.States.{bytes}
 use Rattle.broker_state.specs.Waiting.{Shared, left_line, left_shared, line_for}
 use Rattle.broker_tables.specs.declared.stock.Stock.{Stock}
 use Rattle.broker_tables.specs.Answers.{Answered, with_outs}
+use Rattle.broker_tables.specs.Places.{HoldsAtKey, StandsSo}
 use Rattle.broker_tables.specs.Returns.{HandFirst}
 use Rattle.broker_tables.specs.Stocks.{stocked}
 use Rattle.broker_state.specs.Parts.{IsFirst}
@@ -20,6 +22,15 @@ use Rattle.waiting_order.specs.declared.standing.Standing.{Standing}
 pub record LeavesLine (shared : Shared) (sub : Subscription) (shared_after : Shared) : Type 0 where
   pub rest : shared_after ≡ left_shared shared sub (drop 1 (line_for shared sub))
   pub weight : HandFirst shared sub shared_after (left_line sub (drop 1 (line_for shared sub))) (line_for shared sub)
+
+-- somebody stands at that key who has no unacknowledged delivery of that number or a greater one
+abbrev pub MayGet : List (Key × Standing) → Key → ℕ → Type 0
+MayGet ws key delivery = StandsSo ws key (λ sub. IsOver delivery sub.unacknowledged)
+
+-- the MESSAGE is kept by which who stands at that key gets a message from the command of that number, if the outputs are
+abbrev pub IsTold : ℕ → List (Key × Standing) → Key → ℕ → Message → Answered → Answered → Type 0
+IsTold number ws key delivery message earlier all =
+    HoldsAtKey ws key (λ at s. all ≡ with_outs (message_out number s.sub delivery message ∷ []) earlier)
 
 -- With `auto` a message that was handed out is held no more.
 pub record LetsGoIfAuto (sub : Subscription) (message : Message) (held held_after : Held) : Type 0 where
@@ -47,7 +58,7 @@ pub record IsServed (number : ℕ) (old : Stock) (key : Key) (new : Stock) (out 
   pub there : slice_get old.order.all at ≡ Some (key, standing)
   pub first : IsFirst (can_take (stocked old)) (subs_of old.order.all) at
   pub handed : IsHanded number old.next_delivery old.shared standing.sub old.held new.shared sub new.held out
-  pub order : new.order ≡ record { all = remove old.order.all at ++ (key, record { ticket = old.order.next; sub = sub }) ∷ []; next = old.order.next + 1 }
+  pub order : new.order ≡ record { all = remove old.order.all at ++ (key, record standing { ticket = old.order.next; sub = sub }) ∷ []; next = old.order.next + 1 }
   pub delivery : new.next_delivery ≡ old.next_delivery + 1
 
 -- the same, and its MESSAGE is kept, if the outputs are

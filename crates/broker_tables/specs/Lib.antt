@@ -5,6 +5,7 @@ pub mod Handing
 pub mod Places
 pub mod Refusals
 pub mod Returns
+pub mod Scopes
 pub mod Sendings
 pub mod Stocks
 pub mod Tables

@@ -1,7 +1,7 @@
 use Rattle.std.specs.Prelude.{◌≡◌, ◌≤◌, ◌^◌, List, ℕ, Bool}
 use Rattle.broker_state.specs.declared.held.Held.{Held}
 use Rattle.broker_state.specs.States.{IsNext, State, held_bytes, held_messages}
-use Rattle.broker_tables.specs.declared.cursors.Cursor.{Cursor}
+use Rattle.broker_tables.specs.declared.due.Due.{Due}
 use Rattle.broker_tables.specs.declared.stock.Stock.{Stock}
 use Rattle.broker_tables.specs.Dues.{AreDue}
 use Rattle.broker_tables.specs.Stocks.{IsStocked, stocked}
@@ -13,7 +13,7 @@ pub record TablesValue : Type 0 where
   pub due : ℕ
 
 -- What tables keep: what a stock keeps, and a subscription that can be served is due to be.
-pub record IsKept (stock : Stock) (due : List Cursor) : Type 0 where
+pub record IsKept (stock : Stock) (due : List Due) : Type 0 where
   pub whole : IsStocked stock
   pub ready : AreDue due (stocked stock)
 

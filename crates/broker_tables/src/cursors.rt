@@ -1,25 +1,40 @@
-//! From which ticket on a subscription may be served, of those that are due.
+//! From which tickets on subscriptions may be served, while what waits is handed out.
 
-ghost use Rattle.std.specs.Prelude.{◌≡◌, ◌<◌, ◌≤◌, ◌^◌, ◌-◌, IfNone, IfSome, MatchOption, Some, length, slice_get, true};
+ghost use Rattle.std.specs.Prelude.{◌≡◌, ◌<◌, ◌≤◌, ◌^◌, ◌-◌, IfNone, IfOk, IfSome, MatchOption, Some, length, slice_get, true};
 ghost use Rattle.std.specs.List.{AllByRecursion};
 ghost use Rattle.broker_state.specs.Lists.{changed};
-ghost use Rattle.broker_tables.specs.Cursors.{AreAwaited, IsReady, NoneReady, at_ticket, tickets_left};
+ghost use Rattle.broker_tables.specs.Cursors.{AreAwaited, AwaitAllDue, IsReady, NoneReady, at_ticket, tickets_left};
 ghost use Rattle.broker_tables.specs.declared.cursors.Cursor.{Cursor};
 ghost use Rattle.broker_tables.specs.Places.{IsPlaceOf};
 
-use crate::due::{Due, next_waiting};
+use crate::due::Due;
+use crate::scope::{Scope, next_waiting, scope_of};
 use crate::stock::Stock;
-use waiting_order::{Key, Place};
+use std::alloc::{AllocError, Global};
+use waiting_order::{Key, Order, Place};
 
-/// Of those that are due no subscription with a lesser ticket can be served.
-#[derive(PartialEq, Eq, PartialOrd, Ord, Drop)]
+/// Nobody of a scope with a lesser ticket can be served.
+#[derive(Clone, Copy, Drop)]
 pub struct Cursor {
     pub from: u64,
-    pub due: Due,
+    pub scope: Scope,
 }
 
 /// The ticket of a cursor behind which nothing waits. No subscription has it.
 const END: u64 = u64::MAX;
+
+/// A cursor for those of each mark, at the first ticket. No memory is taken if nobody is marked.
+pub fn cursors_of(alloc: Global, order: &Order, marked: &[Due]) -> Result<Vec<Cursor>, AllocError>
+    ensures { IfOk result (λ cursors. AwaitAllDue cursors.items marked.now order.now.all) }
+{
+    let mut cursors = Vec::new(alloc);
+    for due in marked {
+        if let Some(scope) = scope_of(order, due) {
+            cursors.push(Cursor { from: 0, scope })?;
+        }
+    }
+    Ok(cursors)
+}
 
 /// The index of a cursor with the least ticket; none if all are at the end.
 fn least(cursors: &[Cursor]) -> Option<usize>
@@ -83,9 +98,8 @@ impl Stock {
         ensures nearer { IfNone result (tickets_left cursors.new.items < tickets_left cursors.old.items) }
     {
         self.order.stand_in_order();
-        let cursor = &cursors[at];
-        let from = cursor.from;
-        let Some(place) = next_waiting(&self.order, &self.shared, &cursor.due, from) else {
+        let Cursor { from, scope } = cursors[at];
+        let Some(place) = next_waiting(&self.order, &self.shared, scope, from) else {
             move_on(cursors, at, END);
             return None;
         };

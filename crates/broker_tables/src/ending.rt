@@ -15,8 +15,7 @@ ghost use Rattle.waiting_order.specs.Soughts.{is_sought_of};
 ghost use Rattle.waiting_order.specs.Waiting.{subs_of};
 ghost use Rattle.broker_state.specs.declared.subscription.Subscription.{Subscription};
 
-use crate::cursors::Cursor;
-use crate::due::mark_line;
+use crate::due::{Due, mark_line};
 use crate::shared_lines::SharedLines;
 use crate::subscribing::{find_named, is_used};
 use crate::tables::Tables;
@@ -112,7 +111,7 @@ pub fn let_deliveries_go(held: &mut Held, deliveries: &[(u64, Message)])
 /// are due, unless the line was its own. What vanishes with it is held no more. If memory is refused, part of it may be done.
 fn let_go(
     alloc: Global,
-    marked: &mut Vec<Cursor>,
+    marked: &mut Vec<Due>,
     shared: &mut SharedLines,
     held: &mut Held,
     sub: Subscription,
@@ -133,7 +132,7 @@ fn let_go(
 /// Subscriptions have ended, one after another.
 fn let_all_go(
     alloc: Global,
-    marked: &mut Vec<Cursor>,
+    marked: &mut Vec<Due>,
     shared: &mut SharedLines,
     held: &mut Held,
     subs: Vec<Subscription>,

@@ -1,7 +1,6 @@
 //! What waits is handed out.
 
 ghost use Rattle.std.specs.Prelude.{◌≡◌, ◌+◌, ◌≤◌, ◌∷◌, [], IfOk, OnOk, Some, drop, false, if◌then◌else◌, true};
-ghost use Rattle.line_core.specs.Flights.{IsOver};
 ghost use Rattle.line_core.specs.Lines.{first_of};
 ghost use Rattle.broker_state.specs.HandOut.{ack_of, delivered, is_auto, message_out, settled};
 ghost use Rattle.broker_state.specs.Lists.{changed, is_none};
@@ -9,19 +8,20 @@ ghost use Rattle.broker_state.specs.States.{bytes, one};
 ghost use Rattle.broker_state.specs.Waiting.{left_line, line_for};
 ghost use Rattle.broker_tables.specs.Answers.{with_outs};
 ghost use Rattle.broker_tables.specs.Cursors.{AreAwaited, IsReady, NoneReady};
-ghost use Rattle.broker_tables.specs.Handing.{LeavesLine, LetsGoIfAuto, Serves};
+ghost use Rattle.broker_tables.specs.Handing.{IsTold, LeavesLine, LetsGoIfAuto, MayGet, Serves};
 ghost use Rattle.broker_tables.specs.Places.{HoldsAtKey, StandsSo, with_changed};
 ghost use Rattle.broker_tables.specs.Stocks.{HandsAll, IsStocked};
 ghost use Rattle.broker_state.specs.declared.subscription.Subscription.{Subscription};
 ghost use Rattle.waiting_order.specs.Keeping.{kept_by};
 
 use crate::answers::Answers;
-use crate::cursors::Cursor;
+use crate::cursors::{Cursor, cursors_of};
+use crate::sending::share;
 use crate::shared_lines::SharedLines;
 use crate::stock::Stock;
 use crate::tables::Tables;
 use broker_state::{Held, LAST_DELIVERY, Subscription};
-use command_core::{Out, message_reply};
+use command_core::Out;
 use line_core::{Message, size};
 use record_core::AckMode;
 use std::alloc::{AllocError, Global};
@@ -67,8 +67,16 @@ fn reply(
         number: name,
         sending,
     } = message;
-    let frame = message_reply(alloc, &sub.id, name.command, name.place, ack, sending)?;
-    let out = Out::new(alloc, number, sub.session, frame)?;
+    let out = Out::message(
+        alloc,
+        number,
+        sub.session,
+        &sub.id,
+        name.command,
+        name.place,
+        ack,
+        sending,
+    )?;
     answers.add(out)
 }
 
@@ -98,13 +106,14 @@ fn hand_over(
     message: Message,
     answers: &mut Answers,
 ) -> Result<(), AllocError>
-    requires over { StandsSo order.old.all key (λ sub. IsOver delivery sub.unacknowledged) }
-    ensures answers { OnOk result (HoldsAtKey order.old.all key (λ at s. answers.new ≡ with_outs (message_out number s.sub delivery message ∷ []) answers.old)) }
+    requires over { MayGet order.old.all key delivery }
+    ensures answers { OnOk result (IsTold number order.old.all key delivery message answers.old answers.new) }
     ensures kept { OnOk result (HoldsAtKey order.old.all key (λ at s. order.new ≡ record order.old { all = changed at (kept_by delivery message) order.old.all })) }
 {
     if !answers.are_kept() {
         return order.keep(key, delivery, message);
     }
+    let message = share(alloc, message)?;
     let copy = message.clone()?;
     reply(alloc, number, order.get(key), delivery, message, answers)?;
     order.keep(key, delivery, copy)
@@ -121,16 +130,17 @@ fn deliver(
     held: &mut Held,
     answers: &mut Answers,
 ) -> Result<(), AllocError>
-    requires over { StandsSo order.old.all key (λ sub. IsOver delivery sub.unacknowledged) }
+    requires over { MayGet order.old.all key delivery }
     requires held { (1 ≤ held.old.messages) × (bytes message ≤ held.old.bytes) }
-    ensures answers { OnOk result (HoldsAtKey order.old.all key (λ at s. answers.new ≡ with_outs (message_out number s.sub delivery message ∷ []) answers.old)) }
+    ensures answers { OnOk result (IsTold number order.old.all key delivery message answers.old answers.new) }
     ensures delivered { OnOk result (HoldsAtKey order.old.all key (λ at s. order.new ≡ with_changed at (λ sub. delivered sub delivery message) order.old)) }
     ensures held { OnOk result (HoldsAtKey order.old.all key (λ at s. LetsGoIfAuto s.sub message held.old held.new)) }
 {
-    if is_auto(order.get(key)) {
+    let sub = order.get(key);
+    if is_auto(sub) {
         held.messages -= 1;
         held.bytes -= size(&message.sending) as u64;
-        return reply(alloc, number, order.get(key), delivery, message, answers);
+        return reply(alloc, number, sub, delivery, message, answers);
     }
     hand_over(alloc, number, order, key, delivery, message, answers)
 }
@@ -199,9 +209,10 @@ impl Tables {
         ensures due { OnOk result (self.new.due ≡ 0) }
         ensures whole { OnOk result (self.new.broken ≡ false) }
     {
+        let mut cursors = cursors_of(alloc, &self.stock.order, self.due.as_slice())?;
         self.broken = true;
         self.stock
-            .hand_out(alloc, self.count, &mut self.due, answers)?;
+            .hand_out(alloc, self.count, &mut cursors, answers)?;
         self.due.clear();
         self.broken = false;
         Ok(())

@@ -11,6 +11,7 @@ mod ending;
 mod hand_out;
 mod keyed_lines;
 mod refusing;
+mod scope;
 mod sending;
 mod shared_lines;
 mod stock;

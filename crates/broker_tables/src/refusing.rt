@@ -17,7 +17,6 @@ ghost use Rattle.broker_tables.specs.Places.{HoldsAtKey, StandsSo, with_changed}
 ghost use Rattle.broker_tables.specs.Refusals.{ArePart, MovesHeld, all_kept, all_kept_bytes, bytes_of, kept_bytes, kept_one, with_all_refused};
 
 use crate::acknowledging::find_awaiting;
-use crate::cursors::Cursor;
 use crate::due::{Due, mark};
 use crate::ending::let_deliveries_go;
 use crate::shared_lines::SharedLines;
@@ -65,8 +64,7 @@ fn refused(alloc: Global, number: MessageNumber, message: Message) -> Result<Mes
     ensures { IfOk result (λ kept. kept ≡ refused number.command number.place message) }
 {
     let destination = dead_queue(alloc)?;
-    let (_, headers, body) = message.sending.into_parts();
-    let sending = Sending::new(destination, headers, body);
+    let sending = message.sending.redirect(destination)?;
     Ok(Message { number, sending })
 }
 
@@ -182,7 +180,7 @@ fn keep(
 /// queue of refused messages. If memory is refused, some of them may be.
 fn take_refused(
     alloc: Global,
-    marked: &mut Vec<Cursor>,
+    marked: &mut Vec<Due>,
     order: &mut Order,
     key: Key,
     session: u64,

@@ -14,7 +14,6 @@ ghost use Rattle.waiting_order.specs.Directories.{is_plain_at};
 ghost use Rattle.waiting_order.specs.Waiting.{subs_of};
 ghost use Rattle.broker_tables.specs.Dues.{AllDue, has_name_of, is_due};
 
-use crate::cursors::Cursor;
 use crate::due::{Due, mark, mark_names};
 use crate::durable_names::{DurableNames, Names};
 use crate::shared_lines::SharedLines;
@@ -133,7 +132,7 @@ fn copy_to_topic(
 }
 
 /// The same message, whose clones share its bytes from now on. If memory is refused for that, it is gone.
-fn share(alloc: Global, message: Message) -> Result<Message, AllocError>
+pub fn share(alloc: Global, message: Message) -> Result<Message, AllocError>
     ensures { IfOk result (λ shared. shared ≡ message) }
 {
     let Message { number, sending } = message;
@@ -152,7 +151,7 @@ fn for_copies(
     ensures { IfOk result (λ same. same ≡ message) }
 {
     let to = message.sending.destination();
-    if names_of(durables, to) + listeners_of(order, to) < 2 {
+    if names_of(durables, to) + listeners_of(order, to) == 0 {
         return Ok(message);
     }
     share(alloc, message)
@@ -180,7 +179,7 @@ fn fan_out(
 /// The subscriptions are due that may be served once a message has gone to that destination. If memory is refused, some of
 /// them may be.
 fn mark_destination(
-    marked: &mut Vec<Cursor>,
+    marked: &mut Vec<Due>,
     durables: &DurableNames,
     to: &Dest,
 ) -> Result<(), AllocError>
@@ -197,7 +196,7 @@ fn mark_destination(
 /// it may be done.
 fn take_in(
     alloc: Global,
-    marked: &mut Vec<Cursor>,
+    marked: &mut Vec<Due>,
     durables: &DurableNames,
     shared: &mut SharedLines,
     order: &mut Order,

@@ -13,7 +13,6 @@ ghost use Rattle.broker_tables.specs.Places.{IsFirstAt, place_for};
 ghost use Rattle.waiting_order.specs.Waiting.{subs_of};
 ghost use Rattle.broker_state.specs.declared.subscription.Subscription.{Subscription};
 
-use crate::cursors::Cursor;
 use crate::due::{Due, mark};
 use crate::tables::Tables;
 use broker_state::{DurableName, GivenName, MOST_NAMES, MOST_SUBSCRIPTIONS, Subscription};
@@ -101,7 +100,7 @@ fn with_shared_id(alloc: Global, sub: Subscription) -> Result<Subscription, Allo
 /// A subscription that begins waits last, and those of its session are due. If memory is refused, they may be.
 fn enter(
     alloc: Global,
-    marked: &mut Vec<Cursor>,
+    marked: &mut Vec<Due>,
     order: &mut Order,
     sub: Subscription,
 ) -> Result<(), AllocError>

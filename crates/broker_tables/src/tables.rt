@@ -9,7 +9,7 @@ ghost use Rattle.broker_state.specs.Sound.{IsSound};
 ghost use Rattle.broker_tables.specs.Tables.{IsTallied};
 ghost use Rattle.waiting_order.specs.Waiting.{subs_of};
 
-use crate::cursors::Cursor;
+use crate::due::Due;
 use crate::durable_names::DurableNames;
 use crate::shared_lines::SharedLines;
 use crate::stock::Stock;
@@ -33,7 +33,7 @@ pub struct Tables {
     pub(crate) durables: DurableNames,
     pub(crate) stock: Stock,
     /// A subscription that can be served is due by one of these. They grow with what a command touches.
-    pub(crate) due: Vec<Cursor>,
+    pub(crate) due: Vec<Due>,
     // An operation is under way, or was refused memory.
     pub(crate) broken: bool,
 }

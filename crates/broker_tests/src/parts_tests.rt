@@ -1,7 +1,7 @@
 use crate::records::{LISTEN, execute};
 use broker_core::Broker;
 use broker_state::{DurableName, GivenName, Parts};
-use frame_core::{Bytes, Headers, Text, first};
+use frame_core::{Bytes, Headers, Text};
 use line_core::{Line, Message, MessageNumber};
 use record_core::{Dest, HeaderText, Sending, is_header_text};
 use std::alloc::Global;
@@ -51,7 +51,11 @@ fn go_on(alloc: Global, broker: &mut Broker) -> Result<(u64, u64, bool), Fail> {
     let (count, held) = (broker.count(), broker.held().messages);
     let outs = execute(alloc, broker, LISTEN)?;
     let is_sent = match outs.as_slice() {
-        [out] => first(out.frame(), "message-id") == Some("1.0"),
+        [out] => {
+            let bytes = out.write(alloc)?;
+            let text = str::from_utf8(bytes.as_slice())?;
+            text.contains("\nmessage-id:1.0\n")
+        }
         _ => false,
     };
     drop(outs);

@@ -2,7 +2,6 @@
 
 use broker_core::Broker;
 use command_core::{Out, decode};
-use frame_core::{Verb, first};
 use std::alloc::Global;
 use std::test::Fail;
 
@@ -38,7 +37,7 @@ pub fn execute_all(alloc: Global, broker: &mut Broker, records: &[&[u8]]) -> Res
 /// Whether all that is answered is an ERROR with that text.
 pub fn is_error(outs: &[Out], text: &str) -> bool {
     match outs {
-        [out] => out.frame().verb == Verb::Error && first(out.frame(), "message") == Some(text),
+        [out] => out.error() == Some(text),
         _ => false,
     }
 }

@@ -2,10 +2,12 @@
 
 ghost use Rattle.std.specs.Prelude.{◌≡◌, ◌<◌, ◌≤◌, IfOk, IfErr};
 ghost use Rattle.frame_core.specs.Writable.{Writable};
+ghost use Rattle.frame_core.specs.Written.{written};
 
 use crate::refusals::NotYet;
 use command_core::Out;
-use frame_core::Frame;
+use frame_core::Verb;
+use std::alloc::{AllocError, Global};
 use std::marker::Model;
 
 /// An output that may leave, because its number is under a mark that was read. Only `Ring::release` makes one.
@@ -36,12 +38,26 @@ impl Released {
         }
     }
 
-    /// The frame that may leave, which can be written.
-    pub fn frame(&self) -> &Frame
-        ensures value { result.now ≡ self.now.frame }
+    /// The command of the frame that may leave.
+    pub fn verb(&self) -> Verb
+        ensures { result ≡ self.now.frame.verb }
+    {
+        self.out.verb()
+    }
+
+    /// The body of the frame that may leave.
+    pub fn body(&self) -> &[u8]
+        ensures { result.now ≡ self.now.frame.body }
+    {
+        self.out.body()
+    }
+
+    /// The bytes of the frame that may leave, which can be written.
+    pub fn write(&self, alloc: Global) -> Result<Vec<u8>, AllocError>
+        ensures bytes { IfOk result (λ bytes. bytes.items ≡ written self.now.frame) }
         ensures form { Writable self.now.frame }
     {
-        self.out.frame()
+        self.out.write(alloc)
     }
 
     /// The number of the command that the output comes from.

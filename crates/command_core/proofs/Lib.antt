@@ -1,4 +1,5 @@
 pub mod WritableReplies
+pub mod WrittenMessages
 pub mod Sized
 pub mod RecordOperations
 pub mod RecordCommands

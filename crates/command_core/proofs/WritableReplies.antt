@@ -9,7 +9,7 @@ use Rattle.record_core.specs.Sendings.{SendingValue, IsSending, IsKept}
 use Rattle.record_core.proofs.DestinationBytes.{dest_no_nul}
 use Rattle.command_core.specs.Replies.{ack_header, connected, message_frame, message_id, own_headers}
 
-abbrev AllDigits : List ℕ → Type 0
+abbrev pub AllDigits : List ℕ → Type 0
 AllDigits ds = AllByRecursion (λ b. (48 ≤ b) × (b ≤ 57)) ds
 
 one_more : (ds : List ℕ) (d : ℕ) → d < 10 → AllDigits ds → AllDigits (ds ++ ((48 + d) ∷ []))
@@ -17,7 +17,7 @@ one_more [] d h a = ((omega arith, omega arith), tt)
 one_more (x ∷ xs) d h a = (a.0, one_more xs d h a.1)
 
 -- a number in decimal has digits alone
-digits_of_decimal : (n : ℕ) → n < 2 ^ 64 → AllDigits (decimal n)
+pub digits_of_decimal : (n : ℕ) → n < 2 ^ 64 → AllDigits (decimal n)
 digits_of_decimal =
     decimal_by_steps (λ _ ds. AllDigits ds) (λ n h. ((omega arith, omega arith), tt)) (λ n ds _ a. one_more ds (n % 10) (omega arith) a)
 

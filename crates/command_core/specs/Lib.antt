@@ -7,3 +7,4 @@ pub mod Spellings
 pub mod Reading
 pub mod Outs
 pub mod Replies
+pub mod Contents

@@ -1,4 +1,5 @@
-use Rattle.std.specs.Prelude.{ℕ}
+use Rattle.std.specs.Prelude.{◌+◌, List, ℕ, length}
+use Rattle.std.specs.List.{sum_by}
 use Rattle.frame_core.specs.declared.frame.Frame.{Frame}
 
 -- an output: the number of its command, the session that it goes to, and what is told
@@ -6,3 +7,11 @@ pub record OutValue : Type 0 where
   pub number : ℕ
   pub session : ℕ
   pub frame : Frame
+
+-- the bytes of a header
+abbrev pub header_bytes : List ℕ × List ℕ → ℕ
+header_bytes h = length h.0 + length h.1
+
+-- the bytes that an output counts for: those of its body, and of its headers' names and values
+abbrev pub weight_of : OutValue → ℕ
+weight_of out = length out.frame.body + sum_by header_bytes out.frame.headers

@@ -5,14 +5,16 @@
 
 mod command;
 mod decoding;
+mod delivery;
 mod encoding;
 mod entry;
 mod fault;
 mod laws;
 mod member;
-mod out;
+mod output;
 mod replies;
 mod sizes;
+mod weight;
 
 pub use command::{Command, End, Op};
 pub use decoding::decode;
@@ -21,6 +23,6 @@ pub use entry::Entry;
 pub use fault::{Fault, fault_text};
 pub use laws::spellings_begin_no_other;
 pub use member::{Member, Members};
-pub use out::Out;
-pub use replies::{connected_reply, error_reply, message_reply, receipt_reply};
+pub use output::Out;
+pub use replies::{connected_reply, error_reply, receipt_reply};
 pub use sizes::{member_size, op_size};

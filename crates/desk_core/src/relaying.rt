@@ -61,8 +61,8 @@ fn pass<L: Outgoing>(
         Ok(()) => {
             let relayed = Relayed::Sent {
                 number: released.number(),
-                verb: released.frame().verb,
-                bytes: released.frame().body.as_slice().len(),
+                verb: released.verb(),
+                bytes: released.body().len(),
             };
             drop(released);
             Ok(relayed)

@@ -10,6 +10,7 @@ ghost use Rattle.engine_core.specs.Queues.{line_for, line_of_out, opener_of};
 ghost use Rattle.engine_core.specs.StepFaults.{IsPrintTold};
 
 use crate::fault::QueueFault;
+use claim_core::Released;
 use command_core::Out;
 use disk_core::MemDisk;
 use frame_core::{Frame, write_frame};
@@ -29,6 +30,21 @@ pub fn print_frame(
     ensures { OnOk result (string_bytes text.new ≡ string_bytes text.old ++ line_for connection frame.now) }
 {
     let bytes = write_frame(alloc, frame)?;
+    let printed = print_bytes(alloc, text, connection, bytes.as_slice());
+    drop(bytes);
+    printed
+}
+
+// The same for a frame that may leave.
+fn print_released(
+    alloc: Global,
+    text: &mut String,
+    connection: u8,
+    released: &Released,
+) -> Result<(), AllocError>
+    ensures { OnOk result (string_bytes text.new ≡ string_bytes text.old ++ line_for connection released.now.frame) }
+{
+    let bytes = released.write(alloc)?;
     let printed = print_bytes(alloc, text, connection, bytes.as_slice());
     drop(bytes);
     printed
@@ -94,7 +110,7 @@ fn print_out(
     };
     match journal.release(connection, out) {
         Ok(released) => {
-            let printed = print_frame(alloc, text, connection, released.frame());
+            let printed = print_released(alloc, text, connection, &released);
             drop(released);
             printed?;
             Ok(())

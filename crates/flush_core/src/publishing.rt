@@ -36,6 +36,14 @@ impl<D: Disk, B: Bell, W: Width> Flusher<D, B, W> {
         self.outlet.give(&self.seat);
     }
 
+    /// Whether the flusher had better wait before it goes on: a box that the last outputs went to is over half full, and is being
+    /// emptied.
+    pub fn awaits_readers(&mut self) -> bool
+        ensures { self.new ≡ self.old }
+    {
+        self.outlet.boxes.are_waited_for()
+    }
+
     /// Has it count from now on how many listen to each topic.
     pub fn count_audiences(&mut self, audiences: Arc<Audiences>)
         ensures { self.new ≡ self.old }

@@ -1,7 +1,6 @@
 //! What has been published so far.
 
 use command_core::Out;
-use frame_core::{Verb, first};
 
 /// How many outputs were published since the flusher was made, for reports to an operator. No clause speaks of these numbers.
 #[derive(Clone, Copy)]
@@ -33,9 +32,8 @@ impl Tally {
 }
 
 fn says_no_room(out: &Out) -> bool {
-    let frame = out.frame();
-    match first(frame, "message") {
-        Some(message) => frame.verb == Verb::Error && message.starts_with("E12 "),
+    match out.error() {
+        Some(message) => message.starts_with("E12 "),
         None => false,
     }
 }

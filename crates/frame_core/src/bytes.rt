@@ -1,88 +1,36 @@
 //! Bytes that contracts see as a list.
 
-ghost use Rattle.std.specs.Prelude.{◌≡◌, IfOk};
+ghost use Rattle.std.specs.Prelude.{◌≡◌};
 
-use std::alloc::{AllocError, Global};
 use std::marker::Model;
-use std::sync::Arc;
 
-// How bytes are kept: in a vector of their own, or in one that several bodies share.
-#[derive(Drop)]
-pub(crate) enum BytesForm {
-    Own(Vec<u8>),
-    Shared(Arc<Vec<u8>>),
-}
-
-/// The bytes of a body. Contracts see them as a list. A clone copies them, unless they are shared.
+/// The bytes of a body. Contracts see them as a list.
+#[derive(Clone, Drop)]
 pub struct Bytes {
-    form: BytesForm,
+    all: Vec<u8>,
 }
 
 impl Model for Bytes {
     ghost use Rattle.std.specs.Prelude.{List, ℕ};
-    ghost use Rattle.frame_core.specs.Forms.{bytes_items};
 
     ghost Value = { List ℕ };
 
-    ghost view = { λ a. bytes_items a.form };
+    ghost view = { λ a. a.all.items };
 }
 
 impl Bytes {
     /// The bytes of a vector, which moves: no memory is taken.
-    pub fn new(bytes: Vec<u8>) -> Bytes
-        ensures { result ≡ bytes.items }
+    pub fn new(all: Vec<u8>) -> Bytes
+        ensures { result ≡ all.items }
     {
-        Bytes {
-            form: BytesForm::Own(bytes),
-        }
-    }
-
-    /// The same bytes, which clones share from now on. If memory is refused for that, they are gone.
-    pub fn share(self, alloc: Global) -> Result<Bytes, AllocError>
-        ensures { IfOk result (λ shared. shared ≡ self) }
-    {
-        let Bytes { form } = self;
-        match form {
-            BytesForm::Own(bytes) => {
-                let bytes = Arc::new(alloc, bytes)?;
-                Ok(Bytes {
-                    form: BytesForm::Shared(bytes),
-                })
-            }
-            form => Ok(Bytes { form }),
-        }
+        Bytes { all }
     }
 
     /// The bytes.
     pub fn as_slice(&self) -> &[u8]
         ensures { result.now ≡ self.now }
     {
-        match &self.form {
-            BytesForm::Own(bytes) => bytes.as_slice(),
-            BytesForm::Shared(bytes) => bytes.as_slice(),
-        }
-    }
-}
-
-// Written out, so that dropping bytes is one step, and not one for each form.
-impl Drop for Bytes {
-    fn drop(self) {
-        let Bytes { form } = self;
-        drop(form);
-    }
-}
-
-impl Clone for Bytes {
-    ghost use Rattle.std.specs.Prelude.{◌≡◌};
-
-    ghost is_clone = { λ old copy. copy ≡ old };
-
-    fn clone(&self) -> Result<Bytes, AllocError> {
-        let form = match &self.form {
-            BytesForm::Own(bytes) => BytesForm::Own(bytes.clone()?),
-            BytesForm::Shared(bytes) => BytesForm::Shared(bytes.clone()?),
-        };
-        Ok(Bytes { form })
+        self.all.as_slice()
     }
 }
 

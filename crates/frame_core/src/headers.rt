@@ -1,9 +1,8 @@
 //! The headers of a frame, in their order.
 
-ghost use Rattle.std.specs.Prelude.{◌≡◌, IfOk};
+ghost use Rattle.std.specs.Prelude.{◌≡◌};
 
 use crate::text::Text;
-use std::alloc::{AllocError, Global};
 use std::marker::Model;
 
 /// The headers of a frame in the order in which they stand there, repeated ones too. Contracts see them as the list
@@ -34,19 +33,6 @@ impl Headers {
         ensures { result.now ≡ self.now }
     {
         self.all.as_slice()
-    }
-
-    /// The same headers, whose clones share the bytes of names and values from now on. If memory is refused for that, they are gone.
-    pub fn share(self, alloc: Global) -> Result<Headers, AllocError>
-        ensures { IfOk result (λ shared. shared ≡ self) }
-    {
-        let mut all = Vec::with_capacity(alloc, self.all.len())?;
-        for (name, value) in self.all {
-            let name = name.share(alloc)?;
-            let value = value.share(alloc)?;
-            all.push((name, value))?;
-        }
-        Ok(Headers { all })
     }
 
     /// The vector of the headers, which moves: no memory is taken.

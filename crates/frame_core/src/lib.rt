@@ -23,4 +23,4 @@ pub use laws::{answers_stay, one_answer, one_spelling};
 pub use reader::{Fed, FeedFault, FrameReader, read_pieces};
 pub use text::Text;
 pub use word::Word;
-pub use write::{writable, write_frame};
+pub use write::{writable, write_frame, write_header, write_headers};

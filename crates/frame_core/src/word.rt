@@ -30,7 +30,7 @@ pub enum Word {
 
 impl Word {
     /// The word as it is written.
-    pub(crate) fn as_str(self) -> &'static str
+    pub fn as_str(self) -> &'static str
         ensures { result.now ≡ word_bytes self }
     {
         match self {

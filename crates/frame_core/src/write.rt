@@ -124,8 +124,8 @@ fn write_escaped(alloc: Global, bytes: &mut Vec<u8>, text: &str) -> Result<(), A
     Ok(())
 }
 
-/// Appends a header line.
-fn write_header(
+/// Appends a header line, as it stands in a frame of that command.
+pub fn write_header(
     alloc: Global,
     bytes: &mut Vec<u8>,
     verb: Verb,
@@ -147,8 +147,8 @@ fn write_header(
     Ok(())
 }
 
-/// Appends the header lines.
-fn write_headers(
+/// Appends header lines, as they stand in a frame of that command.
+pub fn write_headers(
     alloc: Global,
     bytes: &mut Vec<u8>,
     verb: Verb,

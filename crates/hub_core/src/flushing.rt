@@ -80,6 +80,7 @@ fn flush<D: Disk, B: Bell, G: Gate>(
             drop_left(flusher);
             tell_mark(gate, before, flusher.mark());
             tell_compaction(gate, flusher);
+            wait_for_readers(gate, flusher);
             compact_if_due(alloc, ring, flusher, gate)
         }
         Err(fault) => {
@@ -127,6 +128,21 @@ fn drop_left<D: Disk, B: Bell>(flusher: &mut HubFlusher<D, B>)
     ensures { flusher.new ≡ record flusher.old { left = [] } }
 {
     drop(flusher.take_left());
+}
+
+// How often the flusher waits after a turn until the readers of what it gave have caught up.
+const WAITS: u32 = 50;
+
+// Keeps the flusher from filling boxes that are being emptied.
+fn wait_for_readers<D: Disk, B: Bell, G: Gate>(gate: &G, flusher: &mut HubFlusher<D, B>)
+    ensures { flusher.new ≡ flusher.old }
+{
+    for _ in 0..WAITS {
+        if !flusher.awaits_readers() {
+            return;
+        }
+        gate.wait_for_readers();
+    }
 }
 
 // Tells the gate if the mark has risen.

@@ -24,6 +24,10 @@ pub trait Gate {
     /// less, not counting what waited. This is said after `published`.
     fn compacted(&self, _won: u64) {}
 
+    /// A reader's box is over half full, and is being emptied. The flusher goes on, or looks again, once this returns, so it may
+    /// be kept here for a moment: it looks 50 times at most. This is said after `published`.
+    fn wait_for_readers(&self) {}
+
     /// A step of the flusher has failed: no mark over the last one will be published, and the ring takes nothing more. A worker that is
     /// kept in `wait_for_mark` is to be let go: its next append is refused, and it closes its connection.
     fn stopped(&self) {}

@@ -11,5 +11,5 @@ mod total;
 pub use account::{Account, Counted};
 pub use choice::{DeskHolds, Holdings};
 pub use held::{Held, PLACES};
-pub use sum::{Change, passes};
+pub use sum::{Change, is_over, passes};
 pub use total::Total;

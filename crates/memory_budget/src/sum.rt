@@ -30,6 +30,13 @@ impl Change {
     }
 }
 
+/// Whether a sum that is so large is over the budget.
+pub fn is_over(budget: u64, sum: u64) -> bool
+    ensures { IsTrue result ↔ (budget < sum) }
+{
+    sum > budget
+}
+
 /// Whether a sum that was so large passes the budget by so many bytes more, and did not before.
 pub fn passes(budget: u64, before: u64, more: u64) -> bool
     ensures { IsTrue result ↔ ((before ≤ budget) × (budget < before + more)) }

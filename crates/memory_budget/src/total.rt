@@ -4,18 +4,30 @@ ghost use Rattle.std.specs.Prelude.{◌≡◌, ◌+◌, ◌%◌, ◌^◌, ℕ, s
 ghost use Rattle.memory_budget.specs.Sums.{Applies, changed, is_more};
 
 use crate::sum::{Change, passes};
+use std::marker::Model;
 use std::sync::atomic::{AtomicU64, Ordering};
 
 /// How many bytes all clients may hold together, and how many they hold. Each desk tells by how much what its own clients hold changes.
+/// Contracts see how many they may hold. How many they do, no contract knows, since the threads of other desks change it at any time.
 #[derive(Drop)]
 pub struct Total {
     budget: u64,
     bytes: AtomicU64,
 }
 
+impl Model for Total {
+    ghost use Rattle.std.specs.Prelude.{ℕ};
+
+    ghost Value = { ℕ };
+
+    ghost view = { λ a. a.budget };
+}
+
 impl Total {
     /// All clients may hold so many bytes together, and hold nothing yet.
-    pub fn new(budget: u64) -> Total {
+    pub fn new(budget: u64) -> Total
+        ensures { result ≡ budget }
+    {
         Total {
             budget,
             bytes: AtomicU64::new(0),
@@ -23,18 +35,15 @@ impl Total {
     }
 
     /// How many bytes all clients may hold together.
-    pub fn budget(&self) -> u64 {
+    pub fn budget(&self) -> u64
+        ensures { result ≡ self.now }
+    {
         self.budget
     }
 
-    /// How many bytes they hold.
+    /// How many bytes they hold at this moment: any number may be read here.
     pub fn bytes(&self) -> u64 {
         self.bytes.load(Ordering::SeqCst)
-    }
-
-    /// Whether they hold more than they may.
-    pub fn is_over(&self) -> bool {
-        self.bytes() > self.budget
     }
 
     // Tells a change. `told` is what a desk has told by its changes so far. Answers whether by this all clients hold more than they may, and

@@ -4,3 +4,4 @@ pub mod Ends
 pub mod Senders
 pub mod Takes
 pub mod Giving
+pub mod Crowdings

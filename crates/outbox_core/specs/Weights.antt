@@ -1,16 +1,8 @@
 -- What outputs count for while they wait, and how much of that a box has room for.
 use Rattle.std.specs.Prelude.{◌+◌, ◌*◌, ◌<◌, ◌≤◌, ◌⊎◌, List, ℕ, length}
 use Rattle.std.specs.List.{sum_by}
-use Rattle.command_core.specs.Outs.{OutValue}
+use Rattle.command_core.specs.Outs.{OutValue, weight_of}
 use Rattle.outbox_core.specs.declared.size.BoxSize.{BoxSize}
-
--- the bytes of a header
-abbrev pub header_bytes : List ℕ × List ℕ → ℕ
-header_bytes h = length h.0 + length h.1
-
--- the bytes that an output counts for: those of its body, and of its headers' names and values
-abbrev pub weight_of : OutValue → ℕ
-weight_of out = length out.frame.body + sum_by header_bytes out.frame.headers
 
 -- the bytes that several outputs count for
 abbrev pub weight : List OutValue → ℕ

@@ -15,6 +15,8 @@ use std::marker::Model;
 struct Unrung {
     // Their sessions. There is room for each session that has a box.
     sessions: Vec<u64>,
+    // The sessions whose boxes were over half full when they were noted. There is as much room.
+    crowded: Vec<u64>,
     // Which list of outputs is given, counted from 1.
     round: u64,
 }
@@ -36,7 +38,17 @@ impl<B: Bell> Model for Boxes<B> {
 
 // Makes room to note as many boxes as there are, and one more.
 fn make_room(unrung: &mut Unrung, boxes: usize) -> Result<(), AllocError> {
+    unrung.crowded.reserve(boxes.saturating_add(1))?;
     unrung.sessions.reserve(boxes.saturating_add(1))
+}
+
+// Notes that a box is over half full, if it is.
+fn note_crowded<B: Bell>(sender: &mut OutSender<B>, session: u64, crowded: &mut Vec<u64>)
+    ensures { sender.new ≡ sender.old }
+{
+    if sender.is_over_half() && crowded.len() < crowded.capacity() {
+        crowded.push_reserved(session);
+    }
 }
 
 // Gives an output to the box of a session, and notes that the box is to be rung, unless it was cut before. A box that can't be noted is
@@ -52,6 +64,7 @@ fn give_noting<B: Bell>(sender: &mut OutSender<B>, session: u64, out: Out, unrun
     if !sender.note(unrung.round) {
         return;
     }
+    note_crowded(sender, session, &mut unrung.crowded);
     if unrung.sessions.len() < unrung.sessions.capacity() {
         unrung.sessions.push_reserved(session);
     } else {
@@ -68,6 +81,28 @@ fn ring_each<B: Bell>(all: &BTreeMap<u64, OutSender<B>>, sessions: &[u64]) {
     }
 }
 
+// Whether the box of that session is worth waiting for.
+fn is_waited_for<B: Bell>(all: &mut BTreeMap<u64, OutSender<B>>, session: u64) -> bool
+    ensures { all.new.entries ≡ all.old.entries }
+{
+    match all.get_mut(&session) {
+        Some(sender) => sender.is_waited_for(),
+        None => false,
+    }
+}
+
+// Whether any box of these sessions is. Each of them is looked at.
+fn is_any_waited_for<B: Bell>(all: &mut BTreeMap<u64, OutSender<B>>, sessions: &[u64]) -> bool
+    ensures { all.new.entries ≡ all.old.entries }
+{
+    let mut is_any = false;
+    for session in sessions {
+        let is_one = is_waited_for(all, *session);
+        is_any = is_any || is_one;
+    }
+    is_any
+}
+
 impl<B: Bell> Boxes<B> {
     /// No boxes yet. It takes no memory.
     pub fn new(alloc: Global) -> Boxes<B>
@@ -77,6 +112,7 @@ impl<B: Bell> Boxes<B> {
             all: BTreeMap::new(alloc),
             unrung: Unrung {
                 sessions: Vec::new(alloc),
+                crowded: Vec::new(alloc),
                 round: 0,
             },
         }
@@ -137,6 +173,7 @@ impl<B: Bell> Boxes<B> {
         ensures { self.new ≡ self.old }
     {
         self.unrung.round = self.unrung.round.wrapping_add(1);
+        self.unrung.crowded.clear();
     }
 
     // Gives each output, and notes the boxes that are to be rung.
@@ -157,6 +194,14 @@ impl<B: Bell> Boxes<B> {
     {
         ring_each(&self.all, &self.unrung.sessions);
         self.unrung.sessions.clear();
+    }
+
+    /// Whether a box that was given something by the last call of `give_all` is worth waiting for: it is over half full, and is
+    /// being emptied. A box is waited for 50 times at most, until it is less than half full again.
+    pub fn are_waited_for(&mut self) -> bool
+        ensures { self.new ≡ self.old }
+    {
+        is_any_waited_for(&mut self.all, self.unrung.crowded.as_slice())
     }
 
     /// Lets go of the boxes of these sessions, if they have one. It takes no memory.

@@ -6,13 +6,13 @@
 
 mod bell;
 mod boxes;
+mod crowding;
 mod finished;
 mod open_end;
 mod opening;
 mod sender;
 mod size;
 mod taker;
-mod weight;
 
 pub use bell::{Bell, Silent};
 pub use boxes::Boxes;

@@ -3,11 +3,11 @@
 ghost use Rattle.std.specs.Prelude.{◌≡◌, ◌+◌, ◌-◌, ◌≤◌, ◌++◌, ◌∷◌, [], OnOk, IfErr, IfSome, SomeIff};
 ghost use Rattle.std.specs.List.{sum};
 ghost use Rattle.rtrb.specs.Ring.{SameConsumer, received};
-ghost use Rattle.outbox_core.specs.Weights.{Overfill, weight_of};
+ghost use Rattle.command_core.specs.Outs.{weight_of};
+ghost use Rattle.outbox_core.specs.Weights.{Overfill};
 
 use crate::finished::Finished;
-use crate::size::BoxSize;
-use crate::weight::{OUTPUT_BYTES, weigh};
+use crate::size::{BoxSize, OUTPUT_BYTES};
 use command_core::Out;
 use rtrb::{Consumer, Producer, PushError};
 use std::marker::Model;
@@ -38,7 +38,7 @@ fn collect(credits: &mut Consumer<u64>, free: u64, bytes: u64) -> u64
 fn without(free: u64, out: &Out) -> Option<u64>
     ensures { SomeIff result (weight_of out.now ≤ free) (free - weight_of out.now) }
 {
-    free.checked_sub(weigh(out)?)
+    free.checked_sub(out.weight()?)
 }
 
 /// The sending end of a box that is not cut. Contracts see which box it is of, the box's size, and what was given.
@@ -85,6 +85,21 @@ impl OpenEnd {
             }
             Err(PushError::Full(out)) => Err(out),
         }
+    }
+
+    /// For how many outputs there is room now.
+    pub(crate) fn room(&mut self) -> usize
+        ensures { self.new ≡ self.old }
+    {
+        self.outputs.slots()
+    }
+
+    /// Whether less than half of the box's room is left, in outputs or in bytes, if it has room for so many outputs.
+    pub(crate) fn is_over_half(&mut self, room: usize) -> bool
+        ensures { self.new ≡ self.old }
+    {
+        self.free = collect(&mut self.credits, self.free, self.size.bytes);
+        room < self.size.outputs / 2 || self.free < self.size.bytes / 2
     }
 
     /// Ends the box, and shows what was given; `None` if the taker is gone.

@@ -3,6 +3,7 @@
 ghost use Rattle.std.specs.Prelude.{◌≡◌, [], IfOk, false};
 
 use crate::bell::Bell;
+use crate::crowding::Crowding;
 use crate::open_end::{CREDITS, OpenEnd};
 use crate::sender::{End, OutSender};
 use crate::size::BoxSize;
@@ -39,6 +40,7 @@ pub fn outbox<B: Bell>(
         end: End::Open(open),
         bell,
         noted_in: 0,
+        crowding: Crowding::none(),
     };
     let taker = OutTaker {
         outputs: taken,

@@ -6,6 +6,7 @@ ghost use Rattle.outbox_core.specs.Senders.{sender_value};
 ghost use Rattle.outbox_core.specs.Weights.{Overfill};
 
 use crate::bell::Bell;
+use crate::crowding::Crowding;
 use crate::finished::Finished;
 use crate::open_end::OpenEnd;
 use command_core::Out;
@@ -44,6 +45,8 @@ pub struct OutSender<B: Bell> {
     pub(crate) bell: B,
     // The round of outputs in which the box was noted last, so that it is rung once a round.
     pub(crate) noted_in: u64,
+    // How the box is emptied while it is over half full.
+    pub(crate) crowding: Crowding,
 }
 
 impl<B: Bell> Model for OutSender<B> {
@@ -95,10 +98,34 @@ impl<B: Bell> OutSender<B> {
             return Err(out);
         };
         let put = open.put(out);
+        self.crowding.give();
         if put.is_err() {
             self.end = replace(&mut self.end, End::Gone).cut();
         }
         put
+    }
+
+    // Whether less than half of the box's room is left. Nobody waits for a box that is cut.
+    pub(crate) fn is_over_half(&mut self) -> bool
+        ensures { self.new ≡ self.old }
+    {
+        let End::Open(open) = &mut self.end else {
+            return false;
+        };
+        let room = open.room();
+        open.is_over_half(room)
+    }
+
+    // Whether the box is worth waiting for: it is over half full, and is being emptied.
+    pub(crate) fn is_waited_for(&mut self) -> bool
+        ensures { self.new ≡ self.old }
+    {
+        let End::Open(open) = &mut self.end else {
+            return false;
+        };
+        let room = open.room();
+        let is_over_half = open.is_over_half(room);
+        self.crowding.look(room, is_over_half)
     }
 
     // Says that a ring will follow in this round. It answers whether this is the first time in the round.
@@ -126,6 +153,7 @@ impl<B: Bell> OutSender<B> {
             end,
             bell,
             noted_in: _,
+            crowding: _,
         } = self;
         let finished = match end {
             End::Open(open) => open.finish(),
@@ -142,6 +170,7 @@ impl<B: Bell> Drop for OutSender<B> {
             end,
             bell,
             noted_in: _,
+            crowding: _,
         } = self;
         drop(end);
         bell.ring();

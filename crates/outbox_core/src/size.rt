@@ -1,5 +1,8 @@
 //! How much a box has room for.
 
+/// How many bytes a waiting output takes beside its own, for its list of headers.
+pub(crate) const OUTPUT_BYTES: u64 = 512;
+
 /// How much may wait in a box.
 #[derive(Clone, Copy)]
 pub struct BoxSize {

@@ -1,13 +1,14 @@
 //! The taking end of an outbox.
 
 ghost use Rattle.std.specs.Prelude.{◌≡◌, ◌+◌, ◌≤◌, ◌++◌, length, false};
+ghost use Rattle.command_core.specs.Outs.{weight_of};
 ghost use Rattle.outbox_core.specs.Takes.{Takes};
-ghost use Rattle.outbox_core.specs.Weights.{Fits, most_waiting, weight_of};
+ghost use Rattle.outbox_core.specs.Weights.{Fits, most_waiting};
 
 use crate::bell::Bell;
 use crate::finished::Finished;
 use crate::sender::{End, OutSender};
-use crate::weight::{OUTPUT_BYTES, weigh};
+use crate::size::OUTPUT_BYTES;
 use command_core::Out;
 use rtrb::{Consumer, Producer};
 use std::marker::Model;
@@ -59,7 +60,7 @@ impl Model for OutTaker {
 fn owed_with(owed: u64, out: &Out) -> u64
     ensures { (owed ≤ result) × (result ≤ owed + weight_of out.now) }
 {
-    match weigh(out) {
+    match out.weight() {
         Some(weight) => owed.saturating_add(weight),
         None => u64::MAX,
     }

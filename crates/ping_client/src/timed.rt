@@ -1,5 +1,7 @@
 //! A socket whose reads and writes end with the step.
 
+ghost use Rattle.std.specs.Prelude.{◌≡◌, IfOk};
+
 use std::io;
 use std::io::{ErrorKind, Read, Write};
 use std::net::TcpStream;
@@ -19,7 +21,9 @@ pub struct Timed<R> {
 
 impl<R: Clock + Drop> Timed<R> {
     /// That socket, whose step begins now.
-    pub fn new(clock: R, socket: TcpStream) -> io::Result<Timed<R>> {
+    pub fn new(clock: R, socket: TcpStream) -> io::Result<Timed<R>>
+        ensures { IfOk result (λ timed. (timed.socket ≡ socket) × (timed.clock ≡ clock)) }
+    {
         let began = Instant::now(&clock)?;
         Ok(Timed {
             socket,
@@ -29,7 +33,9 @@ impl<R: Clock + Drop> Timed<R> {
     }
 
     /// Begins another step.
-    pub fn begin(&mut self) -> io::Result<()> {
+    pub fn begin(&mut self) -> io::Result<()>
+        ensures { self.new ≡ record self.old { began = self.new.began } }
+    {
         self.began = Instant::now(&self.clock)?;
         Ok(())
     }

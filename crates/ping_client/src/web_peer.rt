@@ -1,7 +1,8 @@
 //! A peer over a WebSocket.
 
-ghost use Rattle.std.specs.Prelude.{IfErr};
-ghost use Rattle.ping_core.specs.Talks.{IsOfPeer};
+ghost use Rattle.std.specs.Prelude.{◌≡◌, ◌⊎◌, IfErr, None};
+ghost use Rattle.ping_core.specs.Talks.{BreaksOff, IsOfPeer};
+ghost use Rattle.ping_core.specs.declared.fault.Step.TheVariants.{Connection, Handshake};
 
 use crate::causes::{cause_by, cause_of};
 use crate::timed::{STEP_SECONDS, Timed};
@@ -22,6 +23,7 @@ use tungstenite::{
 pub fn ping<R>(rt: &R, alloc: Global, port: u16) -> Result<Duration, PingFault>
 where
     R: Net<Stream = TcpStream> + Clock + RandomSource + Clone + Drop,
+    ensures { IfErr result (λ fault. IsOfPeer fault.cause ⊎ BreaksOff fault None None) }
 {
     match connect(rt, alloc, port) {
         Ok(peer) => {
@@ -139,6 +141,7 @@ fn farewell() -> CloseFrame {
 fn connect<R>(rt: &R, alloc: Global, port: u16) -> Result<WebPeer<R>, PingFault>
 where
     R: Net<Stream = TcpStream> + Clock + RandomSource + Clone + Drop,
+    ensures { IfErr result (λ fault. ((fault.step ≡ Connection) ⊎ (fault.step ≡ Handshake)) × IsOfPeer fault.cause) }
 {
     match socket_to(rt, port) {
         Ok(socket) => match shake(rt, alloc, port, socket) {
@@ -174,6 +177,7 @@ where
 fn shake<R>(rt: &R, alloc: Global, port: u16, socket: Timed<R>) -> Result<WebPeer<R>, Cause>
 where
     R: Clock + RandomSource + Clone + Drop,
+    ensures { IfErr result IsOfPeer }
 {
     let Some(source) = rt.clone().ok() else {
         return Err(Cause::Memory);
@@ -197,7 +201,9 @@ where
 // Why there was no handshake.
 fn refusal_of<R: Clock + RandomSource + Drop>(
     fault: &HandshakeError<ClientHandshake<Timed<R>, RandomKeys<R>>>,
-) -> Cause {
+) -> Cause
+    ensures { IsOfPeer result }
+{
     match fault {
         HandshakeError::Interrupted(_) => Cause::Late,
         HandshakeError::Failure(error) => cause_of(error),

@@ -90,22 +90,6 @@ impl Dest {
         self.text.as_str()
     }
 
-    /// The same destination, whose clones share its bytes from now on. If memory is refused for that, it is gone.
-    pub fn share(self, alloc: Global) -> Result<Dest, AllocError>
-        ensures { IfOk result (λ shared. shared ≡ self) }
-    {
-        let text = self.text.share(alloc)?;
-        Ok(Dest { text })
-    }
-
-    /// The destination as it is written, which moves: no memory is taken.
-    pub fn into_text(self) -> Text
-        ensures text { result ≡ self }
-        ensures form { IsDestination self }
-    {
-        self.text
-    }
-
     /// Whether messages to it wait in a line for a client that takes them, and are not copied to all that listen.
     pub fn is_queue(&self) -> bool
         ensures { result ≡ is_queue self.now }

@@ -8,24 +8,39 @@ use crate::destination::Dest;
 use frame_core::{Bytes, Headers};
 use std::alloc::{AllocError, Global};
 use std::marker::Model;
+use std::sync::Arc;
 
-/// What is sent where: a destination, the headers that go on with the message, and a body (STOMP 1.2, "SEND"). At most
-/// 64 headers, each a name that isn't empty and a value, both fit for a header; at most 65,536 bytes of body.
+// The parts of what is sent.
 #[derive(Drop)]
-pub struct Sending {
+pub(crate) struct Parts {
     destination: Dest,
     headers: Headers,
     body: Bytes,
 }
 
+// How what is sent is kept: in parts of its own, or in some that several share.
+#[derive(Drop)]
+pub(crate) enum SendingForm {
+    Own(Parts),
+    Shared(Arc<Parts>),
+}
+
+/// What is sent where: a destination, the headers that go on with the message, and a body (STOMP 1.2, "SEND"). At most
+/// 64 headers, each a name that isn't empty and a value, both fit for a header; at most 65,536 bytes of body. A clone
+/// copies all that, unless it is shared.
+pub struct Sending {
+    form: SendingForm,
+}
+
 impl Model for Sending {
+    ghost use Rattle.record_core.specs.Forms.{sending_of};
     ghost use Rattle.record_core.specs.Sendings.{SendingValue, IsSending};
 
     ghost Value = { SendingValue };
 
-    ghost view = { λ a. record { destination = a.destination; headers = a.headers; body = a.body } };
+    ghost view = { λ a. sending_of a.form };
 
-    ghost invariant = { λ a. IsSending (record { destination = a.destination; headers = a.headers; body = a.body }) };
+    ghost invariant = { λ a. IsSending (sending_of a.form) };
 }
 
 /// Whether a message keeps the headers of that name. It doesn't keep those that the broker has used up, or writes
@@ -54,10 +69,13 @@ impl Sending {
         ensures { result ≡ record { destination = destination; headers = headers; body = body } }
     {
         let _form = destination.as_str();
-        Sending {
+        let parts = Parts {
             destination,
             headers,
             body,
+        };
+        Sending {
+            form: SendingForm::Own(parts),
         }
     }
 
@@ -66,7 +84,10 @@ impl Sending {
         ensures value { result.now ≡ self.now.destination }
         ensures form { IsSending self.now }
     {
-        &self.destination
+        match &self.form {
+            SendingForm::Own(parts) => &parts.destination,
+            SendingForm::Shared(parts) => &parts.destination,
+        }
     }
 
     /// The headers that its MESSAGEs carry, in their order.
@@ -74,7 +95,10 @@ impl Sending {
         ensures value { result.now ≡ self.now.headers }
         ensures form { IsSending self.now }
     {
-        &self.headers
+        match &self.form {
+            SendingForm::Own(parts) => &parts.headers,
+            SendingForm::Shared(parts) => &parts.headers,
+        }
     }
 
     /// The body.
@@ -82,33 +106,72 @@ impl Sending {
         ensures value { result.now ≡ self.now.body }
         ensures form { IsSending self.now }
     {
-        &self.body
+        match &self.form {
+            SendingForm::Own(parts) => &parts.body,
+            SendingForm::Shared(parts) => &parts.body,
+        }
     }
 
-    /// The same, whose clones share its bytes from now on. If memory is refused for that, it is gone.
+    /// The same, whose clones share it from now on. If memory is refused for that, it is gone.
     pub fn share(self, alloc: Global) -> Result<Sending, AllocError>
         ensures { IfOk result (λ shared. shared ≡ self) }
     {
-        let (destination, headers, body) = self.into_parts();
-        let destination = destination.share(alloc)?;
-        let headers = headers.share(alloc)?;
-        let body = body.share(alloc)?;
-        Ok(Sending::new(destination, headers, body))
+        let Sending { form } = self;
+        match form {
+            SendingForm::Own(parts) => {
+                let parts = Arc::new(alloc, parts)?;
+                Ok(Sending {
+                    form: SendingForm::Shared(parts),
+                })
+            }
+            form => Ok(Sending { form }),
+        }
     }
 
-    /// The three parts, which move: no memory is taken.
-    pub fn into_parts(self) -> (Dest, Headers, Bytes)
-        ensures value { self ≡ record { destination = result.0; headers = result.1; body = result.2 } }
-        ensures form { IsSending self }
+    /// The same, sent to that destination instead. No memory is taken, unless it is shared: then headers and body are
+    /// copied. If memory is refused for that, it is gone.
+    pub fn redirect(self, destination: Dest) -> Result<Sending, AllocError>
+        ensures { IfOk result (λ other. other ≡ record self { destination = destination }) }
     {
-        (self.destination, self.headers, self.body)
+        let _form = self.destination();
+        let Sending { form } = self;
+        match form {
+            SendingForm::Own(parts) => Ok(Sending::new(destination, parts.headers, parts.body)),
+            SendingForm::Shared(parts) => {
+                let (headers, body) = copy_rest(&parts)?;
+                Ok(Sending::new(destination, headers, body))
+            }
+        }
     }
 }
 
-fn copy_headers(headers: &Headers) -> Result<Headers, AllocError>
-    ensures { IfOk result (λ copy. copy ≡ headers.now) }
+// Written out, so that dropping it is one step, and not one for each form.
+impl Drop for Sending {
+    fn drop(self) {
+        let Sending { form } = self;
+        drop(form);
+    }
+}
+
+fn copy_rest(parts: &Parts) -> Result<(Headers, Bytes), AllocError>
+    ensures headers { IfOk result (λ copy. copy.0 ≡ parts.now.headers) }
+    ensures body { IfOk result (λ copy. copy.1 ≡ parts.now.body) }
 {
-    headers.clone()
+    let headers = parts.headers.clone()?;
+    let body = parts.body.clone()?;
+    Ok((headers, body))
+}
+
+fn copy_parts(parts: &Parts) -> Result<Parts, AllocError>
+    ensures { IfOk result (λ copy. copy ≡ parts.now) }
+{
+    let destination = parts.destination.clone()?;
+    let (headers, body) = copy_rest(parts)?;
+    Ok(Parts {
+        destination,
+        headers,
+        body,
+    })
 }
 
 impl Clone for Sending {
@@ -117,9 +180,10 @@ impl Clone for Sending {
     ghost is_clone = { λ old copy. copy ≡ old };
 
     fn clone(&self) -> Result<Sending, AllocError> {
-        let destination = self.destination().clone()?;
-        let headers = copy_headers(self.headers())?;
-        let body = self.body().clone()?;
-        Ok(Sending::new(destination, headers, body))
+        let form = match &self.form {
+            SendingForm::Own(parts) => SendingForm::Own(copy_parts(parts)?),
+            SendingForm::Shared(parts) => SendingForm::Shared(parts.clone()?),
+        };
+        Ok(Sending { form })
     }
 }

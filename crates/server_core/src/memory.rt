@@ -2,7 +2,7 @@
 
 use crate::mailbox::Mailbox;
 use claim_core::SEATS;
-use memory_budget::{DeskHolds, Holdings, Total};
+use memory_budget::{DeskHolds, Holdings, Total, is_over};
 use std::sync::Arc;
 
 /// How many bytes all clients may hold together, and what they hold. Each desk counts what its own clients hold. It tells the total by how
@@ -35,7 +35,7 @@ impl Memory {
 
     /// Whether they hold more.
     pub(crate) fn is_over(&self) -> bool {
-        self.total.is_over()
+        is_over(self.budget(), self.total.bytes())
     }
 
     /// What is known of all clients by the desk of that number.

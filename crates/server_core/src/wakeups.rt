@@ -217,6 +217,9 @@ impl<T: Wait + Clock> Wakeups<T> {
     }
 }
 
+// For how many milliseconds the flusher waits for readers before it looks again.
+const READER_WAIT: u64 = 1;
+
 impl<T: Wait + Clock> Gate for Wakeups<T> {
     fn pass(&self, _worker: u32, _turn: u64) -> bool {
         self.rest();
@@ -230,6 +233,10 @@ impl<T: Wait + Clock> Gate for Wakeups<T> {
         let rest = rest_behind(self.taken(), commands);
         self.rest.store(rest, Ordering::SeqCst);
         self.raise(mark);
+    }
+
+    fn wait_for_readers(&self) {
+        thread::sleep(&self.rt, Duration::from_millis(READER_WAIT));
     }
 
     fn compacted(&self, won: u64) {

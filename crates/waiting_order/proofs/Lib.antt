@@ -1,8 +1,9 @@
+pub mod Behind
 pub mod Directories
-pub mod Filled
 pub mod Keeping
 pub mod Listing
 pub mod Members
+pub mod Puts
 pub mod Rising
 pub mod Seeking
 pub mod Timed

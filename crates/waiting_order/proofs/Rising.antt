@@ -1,4 +1,4 @@
-use Rattle.std.proofs.Common.{◌≡◌, ◌==◌, ◌<◌, ◌≤◌, ◌+◌, ◌++◌, List, [], ◌∷◌, ℕ, suc, zero, true, false, cond, not, Some, inl, inr, refl, sym, ap, subst, ◌∙◌, arith, remove, slice_get}
+use Rattle.std.proofs.Common.{◌≡◌, ◌==◌, ◌<◌, ◌≤◌, ◌+◌, ◌++◌, List, [], ◌∷◌, ℕ, suc, zero, true, false, cond, length, not, Some, inl, inr, refl, sym, ap, subst, ◌∙◌, arith, remove, slice_get}
 use Rattle.std.specs.List.{AllByRecursion}
 use Rattle.std.proofs.lemmas.Bool.Decides.{nat_tests}
 use Rattle.std.proofs.lemmas.Bool.{cases_lt}
@@ -134,3 +134,18 @@ module _ (ps : List Place) (rising : IsRising ticket ps) (t m : ℕ) (p : Place)
   pub half_over : t ≤ p.ticket → (i : ℕ) (q : Place) → slice_get ps i ≡ Some q → m ≤ i → t ≤ q.ticket
   half_over more i q there after =
       omega (arith, more, rising_from ticket ps m i p q rising is there after)
+
+-- rising numbers under a bound are no more than it
+module _ {X : Type 0} (n : X → ℕ) where
+  rising_over : (xs : List X) (low high : ℕ) → IsRising n xs → AllByRecursion (λ y. low ≤ n y) xs → AllByRecursion (λ y. n y < high) xs → low ≤ high → low + length xs ≤ high
+  rising_over [] low high rising over under le = omega (arith, le)
+  rising_over (x ∷ xs) low high rising over under le =
+      let rest = rising_over xs (n x + 1) high rising.1 (all_weaker (λ y. n x < n y) (λ y. n x + 1 ≤ n y) (λ y less. omega (arith, less)) xs rising.0) under.1 (omega (arith, under.0)) in
+      omega (arith, rest, over.0)
+
+  pub rising_few : (xs : List X) (high : ℕ) → IsRising n xs → AllByRecursion (λ y. n y < high) xs → length xs ≤ high
+  rising_few xs high rising under = omega (arith, rising_over xs 0 high rising (all_over xs) under (omega arith))
+    where
+      all_over : (ys : List X) → AllByRecursion (λ y. 0 ≤ n y) ys
+      all_over [] = tt
+      all_over (y ∷ ys) = (omega arith, all_over ys)

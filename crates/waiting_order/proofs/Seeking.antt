@@ -257,7 +257,7 @@ module _ (o : Waiting) (order : IsOrdered o) where
     pub soonest_first : (seen : Option Place) → IsSeen sought o.all (key_of session 0) from seen → Soonest o.all session from sought 1 seen
     soonest_first seen here = soonest_more 0 None seen soonest_begin here
 
-    pub soonest_end : AllByRecursion IsSlotted o.all → (first : Option Place) → Soonest o.all session from sought 16 first → IsNext (is_sought_of session sought) o.all from first
+    pub soonest_end : AllByRecursion IsSlotted o.all → (first : Option Place) → Soonest o.all session from sought 16 first → IsNext (λ (s : Standing). is_sought_of session sought s.sub) o.all from first
     soonest_end slots None soonest = λ i w is after. unless (is_sought_of session sought w.1.sub) (λ passes.
         let both = and_parts (is_of session w.1.sub) (is_sought sought w.1.sub) passes in
         let slot = all_at IsSlotted o.all i w is slots in

@@ -5,6 +5,7 @@ use Rattle.broker_state.specs.declared.subscription.Subscription.{Subscription}
 use Rattle.broker_state.specs.Operations.{settled_by}
 use Rattle.waiting_order.specs.declared.key.Key.{Key}
 use Rattle.waiting_order.specs.declared.standing.Standing.{Standing}
+use Rattle.waiting_order.specs.Directories.{is_in}
 
 -- a waiter whose subscription is changed
 abbrev pub with_sub : (Subscription → Subscription) → Key × Standing → Key × Standing
@@ -25,6 +26,10 @@ kept_by delivery message w = with_sub (λ sub. record sub { unacknowledged = sub
 -- and who has acknowledged a delivery
 abbrev pub settled_at : ℕ → Key × Standing → Key × Standing
 settled_at delivery w = with_sub (settled_by delivery) w
+
+-- a waiter whose own line gets a message if it is of that group
+abbrev pub put_in : ℕ → Message → Key × Standing → Key × Standing
+put_in group message w = if is_in group w.1 then put_into message w else w
 
 -- a waiter whose own line gets a message if its subscription passes
 abbrev pub put_where : (Subscription → Bool) → Message → Key × Standing → Key × Standing

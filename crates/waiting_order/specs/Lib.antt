@@ -1,4 +1,5 @@
 pub mod Directories
+pub mod Groups
 pub mod Keeping
 pub mod Keys
 pub mod Soughts

@@ -79,7 +79,7 @@ fn seen_at(standings: &Standings, key: Key, sought: Sought<'_>, from: u64) -> Op
 /// The place of the first one of that session that is sought, from a ticket on.
 pub fn first_of(standings: &Standings, session: u64, sought: Sought<'_>, from: u64) -> Option<Place>
     requires { AllByRecursion IsSlotted standings.now.all }
-    ensures { IsNext (is_sought_of session sought.entry) standings.now.all from result }
+    ensures { IsNext (λ (s : Standing). is_sought_of session sought.entry s.sub) standings.now.all from result }
 {
     let mut first = seen_at(standings, Key { session, slot: 0 }, sought, from);
     for slot in 1..SLOTS {

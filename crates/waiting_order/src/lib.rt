@@ -4,6 +4,7 @@
 
 mod directory;
 mod finding;
+mod group;
 mod groups;
 mod key;
 mod order;

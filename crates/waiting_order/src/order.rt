@@ -1,6 +1,6 @@
 //! The order in which subscriptions wait for messages.
 
-ghost use Rattle.std.specs.Prelude.{◌≡◌, ◌+◌, ◌++◌, ◌∷◌, ◌<◌, ◌≤◌, ◌^◌, [], ℕ, IfOk, OnErr, OnOk, Some, count_by, length, map, remove, slice_get, true};
+ghost use Rattle.std.specs.Prelude.{◌≡◌, ◌+◌, ◌++◌, ◌∷◌, ◌<◌, ◌≤◌, ◌^◌, [], ℕ, IfOk, None, OnErr, OnOk, Some, count_by, length, map, remove, slice_get, true};
 ghost use Rattle.std.specs.List.{sum_by};
 ghost use Rattle.broker_state.specs.declared.subscription.Subscription.{Subscription};
 ghost use Rattle.waiting_order.specs.declared.key.Key.{Key};
@@ -8,7 +8,7 @@ ghost use Rattle.line_core.specs.Flights.{IsOver, has_delivery, settled};
 ghost use Rattle.line_core.specs.Lines.{first_of};
 ghost use Rattle.broker_state.specs.Lists.{changed};
 ghost use Rattle.broker_state.specs.Operations.{is_of, uses};
-ghost use Rattle.waiting_order.specs.Directories.{AreFound, IsNext, is_plain_at};
+ghost use Rattle.waiting_order.specs.Directories.{AreFound, GroupsAreAlike, IsGroup, IsNext, behind_in, is_in, is_plain_at, members};
 ghost use Rattle.waiting_order.specs.Keeping.{kept_by, put_where, settled_at, taken_from};
 ghost use Rattle.waiting_order.specs.Soughts.{is_sought_of};
 ghost use Rattle.waiting_order.specs.Waiting.{IsOrdered, Stands, subs_of};
@@ -16,7 +16,7 @@ ghost use Rattle.waiting_order.specs.declared.standing.Standing.{Standing};
 
 use crate::directory::Directory;
 use crate::finding::{count_of, first_of, free_key};
-use crate::groups::{count_in, next_in, put_all};
+use crate::groups::{catch_up, count_in, next_in, put_all};
 use crate::key::Key;
 use crate::places::Place;
 use crate::sought::Sought;
@@ -64,8 +64,8 @@ fn enter(
 {
     let key = free_key(standings, sub.session);
     let ticket = standings.next();
-    directory.join(alloc, &sub, Place { ticket, key })?;
-    standings.insert(key, sub)
+    let group = directory.join(alloc, &sub, Place { ticket, key })?;
+    standings.insert(key, group, sub)
 }
 
 /// From this ticket on all get new ones before one more subscription is added. So a served one always finds a ticket.
@@ -218,9 +218,10 @@ impl Order {
         self.standings.len()
     }
 
-    /// They stand by rising ticket, each once. Nothing changes.
+    /// They stand by rising ticket, each once, and those of a group are alike. Nothing changes.
     pub fn stand_in_order(&self)
-        ensures { IsOrdered self.now }
+        ensures order { IsOrdered self.now }
+        ensures groups { GroupsAreAlike self.now.all }
     {
         let _next = self.standings.next();
     }
@@ -243,8 +244,8 @@ impl Order {
         ensures { (at : ℕ) (s : Standing) → slice_get self.old.all at ≡ Some (key, s)
             → (result ≡ s.sub) × (self.new ≡ record self.old { all = remove self.old.all at }) }
     {
-        let Standing { ticket, sub } = self.standings.remove(key);
-        self.directory.leave(&sub, ticket);
+        let Standing { ticket, group, sub } = self.standings.remove(key);
+        self.directory.leave(&sub, group, ticket);
         sub
     }
 
@@ -255,13 +256,10 @@ impl Order {
         ensures { (at : ℕ) (s : Standing) → slice_get self.old.all at ≡ Some (key, s)
             → self.new ≡ record { all = remove self.old.all at ++ (key, record s { ticket = self.old.next }) ∷ []; next = self.old.next + 1 } }
     {
-        let ticket = self.standings.next();
-        let Some(standing) = self.standings.get(key) else {
-            unreachable!()
-        };
+        let next = self.standings.next();
+        let (group, ticket) = self.standings.move_last(key);
         self.directory
-            .move_last(&standing.sub, standing.ticket, Place { ticket, key });
-        self.standings.move_last(key);
+            .move_last(group, ticket, Place { ticket: next, key });
     }
 
     /// The own line of each one of that destination without a durable name gets a copy of a message. If memory is refused,
@@ -269,10 +267,15 @@ impl Order {
     pub fn put_each(&mut self, destination: &Dest, message: &Message) -> Result<(), AllocError>
         ensures { OnOk result (self.new ≡ record self.old { all = map (put_where (is_plain_at destination.now) message.now) self.old.all }) }
     {
-        match self.directory.destinations.get(destination) {
-            Some(group) => put_all(&mut self.standings, group, message),
-            None => Ok(()),
-        }
+        let Some(handle) = self.directory.destinations.get(destination) else {
+            return Ok(());
+        };
+        put_all(
+            &mut self.standings,
+            &mut self.directory.groups,
+            *handle,
+            message,
+        )
     }
 
     /// Takes the least message out of the own line of the one at that key.
@@ -281,7 +284,12 @@ impl Order {
         ensures { (at : ℕ) (s : Standing) → slice_get self.old.all at ≡ Some (key, s)
             → (result ≡ first_of s.sub.line) × (self.new ≡ record self.old { all = changed at taken_from self.old.all }) }
     {
-        self.standings.take(key)
+        let (message, caught_up) = self.standings.take(key);
+        let Some(group) = caught_up else {
+            return message;
+        };
+        catch_up(&mut self.directory.groups, group);
+        message
     }
 
     /// A message becomes unacknowledged at that key, by that number of its delivery. If memory is refused, nothing changes.
@@ -314,43 +322,71 @@ impl Order {
         count_of(&self.standings, session)
     }
 
+    /// The handle of the group of that destination's subscriptions without a durable name, if there are any.
+    pub fn group_at(&self, destination: &Dest) -> Option<usize>
+        ensures { IsGroup (is_plain_at destination.now) self.now.all result }
+    {
+        self.directory.destinations.get(destination).copied()
+    }
+
+    /// The handle of the group of those that have the durable name, if there are any.
+    pub fn group_under(&self, name: &DurableName) -> Option<usize>
+        ensures { IsGroup (uses name.now) self.now.all result }
+    {
+        self.directory.names.get(name).copied()
+    }
+
+    /// How many are in the group of that handle, none if there is no such group.
+    fn count_in(&self, handle: Option<usize>) -> usize
+        ensures some { (group : ℕ) → handle ≡ Some group → result ≡ length (members (is_in group) self.now.all) }
+        ensures none { handle ≡ None → result ≡ 0 }
+        ensures small { result < 2 ^ 63 }
+    {
+        match handle {
+            Some(handle) => count_in(self.directory.groups.get(handle)),
+            None => 0,
+        }
+    }
+
     /// How many of that destination have no durable name.
     pub fn count_at(&self, destination: &Dest) -> usize
         ensures count { result ≡ count_by (is_plain_at destination.now) (subs_of self.now.all) }
         ensures small { result < 2 ^ 63 }
     {
-        count_in(self.directory.destinations.get(destination))
+        self.count_in(self.group_at(destination))
     }
 
     /// How many have the durable name.
     pub fn count_under(&self, name: &DurableName) -> usize
         ensures { result ≡ count_by (uses name.now) (subs_of self.now.all) }
     {
-        count_in(self.directory.names.get(name))
+        self.count_in(self.group_under(name))
+    }
+
+    /// How many of a group have something in their own line.
+    pub fn count_behind(&self, group: usize) -> usize
+        ensures { result ≡ behind_in group self.now.all }
+    {
+        match self.directory.groups.get(group) {
+            Some(group) => group.behind,
+            None => 0,
+        }
     }
 
     /// The place of the first one of that session that is sought, from a ticket on.
     pub fn next_of(&self, session: u64, sought: Sought<'_>, from: u64) -> Option<Place>
-        ensures next { IsNext (is_sought_of session sought.entry) self.now.all from result }
+        ensures next { IsNext (λ (s : Standing). is_sought_of session sought.entry s.sub) self.now.all from result }
         ensures order { IsOrdered self.now }
     {
         let _next = self.standings.next();
         first_of(&self.standings, session, sought, from)
     }
 
-    /// The place of the first one of that destination that has no durable name, from a ticket on.
-    pub fn next_at(&self, destination: &Dest, from: u64) -> Option<Place>
-        ensures next { IsNext (is_plain_at destination.now) self.now.all from result }
+    /// The place of the first one of a group, from a ticket on.
+    pub fn next_in(&self, group: usize, from: u64) -> Option<Place>
+        ensures { IsNext (is_in group) self.now.all from result }
     {
         let _next = self.standings.next();
-        next_in(self.directory.destinations.get(destination), from)
-    }
-
-    /// The place of the first one that has the durable name, from a ticket on.
-    pub fn next_under(&self, name: &DurableName, from: u64) -> Option<Place>
-        ensures next { IsNext (uses name.now) self.now.all from result }
-    {
-        let _next = self.standings.next();
-        next_in(self.directory.names.get(name), from)
+        next_in(self.directory.groups.get(group), from)
     }
 }

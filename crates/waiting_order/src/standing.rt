@@ -1,38 +1,49 @@
 //! A subscription that waits.
 
-ghost use Rattle.std.specs.Prelude.{◌≡◌, ◌++◌, ◌∷◌, [], IfOk, OnErr, OnOk, drop, true};
+ghost use Rattle.std.specs.Prelude.{◌≡◌, ◌==◌, ◌++◌, ◌∷◌, [], IfOk, None, OnErr, OnOk, Some, drop, length, true, if◌then◌else◌};
 ghost use Rattle.line_core.specs.Flights.{IsOver, has_delivery, settled};
 ghost use Rattle.line_core.specs.Lines.{first_of, inserted};
+ghost use Rattle.broker_state.specs.Lists.{is_none};
 ghost use Rattle.broker_state.specs.Operations.{settled_by};
 
 use broker_state::Subscription;
 use line_core::{Message, SettleFault};
 use std::alloc::AllocError;
 
-/// A subscription with its ticket: those with lesser ones are served before it.
+/// A subscription with its ticket, and the handle of its group. Those with lesser tickets are served before it.
 #[derive(Drop)]
 pub struct Standing {
     pub ticket: u64,
+    pub group: usize,
     pub sub: Subscription,
 }
 
 impl Standing {
-    /// Its own line gets a message. If memory is refused, nothing changes.
-    pub fn put(&mut self, message: Message) -> Result<(), AllocError>
+    /// Its own line gets a message. It answers whether that had none. If memory is refused, nothing changes.
+    pub fn put(&mut self, message: Message) -> Result<bool, AllocError>
+        ensures first { IfOk result (λ first. first ≡ is_none self.old.sub.line) }
         ensures ok { OnOk result (self.new ≡ record self.old { sub = record self.old.sub { line = inserted message self.old.sub.line } }) }
         ensures same { OnErr result (self.new ≡ self.old) }
         ensures ticket { self.new.ticket ≡ self.old.ticket }
     {
-        self.sub.line.put(message)
+        let first = self.sub.line.is_empty();
+        self.sub.line.put(message)?;
+        Ok(first)
     }
 
-    /// Takes the least message out of its own line.
-    pub fn take(&mut self) -> Option<Message>
-        ensures taken { result ≡ first_of self.old.sub.line }
+    /// Takes the least message out of its own line. If it was the last one, its group is given too.
+    pub fn take(&mut self) -> (Option<Message>, Option<usize>)
+        ensures taken { result.0 ≡ first_of self.old.sub.line }
+        ensures caught_up { result.1 ≡ (if length self.old.sub.line == 1 then Some self.old.group else None) }
         ensures rest { self.new ≡ record self.old { sub = record self.old.sub { line = drop 1 self.old.sub.line } } }
         ensures ticket { self.new.ticket ≡ self.old.ticket }
     {
-        self.sub.line.take()
+        let caught_up = if self.sub.line.len() == 1 {
+            Some(self.group)
+        } else {
+            None
+        };
+        (self.sub.line.take(), caught_up)
     }
 
     /// A message becomes unacknowledged, by that number of its delivery. If memory is refused, nothing changes.

@@ -1,12 +1,12 @@
 //! What stands at each key.
 
-ghost use Rattle.std.specs.Prelude.{◌≡◌, ◌+◌, ◌++◌, ◌∷◌, ◌<◌, ◌^◌, [], ℕ, IfNone, IfOk, IfSome, MatchOption, OnErr, OnOk, Some, drop, length, map, remove, slice_get, true};
+ghost use Rattle.std.specs.Prelude.{◌≡◌, ◌==◌, ◌+◌, ◌++◌, ◌∷◌, ◌<◌, ◌^◌, [], ℕ, IfNone, IfOk, IfSome, MatchOption, None, OnErr, OnOk, Some, drop, length, map, remove, slice_get, true, if◌then◌else◌};
 ghost use Rattle.std.specs.List.{sum_by};
 ghost use Rattle.broker_state.specs.declared.subscription.Subscription.{Subscription};
 ghost use Rattle.waiting_order.specs.declared.key.Key.{Key};
 ghost use Rattle.line_core.specs.Flights.{IsOver, has_delivery, settled};
 ghost use Rattle.line_core.specs.Lines.{first_of, inserted};
-ghost use Rattle.broker_state.specs.Lists.{changed};
+ghost use Rattle.broker_state.specs.Lists.{changed, is_none};
 ghost use Rattle.broker_state.specs.Operations.{settled_by};
 ghost use Rattle.waiting_order.specs.Keeping.{kept_by, put_into, settled_at, taken_from};
 ghost use Rattle.waiting_order.specs.Waiting.{IsFree, IsOrdered, Stands, subs_of};
@@ -111,14 +111,14 @@ impl Standings {
     }
 
     /// A subscription at a free key, which waits last. If memory is refused, nothing changes.
-    pub fn insert(&mut self, key: Key, sub: Subscription) -> Result<(), AllocError>
+    pub fn insert(&mut self, key: Key, group: usize, sub: Subscription) -> Result<(), AllocError>
         requires free { IsFree self.old.all key }
         requires number { self.old.next + 1 < 2 ^ 64 }
-        ensures ok { OnOk result (self.new ≡ record { all = self.old.all ++ (key, record { ticket = self.old.next; sub = sub }) ∷ []; next = self.old.next + 1 }) }
+        ensures ok { OnOk result (self.new ≡ record { all = self.old.all ++ (key, record { ticket = self.old.next; group = group; sub = sub }) ∷ []; next = self.old.next + 1 }) }
         ensures same { OnErr result (self.new ≡ self.old) }
     {
         let ticket = self.next;
-        self.all.insert(key, Standing { ticket, sub })?;
+        self.all.insert(key, Standing { ticket, group, sub })?;
         self.next = ticket + 1;
         Ok(())
     }
@@ -133,22 +133,26 @@ impl Standings {
         self.all.swap_remove(&key).unwrap()
     }
 
-    /// What stands at that key waits last. No memory is taken.
-    pub fn move_last(&mut self, key: Key)
+    /// What stands at that key waits last. Its group and the ticket that it had are given. No memory is taken.
+    pub fn move_last(&mut self, key: Key) -> (usize, u64)
         requires there { Stands self.old.all key }
         requires number { self.old.next + 1 < 2 ^ 64 }
         ensures { (at : ℕ) (s : Standing) → slice_get self.old.all at ≡ Some (key, s)
-            → self.new ≡ record { all = remove self.old.all at ++ (key, record s { ticket = self.old.next }) ∷ []; next = self.old.next + 1 } }
+            → (result ≡ (s.group, s.ticket)) × (self.new ≡ record { all = remove self.old.all at ++ (key, record s { ticket = self.old.next }) ∷ []; next = self.old.next + 1 }) }
     {
         let ticket = self.next;
         let standing = self.all.get_mut(&key).unwrap();
+        let place = (standing.group, standing.ticket);
         standing.ticket = ticket;
         self.next = ticket + 1;
+        place
     }
 
-    /// The own line of the one at that key gets a message. If memory is refused, nothing changes.
-    pub fn put(&mut self, key: Key, message: Message) -> Result<(), AllocError>
+    /// The own line of the one at that key gets a message. It answers whether that had none. If memory is refused, nothing
+    /// changes.
+    pub fn put(&mut self, key: Key, message: Message) -> Result<bool, AllocError>
         requires { Stands self.old.all key }
+        ensures first { IfOk result (λ first. (at : ℕ) (s : Standing) → slice_get self.old.all at ≡ Some (key, s) → first ≡ is_none s.sub.line) }
         ensures ok { OnOk result ((at : ℕ) (s : Standing) → slice_get self.old.all at ≡ Some (key, s)
             → self.new ≡ record self.old { all = changed at (put_into message) self.old.all }) }
         ensures same { OnErr result (self.new ≡ self.old) }
@@ -157,11 +161,13 @@ impl Standings {
         standing.put(message)
     }
 
-    /// Takes the least message out of the own line of the one at that key.
-    pub fn take(&mut self, key: Key) -> Option<Message>
+    /// Takes the least message out of the own line of the one at that key. If it was the last one, the group of that one is
+    /// given too.
+    pub fn take(&mut self, key: Key) -> (Option<Message>, Option<usize>)
         requires { Stands self.old.all key }
         ensures { (at : ℕ) (s : Standing) → slice_get self.old.all at ≡ Some (key, s)
-            → (result ≡ first_of s.sub.line) × (self.new ≡ record self.old { all = changed at taken_from self.old.all }) }
+            → (result.0 ≡ first_of s.sub.line) × (result.1 ≡ (if length s.sub.line == 1 then Some s.group else None))
+            × (self.new ≡ record self.old { all = changed at taken_from self.old.all }) }
     {
         let standing = self.all.get_mut(&key).unwrap();
         standing.take()

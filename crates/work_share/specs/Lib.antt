@@ -1,3 +1,4 @@
 pub mod Costs
 pub mod Counts
+pub mod Paces
 pub mod Windows

@@ -1,15 +1,16 @@
 //! How many listen to each topic, as far as is known.
 
-ghost use Rattle.std.specs.Prelude.{◌≡◌, ◌≤◌, ◌*◌, ◌+◌, length};
+ghost use Rattle.std.specs.Prelude.{◌≡◌, ◌≤◌, ◌*◌, ◌+◌, IfOk, length};
 ghost use Rattle.work_share.specs.Costs.{least_cost};
 ghost use Rattle.work_share.specs.Counts.{place_for};
-ghost use Rattle.work_share.specs.declared.audiences.TheConstants.{OPERATION};
+ghost use Rattle.work_share.specs.declared.audiences.TheConstants.{OPERATION, PLACES};
 
 use crate::sample::Sample;
 use crate::words::Words;
 use command_core::{Member, Op};
 use record_core::Dest;
 use std::alloc::{AllocError, Global};
+use std::marker::Model;
 
 /// In how many places topics are counted.
 const PLACES: usize = 4_096;
@@ -21,14 +22,25 @@ pub const OPERATION: u64 = 3_000;
 const DELIVERY: u64 = 4_000;
 
 /// How many listen to each topic, as far as is known. Topics share places, so that a count may be too large. The flusher counts, and others look.
+/// Contracts see in how many places topics are counted. The counts no contract knows, since another thread writes them.
 #[derive(Drop)]
 pub struct Audiences {
     counts: Words,
 }
 
+impl Model for Audiences {
+    ghost use Rattle.std.specs.Prelude.{ℕ};
+
+    ghost Value = { ℕ };
+
+    ghost view = { λ a. a.counts };
+}
+
 impl Audiences {
     /// Nobody listens yet.
-    pub fn new(alloc: Global) -> Result<Audiences, AllocError> {
+    pub fn new(alloc: Global) -> Result<Audiences, AllocError>
+        ensures { IfOk result (λ audiences. audiences ≡ PLACES) }
+    {
         Ok(Audiences {
             counts: Words::new(alloc, PLACES)?,
         })

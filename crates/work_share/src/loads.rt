@@ -1,12 +1,13 @@
 //! What the desks have under way.
 
-ghost use Rattle.std.specs.Prelude.{◌≤◌};
+ghost use Rattle.std.specs.Prelude.{◌≡◌, ◌≤◌, IfOk, false};
 ghost use Rattle.work_share.specs.declared.granting.TheConstants.{WIDEST};
 
 use crate::counting::{is_before, under_way};
 use crate::granting::{SHARE, WIDEST, window};
 use crate::words::{Words, get, set};
 use std::alloc::{AllocError, Global};
+use std::marker::Model;
 use std::sync::atomic::{AtomicU64, Ordering};
 
 // A command that costs so little counts for nothing: all that desks may have under way of these keep to their shares.
@@ -92,7 +93,8 @@ impl Load {
     }
 }
 
-/// What the commands cost that all desks have under way, and which desks wait with one that is dear.
+/// What the commands cost that all desks have under way, and which desks wait with one that is dear. Contracts see how many desks there
+/// are. What they have under way, no contract knows, since other threads change it.
 #[derive(Drop)]
 pub struct Loads {
     desks: Vec<Load>,
@@ -100,9 +102,19 @@ pub struct Loads {
     line: AtomicU64,
 }
 
+impl Model for Loads {
+    ghost use Rattle.std.specs.Prelude.{ℕ, length};
+
+    ghost Value = { ℕ };
+
+    ghost view = { λ a. length a.desks.items };
+}
+
 impl Loads {
     /// Of so many desks that have nothing under way.
-    pub fn new(alloc: Global, count: usize) -> Result<Loads, AllocError> {
+    pub fn new(alloc: Global, count: usize) -> Result<Loads, AllocError>
+        ensures { IfOk result (λ loads. loads ≡ count) }
+    {
         let mut desks = Vec::with_capacity(alloc, count)?;
         for _desk in 0..count {
             desks.push(Load::new(alloc)?)?;
@@ -115,7 +127,8 @@ impl Loads {
 
     /// How many commands that desk may have under way with one of this client that costs so much, at this mark.
     pub fn window(&self, desk: usize, client: u64, cost: u64, mark: u64) -> usize
-        ensures { result ≤ WIDEST }
+        ensures most { result ≤ WIDEST }
+        ensures none { self.now ≤ desk → result ≡ WIDEST }
     {
         let Some(own) = self.desks.get(desk) else {
             return WIDEST;
@@ -148,7 +161,9 @@ impl Loads {
     }
 
     /// Whether that desk waits with a command that is dear.
-    pub fn waits(&self, desk: usize) -> bool {
+    pub fn waits(&self, desk: usize) -> bool
+        ensures { self.now ≤ desk → result ≡ false }
+    {
         match self.desks.get(desk) {
             Some(own) => get(&own.line) != 0,
             None => false,

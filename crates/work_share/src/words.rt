@@ -1,6 +1,9 @@
 //! Numbers that threads share.
 
+ghost use Rattle.std.specs.Prelude.{◌≡◌, ◌≤◌, IfOk};
+
 use std::alloc::{AllocError, Global};
+use std::marker::Model;
 use std::sync::atomic::{AtomicU64, Ordering};
 
 /// Reads a number that another thread may write.
@@ -13,15 +16,26 @@ pub(crate) fn set(word: &AtomicU64, value: u64) {
     word.store(value, Ordering::SeqCst);
 }
 
-/// Such numbers by their places. A place that there isn't has 0.
+/// Such numbers by their places. A place that there isn't has 0. Contracts see how many there are. What they are, no contract knows, since
+/// other threads write them.
 #[derive(Drop)]
 pub(crate) struct Words {
     all: Vec<AtomicU64>,
 }
 
+impl Model for Words {
+    ghost use Rattle.std.specs.Prelude.{ℕ, length};
+
+    ghost Value = { ℕ };
+
+    ghost view = { λ a. length a.all.items };
+}
+
 impl Words {
     /// So many zeros.
-    pub(crate) fn new(alloc: Global, count: usize) -> Result<Words, AllocError> {
+    pub(crate) fn new(alloc: Global, count: usize) -> Result<Words, AllocError>
+        ensures { IfOk result (λ words. words ≡ count) }
+    {
         let mut all = Vec::with_capacity(alloc, count)?;
         for _place in 0..count {
             all.push(AtomicU64::new(0))?;
@@ -29,7 +43,9 @@ impl Words {
         Ok(Words { all })
     }
 
-    pub(crate) fn get(&self, place: usize) -> u64 {
+    pub(crate) fn get(&self, place: usize) -> u64
+        ensures { self.now ≤ place → result ≡ 0 }
+    {
         match self.all.get(place) {
             Some(word) => get(word),
             None => 0,

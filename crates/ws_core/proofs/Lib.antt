@@ -1,4 +1,5 @@
 pub mod Consuming
+pub mod Cutting
 pub mod Failing
 pub mod Heads
 pub mod Recalling

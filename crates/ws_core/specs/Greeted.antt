@@ -12,7 +12,7 @@ module _ {S : Type 0} where
   -- all the handshake's life. It was written the whole response that says so, by a server that has a place for it. A client that
   -- is refused was written the whole response of that refusal, and its stream is the caller's to end.
   abbrev pub Greets : (S → Option (List ℕ)) → (S → Option (List ℕ)) → Greeter S → Greeted S → Type 0
-  Greets remaining contents g (outcomes.Waits next) = next ≡ g
+  Greets remaining contents g (outcomes.Waits next) = next.greeter ≡ g
   Greets remaining contents g (outcomes.Accepted link) =
       IsReady link × (accepted : IsAccepted remaining contents g.origins g.opening link.socket.stream) × (shuts_out g.vacancy accepted.bytes ≡ false)
   Greets remaining contents g (outcomes.Refused refusal new) =

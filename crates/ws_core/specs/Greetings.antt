@@ -1,5 +1,5 @@
 -- A handshake that goes on from call to call.
-use Rattle.std.specs.Prelude.{◌≡◌, ◌≤◌, ℕ, List, Bool, codes, false, true, nat_eq, not, Option, None, Some, cond, length, take, ⊤}
+use Rattle.std.specs.Prelude.{◌≡◌, ◌≤◌, ℕ, List, Bool, codes, false, true, nat_eq, not, [], Option, None, Some, cond, length, take, ⊤}
 use Rattle.std.specs.List.{starts_with}
 use Rattle.std.specs.Io.KnownBytes.{Appends, Consumes}
 use Rattle.ws_core.specs.declared.answer.Answer.{Answer}
@@ -24,6 +24,16 @@ pub record Greeter (S : Type 0) : Type 0 where
   pub opening : S
   pub origins : List (List ℕ)
   pub vacancy : Vacancy
+
+-- A client's handshake as far as it has come: what it was begun with, the stream by now, and what is kept of the head.
+pub record Handshake (S : Type 0) : Type 0 where
+  pub greeter : Greeter S
+  pub stream : S
+  pub head : List ℕ
+
+-- one that has only begun
+abbrev pub begun : {S : Type 0} → Greeter S → Handshake S
+begun g = record { greeter = g; stream = g.opening; head = [] }
 
 abbrev pub greeter : {S : Type 0} → S → List (List ℕ) → Vacancy → Greeter S
 greeter opening origins vacancy = record { opening = opening; origins = origins; vacancy = vacancy }

@@ -1,8 +1,8 @@
 //! An opening handshake that never waits (RFC 6455, section 4.2).
 
-ghost use Rattle.std.specs.Prelude.{◌≡◌, ℕ, List, IfOk, IfErr, false, map, true};
+ghost use Rattle.std.specs.Prelude.{◌≡◌, ◌≤◌, ℕ, List, IfOk, IfErr, false, length, map, true};
 ghost use Rattle.std.specs.Arc.{arc_value};
-ghost use Rattle.ws_core.specs.Greetings.{Greeter, Tells, answer_at, greeter};
+ghost use Rattle.ws_core.specs.Greetings.{Greeter, Tells, answer_at, begun, greeter};
 ghost use Rattle.ws_core.specs.Greeted.{Greets};
 ghost use Rattle.ws_core.specs.Handshakes.{is_head, response_to};
 
@@ -29,7 +29,7 @@ use std::sync::Arc;
 /// A head may have 16,384 bytes and 124 fields, and from the 65th read on at least 128 bytes a read. Beyond that the stream is given
 /// up, so a client that never ends its head costs no more than that. How long a client takes is the caller's to limit.
 ///
-/// Contracts see the stream as it was given, the origins, and whom the server has a place for.
+/// Contracts see the stream as it was given, the origins, and whom the server has a place for; and the stream and the head by now.
 #[derive(Drop)]
 pub struct Greeting<S: Read + Write> {
     // The stream as it was given.
@@ -47,11 +47,15 @@ pub struct Greeting<S: Read + Write> {
 impl<S: Read + Write> Model for Greeting<S> {
     ghost use Rattle.std.specs.Prelude.{map};
     ghost use Rattle.std.specs.Arc.{arc_value};
-    ghost use Rattle.ws_core.specs.Greetings.{Greeter, IsUnderWay, greeter};
+    ghost use Rattle.ws_core.specs.Greetings.{Handshake, IsUnderWay, greeter};
 
-    ghost Value = { Greeter S };
+    ghost Value = { Handshake S };
 
-    ghost view = { λ a. greeter a.opening.value (map (λ origin. origin.items) (arc_value a.origins).items) a.vacancy };
+    ghost view = { λ a. record {
+      greeter = greeter a.opening.value (map (λ origin. origin.items) (arc_value a.origins).items) a.vacancy;
+      stream = a.stream;
+      head = a.head.items;
+    } };
 
     ghost invariant = { λ a. IsUnderWay S.remaining S.contents
         (greeter a.opening.value (map (λ origin. origin.items) (arc_value a.origins).items) a.vacancy) a.head.items a.stream a.saying };
@@ -76,7 +80,7 @@ impl<S: Read + Write + Drop> Greeting<S> {
     /// The handshake with a client to which that stream leads, of which nothing was read. Only pages of these origins are served; if
     /// none is named, all pages are. No memory is taken.
     pub fn new(alloc: Global, stream: S, origins: Arc<Vec<Vec<u8>>>) -> Greeting<S>
-        ensures { result ≡ greeter stream (map (λ origin. origin.items) (arc_value origins).items) Vacancy.Any }
+        ensures { result ≡ begun (greeter stream (map (λ origin. origin.items) (arc_value origins).items) Vacancy.Any) }
     {
         Greeting::begin(alloc, stream, origins, Vacancy::Any)
     }
@@ -88,7 +92,7 @@ impl<S: Read + Write + Drop> Greeting<S> {
         origins: Arc<Vec<Vec<u8>>>,
         vacancy: Vacancy,
     ) -> Greeting<S>
-        ensures { result ≡ greeter stream (map (λ origin. origin.items) (arc_value origins).items) vacancy }
+        ensures { result ≡ begun (greeter stream (map (λ origin. origin.items) (arc_value origins).items) vacancy) }
     {
         let opening = Snapshot::of(&stream);
         Greeting {
@@ -105,7 +109,7 @@ impl<S: Read + Write + Drop> Greeting<S> {
     /// Goes on with the handshake: reads the request as far as it has come, and once there is an answer, writes that as far as the
     /// stream takes it.
     pub fn greet(self, alloc: Global) -> Greeted<S>
-        ensures { Greets S.remaining S.contents self result }
+        ensures { Greets S.remaining S.contents self.greeter result }
     {
         match self.hear(alloc) {
             Ok(greeting) => greeting.say(alloc),
@@ -114,19 +118,23 @@ impl<S: Read + Write + Drop> Greeting<S> {
     }
 
     /// The stream.
-    pub fn stream(&self) -> &S {
+    pub fn stream(&self) -> &S
+        ensures { result.now ≡ self.now.stream }
+    {
         &self.stream
     }
 
-    /// How many bytes it keeps of a head that isn't whole.
-    pub fn held(&self) -> u64 {
+    /// How many bytes it keeps for a head that isn't whole: what has come of it, and room for more.
+    pub fn held(&self) -> u64
+        ensures { length self.now.head ≤ result }
+    {
         self.head.capacity() as u64
     }
 
     // Hears the request, unless it has its answer.
     fn hear(self, alloc: Global) -> Result<Greeting<S>, Greeted<S>>
-        ensures same { IfOk result (λ greeting. greeting ≡ self) }
-        ensures greets { IfErr result (Greets S.remaining S.contents self) }
+        ensures same { IfOk result (λ greeting. greeting.greeter ≡ self.greeter) }
+        ensures greets { IfErr result (Greets S.remaining S.contents self.greeter) }
     {
         if self.saying.is_some() {
             return Ok(self);
@@ -172,7 +180,7 @@ impl<S: Read + Write + Drop> Greeting<S> {
 
     // Says the answer, if there is one.
     fn say(self, alloc: Global) -> Greeted<S>
-        ensures { Greets S.remaining S.contents self result }
+        ensures { Greets S.remaining S.contents self.greeter result }
     {
         let Greeting {
             opening,

@@ -7,7 +7,7 @@ use crate::closing::CloseReason;
 use crate::fault::LinkFault;
 use crate::link::{Link, Outgoing, Received};
 use claim_core::Released;
-use frame_core::{Frame, write_frame};
+use frame_core::write_frame;
 use session_core::Notice;
 use std::alloc::Global;
 use std::collections::VecDeque;
@@ -39,9 +39,7 @@ impl Model for MemLink {
 }
 
 impl MemLink {
-    ghost use Rattle.std.specs.Prelude.{◌≡◌, Err, OnOk, OnErr, IfErr, true};
-    ghost use Rattle.frame_core.specs.Writable.{Writable};
-    ghost use Rattle.frame_core.specs.Written.{written};
+    ghost use Rattle.std.specs.Prelude.{◌≡◌, OnOk, OnErr, IfErr};
     ghost use Rattle.ws_core.specs.Memory.{with_sent};
 
     /// A link that is to receive these messages in their order, and then nothing. No memory is taken.
@@ -65,17 +63,11 @@ impl MemLink {
     }
 
     // Keeps the bytes of a frame as one message.
-    fn keep(&mut self, alloc: Global, frame: &Frame) -> Result<(), LinkFault>
-        requires { Writable frame.now }
-        ensures ok { OnOk result ((self.old.over ≡ false) × (self.new ≡ with_sent self.old (written frame.now))) }
+    fn keep(&mut self, bytes: Vec<u8>) -> Result<(), LinkFault>
+        ensures ok { OnOk result (self.new ≡ with_sent self.old bytes.items) }
         ensures refused { OnErr result (self.new ≡ self.old) }
-        ensures gone { self.old.over ≡ true → result ≡ Err LinkFault.Gone }
-        ensures memory { self.old.over ≡ false → IfErr result (λ fault. fault ≡ LinkFault.Memory) }
+        ensures memory { IfErr result (λ fault. fault ≡ LinkFault.Memory) }
     {
-        if self.over {
-            return Err(LinkFault::Gone);
-        }
-        let bytes = write_frame(alloc, frame).map_err(|_| LinkFault::Memory)?;
         match self.sent.push(bytes) {
             Ok(()) => Ok(()),
             Err(_) => Err(LinkFault::Memory),
@@ -102,7 +94,11 @@ impl Outgoing for MemLink {
         ensures gone { self.old.over ≡ true → result ≡ Err LinkFault.Gone }
         ensures memory { self.old.over ≡ false → IfErr result (λ fault. fault ≡ LinkFault.Memory) }
     {
-        self.keep(alloc, released.frame())
+        if self.over {
+            return Err(LinkFault::Gone);
+        }
+        let bytes = released.write(alloc).map_err(|_| LinkFault::Memory)?;
+        self.keep(bytes)
     }
 
     fn flush(&mut self) -> Result<bool, LinkFault>
@@ -149,7 +145,11 @@ impl Link for MemLink {
         ensures gone { self.old.over ≡ true → result ≡ Err LinkFault.Gone }
         ensures memory { self.old.over ≡ false → IfErr result (λ fault. fault ≡ LinkFault.Memory) }
     {
-        self.keep(alloc, notice.frame())
+        if self.over {
+            return Err(LinkFault::Gone);
+        }
+        let bytes = write_frame(alloc, notice.frame()).map_err(|_| LinkFault::Memory)?;
+        self.keep(bytes)
     }
 
     fn ping(&mut self) -> Result<(), LinkFault>

@@ -1,7 +1,7 @@
 //! The rest of a message, which is fed in pieces.
 
-ghost use Rattle.std.specs.Prelude.{◌≡◌, ◌<◌, [], IfOk, OnErr, length};
-ghost use Rattle.ws_core.specs.Pieces.{IsPiece};
+ghost use Rattle.std.specs.Prelude.{◌≡◌, ◌<◌, IfOk, OnErr, length};
+ghost use Rattle.ws_core.specs.Pieces.{Feeding, IsFed};
 
 use std::alloc::{AllocError, Global};
 use std::marker::Model;
@@ -11,7 +11,7 @@ use std::mem;
 /// meanwhile.
 const PIECE_BYTES: usize = 1_024;
 
-/// The bytes of a whole message that are still to be fed. Contracts see these.
+/// The bytes of a whole message that are still to be fed. Contracts see these, and how many were fed and are kept with them.
 #[derive(Drop)]
 pub struct Unfed {
     message: Vec<u8>,
@@ -20,11 +20,12 @@ pub struct Unfed {
 }
 
 impl Model for Unfed {
-    ghost use Rattle.std.specs.Prelude.{◌≤◌, List, ℕ, drop, length};
+    ghost use Rattle.std.specs.Prelude.{◌≤◌, drop, length};
+    ghost use Rattle.ws_core.specs.Pieces.{Feeding};
 
-    ghost Value = { List ℕ };
+    ghost Value = { Feeding };
 
-    ghost view = { λ a. drop a.fed a.message.items };
+    ghost view = { λ a. record { left = drop a.fed a.message.items; fed = a.fed } };
 
     ghost invariant = { λ a. a.fed ≤ length a.message.items };
 }
@@ -32,26 +33,28 @@ impl Model for Unfed {
 impl Unfed {
     /// A message of which nothing was fed.
     pub fn new(message: Vec<u8>) -> Unfed
-        ensures { result ≡ message.items }
+        ensures { result ≡ record { left = message.items; fed = 0 } }
     {
         Unfed { message, fed: 0 }
     }
 
     /// How many bytes are left.
     pub fn len(&self) -> usize
-        ensures { result ≡ length self.now }
+        ensures { result ≡ length self.now.left }
     {
         self.message.len() - self.fed
     }
 
     /// How many bytes are kept beside these, since they were fed.
-    pub fn fed(&self) -> usize {
+    pub fn fed(&self) -> usize
+        ensures { result ≡ self.now.fed }
+    {
         self.fed
     }
 
     /// The next piece. If memory is refused for it, nothing has changed. Of a message that is wholly fed nothing is kept.
     pub fn next(&mut self, alloc: Global) -> Result<Vec<u8>, AllocError>
-        ensures ok { IfOk result (λ piece. IsPiece self.old piece.items self.new) }
+        ensures ok { IfOk result (λ piece. IsFed self.old piece.items self.new) }
         ensures err { OnErr result (self.new ≡ self.old) }
     {
         let left = self.message.len() - self.fed;
@@ -71,8 +74,8 @@ impl Unfed {
 
     // A piece after which more are left.
     fn cut(&mut self, alloc: Global) -> Result<Vec<u8>, AllocError>
-        requires { PIECE_BYTES < length self.old }
-        ensures ok { IfOk result (λ piece. IsPiece self.old piece.items self.new) }
+        requires { PIECE_BYTES < length self.old.left }
+        ensures ok { IfOk result (λ piece. IsFed self.old piece.items self.new) }
         ensures err { OnErr result (self.new ≡ self.old) }
     {
         let end = self.fed + PIECE_BYTES;

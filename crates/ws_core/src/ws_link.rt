@@ -11,7 +11,7 @@ use crate::phase::Phase;
 use crate::stream::Ending;
 use crate::unfed::Unfed;
 use claim_core::Released;
-use frame_core::{Frame, write_frame};
+use frame_core::write_frame;
 use session_core::Notice;
 use std::alloc::Global;
 use std::io::{Read, Write};
@@ -67,7 +67,7 @@ impl<S> Model for WsLink<S> {
 
     ghost coded = { linked_code S.code };
 
-    ghost view = { λ a. record { socket = a.socket; phase = a.phase; held_up = a.held_up; dropped = a.dropped; unfed = a.unfed } };
+    ghost view = { λ a. record { socket = a.socket; phase = a.phase; held_up = a.held_up; dropped = a.dropped; unfed = a.unfed.left } };
 }
 
 fn limits() -> WebSocketConfig
@@ -88,8 +88,6 @@ impl<S: Read + Write + Drop> WsLink<S> {
     ghost use Rattle.ws_core.specs.declared.phase.Phase.TheVariants.{Open, Over};
     ghost use Rattle.ws_core.specs.Links.{IsReady};
     ghost use Rattle.ws_core.specs.Sending.{Puts, Sends, Refuses};
-    ghost use Rattle.frame_core.specs.Writable.{Writable};
-    ghost use Rattle.frame_core.specs.Written.{written};
 
     /// The link of a client to which this stream leads, and whose handshake is done. No memory is taken.
     pub(crate) fn new(alloc: Global, stream: S) -> WsLink<S>
@@ -117,16 +115,12 @@ impl<S: Read + Write + Drop> WsLink<S> {
         self.socket.get_ref()
     }
 
-    // Sends a frame as one message. The traits call it, so that it is one that was released, or a notice.
-    fn send_frame(&mut self, alloc: Global, frame: &Frame) -> Result<(), LinkFault>
-        requires { Writable frame.now }
-        ensures sends { OnOk result (Sends S.contents (written frame.now) self.old self.new) }
+    // Sends bytes as one message. The traits call it, so that they are those of a frame that was released, or of a notice.
+    fn send_bytes(&mut self, bytes: Vec<u8>) -> Result<(), LinkFault>
+        requires { self.old.phase ≡ Open }
+        ensures sends { OnOk result (Sends S.contents bytes.items self.old self.new) }
         ensures refuses { IfErr result (Refuses self.old self.new) }
     {
-        if self.phase != Phase::Open {
-            return Err(LinkFault::Gone);
-        }
-        let bytes = write_frame(alloc, frame).map_err(|_| LinkFault::Memory)?;
         let message = message_of(bytes)?;
         self.put(message)
     }
@@ -191,7 +185,11 @@ impl<S: Read + Write + Drop> Outgoing for WsLink<S> {
         ensures sends { OnOk result (Sends S.contents (written released.now.frame) self.old self.new) }
         ensures refuses { IfErr result (Refuses self.old self.new) }
     {
-        self.send_frame(alloc, released.frame())
+        if self.phase != Phase::Open {
+            return Err(LinkFault::Gone);
+        }
+        let bytes = released.write(alloc).map_err(|_| LinkFault::Memory)?;
+        self.send_bytes(bytes)
     }
 
     fn flush(&mut self) -> Result<bool, LinkFault>
@@ -268,7 +266,11 @@ impl<S: Read + Write + Ending + Drop> Link for WsLink<S> {
         ensures sends { OnOk result (Sends S.contents (written notice.now) self.old self.new) }
         ensures refuses { IfErr result (Refuses self.old self.new) }
     {
-        self.send_frame(alloc, notice.frame())
+        if self.phase != Phase::Open {
+            return Err(LinkFault::Gone);
+        }
+        let bytes = write_frame(alloc, notice.frame()).map_err(|_| LinkFault::Memory)?;
+        self.send_bytes(bytes)
     }
 
     fn ping(&mut self) -> Result<(), LinkFault>

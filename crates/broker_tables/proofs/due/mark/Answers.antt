@@ -1,6 +1,7 @@
 use Rattle.std.proofs.Common.{◌∙◌, ap}
 use Rattle.std.specs.List.{list_any}
-use Rattle.broker_tables.specs.Dues.{awaits_at}
+use Rattle.broker_tables.specs.declared.due.Due.{Due}
+use Rattle.broker_tables.specs.Dues.{is_under}
 use Rattle.broker_tables.proofs.Dues.{any_kept}
 use Rattle.broker_tables.proofs.Marks.{marked_already}
 use Rattle.broker_tables.proofs.due.mark.Goals as goal
@@ -11,4 +12,5 @@ returns-in-Ok-clause-marked c =
 
 pub returns-in_ok-insert-in-Err-clause-kept : goal.returns-in_ok-insert-in-Err-clause-kept
 returns-in_ok-insert-in-Err-clause-kept c sub is =
-    ap (list_any (awaits_at 0 sub)) c.in_ok-insert-in-Err.ensures.items ∙ any_kept (awaits_at 0 sub) (record { from = 0; due = c.args.due }) c.args.marked.now.items c.in-Err.at is
+    let passes = λ (due : Due). is_under due sub in
+    ap (list_any passes) c.in_ok-insert-in-Err.ensures.items ∙ any_kept passes c.args.due c.args.marked.now.items c.in-Err.at is

@@ -12,7 +12,7 @@ returns-then-is_auto-clause-delivered c =
     on_ok c.reply.result _ (λ at s there.
     let o = c.args.order.now in
     let f : Subscription → Subscription = λ x. delivered x c.args.delivery c.args.message in
-    let auto : is_auto s.sub.mode ≡ true = ap (λ (x : Subscription). is_auto x.mode) (sym (c.get.ensures.sub at s there)) ∙ sym c.is_auto.ensures ∙ c.if-is_auto.true in
+    let auto : is_auto s.sub.mode ≡ true = ap (λ (x : Subscription). is_auto x.mode) (sym (c.get-sub.ensures.sub at s there)) ∙ sym c.is_auto.ensures ∙ c.if-is_auto.true in
     let same : f s.sub ≡ s.sub = ap (λ b. record s.sub { unacknowledged = cond b s.sub.unacknowledged (s.sub.unacknowledged ++ (c.args.delivery, c.args.message) ∷ []) }) auto in
     ap (λ l. record o { all = l }) (changed_none (with_sub f) o.all at (c.args.key, s) there (ap (λ (x : Subscription). (c.args.key, record s { sub = x })) same)))
 
@@ -22,7 +22,7 @@ returns c =
     let m = c.args.message in
     let d = c.args.delivery in
     let held = c.args.held.now in
-    let auto : (at : ℕ) (s : Standing) → slice_get o.all at ≡ Some (c.args.key, s) → is_auto s.sub.mode ≡ false = λ at s there. ap (λ (x : Subscription). is_auto x.mode) (sym (c.get.ensures.sub at s there)) ∙ sym c.is_auto.ensures ∙ c.if-is_auto.false in
+    let auto : (at : ℕ) (s : Standing) → slice_get o.all at ≡ Some (c.args.key, s) → is_auto s.sub.mode ≡ false = λ at s there. ap (λ (x : Subscription). is_auto x.mode) (sym (c.get-sub.ensures.sub at s there)) ∙ sym c.is_auto.ensures ∙ c.if-is_auto.false in
     record {
       answers = c.hand_over.ensures.answers;
       delivered = both_ok c.hand_over.result _ _ _ (λ kept _ at s there.
@@ -40,7 +40,7 @@ returns-then-is_auto-clause-held c =
     on_ok c.reply.result _ (λ at s there.
     let held = c.args.held.now in
     let m = c.args.message in
-    let auto : is_auto s.sub.mode ≡ true = ap (λ (x : Subscription). is_auto x.mode) (sym (c.get.ensures.sub at s there)) ∙ sym c.is_auto.ensures ∙ c.if-is_auto.true in
+    let auto : is_auto s.sub.mode ≡ true = ap (λ (x : Subscription). is_auto x.mode) (sym (c.get-sub.ensures.sub at s there)) ∙ sym c.is_auto.ensures ∙ c.if-is_auto.true in
     record {
       messages = sym (ap (λ b. cond b (held.messages - 1) held.messages) auto);
       lighter = ap (λ n. held.bytes - n) c.size.ensures.size ∙ sym (ap (λ b. cond b (held.bytes - bytes m) held.bytes) auto);

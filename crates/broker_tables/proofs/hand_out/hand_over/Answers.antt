@@ -11,7 +11,8 @@ use Rattle.broker_tables.proofs.hand_out.hand_over.Goals as goal
 pub returns-clause-answers : goal.returns-clause-answers
 returns-clause-answers c =
     let earlier = c.args.answers.now in
-    on_ok c.keep-2.result _ (λ at s there. c.in_ok-reply.ensures ∙ ap (λ (x : Subscription). with_outs (message_out c.args.number x c.args.delivery c.args.message ∷ []) earlier) (c.get.ensures.sub at s there))
+    on_ok c.keep-2.result _ (λ at s there. c.in_ok-reply.ensures ∙ ap (λ (m : Message). with_outs (message_out c.args.number c.get.result.now c.args.delivery m ∷ []) earlier) c.in_ok-message.ensures
+    ∙ ap (λ (x : Subscription). with_outs (message_out c.args.number x c.args.delivery c.args.message ∷ []) earlier) (c.get.ensures.sub at s there))
 
 pub returns-clause-kept : goal.returns-clause-kept
 returns-clause-kept c =

@@ -1,7 +1,8 @@
-use Rattle.std.proofs.Common.{ℕ, ap, subst, ◌∙◌, ◌≡◌}
+use Rattle.std.proofs.Common.{ℕ, ap, false, subst, sym, ◌∙◌, ◌≡◌}
 use Rattle.flush_core.specs.Faults.{IsFlushCaused}
 use Rattle.flush_core.specs.Flushed.{Flushed}
 use Rattle.flush_core.proofs.StoreFaults.{caused_as}
+use Rattle.hub_core.specs.Flushes.{Flushes}
 use Rattle.hub_core.proofs.Turning.{failed, more, passed}
 use Rattle.hub_core.proofs.flushing.flush.Goals as goal
 
@@ -20,17 +21,20 @@ returns-in-Err-clause-stops g c = c.in-Err.ensures.breaks.stops
 pub compact_if_due-requires-clause-ring : goal.compact_if_due-requires-clause-ring
 compact_if_due-requires-clause-ring g c =
     let did = c.in-Ok.ensures in
-    (passed g.D.Disk _ _ _ _ _ c.mark-before.ensures.kept did.breaks.outcome.0 did.turns.turned did.turns.stores c.drop_left.ensures c.tell_compaction.ensures).ring ∙ c.requires.ring
+    ap (λ (f : Flushed g.row.D.Denot). f.seat.ring) c.wait_for_readers.ensures
+    ∙ ((passed g.D.Disk _ _ _ _ _ c.mark-before.ensures.kept did.breaks.outcome.0 did.turns.turned did.turns.stores c.drop_left.ensures c.tell_compaction.ensures).ring ∙ c.requires.ring)
 
 pub compact_if_due-requires-clause-executed : goal.compact_if_due-requires-clause-executed
 compact_if_due-requires-clause-executed g c =
     let did = c.in-Ok.ensures in
-    (passed g.D.Disk _ _ _ _ _ c.mark-before.ensures.kept did.breaks.outcome.0 did.turns.turned did.turns.stores c.drop_left.ensures c.tell_compaction.ensures).executed c.requires.executed
+    subst (λ (f : Flushed g.row.D.Denot). f.broken ≡ false → f.executed ≡ f.stored) (sym c.wait_for_readers.ensures)
+    ((passed g.D.Disk _ _ _ _ _ c.mark-before.ensures.kept did.breaks.outcome.0 did.turns.turned did.turns.stores c.drop_left.ensures c.tell_compaction.ensures).executed c.requires.executed)
 
 pub returns-in-Ok-clause-flushes : goal.returns-in-Ok-clause-flushes
 returns-in-Ok-clause-flushes g c =
     let did = c.in-Ok.ensures in
-    more _ _ _ (passed g.D.Disk _ _ _ _ _ c.mark-before.ensures.kept did.breaks.outcome.0 did.turns.turned did.turns.stores c.drop_left.ensures c.tell_compaction.ensures) c.compact_if_due.ensures.flushes
+    more _ _ _ (passed g.D.Disk _ _ _ _ _ c.mark-before.ensures.kept did.breaks.outcome.0 did.turns.turned did.turns.stores c.drop_left.ensures c.tell_compaction.ensures)
+    (subst (λ (f : Flushed g.row.D.Denot). Flushes f c.compact_if_due.new.flusher) c.wait_for_readers.ensures c.compact_if_due.ensures.flushes)
 
 pub returns-in-Ok-clause-light : goal.returns-in-Ok-clause-light
 returns-in-Ok-clause-light g c = c.compact_if_due.ensures.light
@@ -40,7 +44,7 @@ returns-in-Ok-clause-stops g c = c.compact_if_due.ensures.stops
 
 pub returns-in-Ok-clause-cause : goal.returns-in-Ok-clause-cause
 returns-in-Ok-clause-cause g c =
-    let calm : g.D.Disk.failures c.tell_compaction.new.flusher.disk ≡ g.D.Disk.failures c.args.flusher.now.disk =
-    ap (λ (f : Flushed g.row.D.Denot). g.D.Disk.failures f.disk) c.tell_compaction.ensures
+    let calm : g.D.Disk.failures c.wait_for_readers.new.flusher.disk ≡ g.D.Disk.failures c.args.flusher.now.disk =
+    ap (λ (f : Flushed g.row.D.Denot). g.D.Disk.failures f.disk) (c.wait_for_readers.ensures ∙ c.tell_compaction.ensures)
     ∙ (ap (λ (f : Flushed g.row.D.Denot). g.D.Disk.failures f.disk) c.drop_left.ensures ∙ c.in-Ok.ensures.breaks.cause) in
     subst (λ (n : ℕ). IsFlushCaused n (g.D.Disk.failures c.compact_if_due.new.flusher.disk) c.compact_if_due.result) calm c.compact_if_due.ensures.cause

@@ -12,17 +12,17 @@ pub returns-in_default-clause-awaited : goal.returns-in_default-clause-awaited
 returns-in_default-clause-awaited c =
     let cursors = c.args.cursors.now.items in
     let stock = c.args.self.now in
-    let cursor = c.index-cursor.result.now in
+    let cursor = c.index.result.now in
     let found : slice_get cursors c.args.at ≡ Some cursor = grind (arith, common_steps, gets) in
     let same : cursor ≡ c.requires.least.0 = same_Some cursor c.requires.least.0 (sym found ∙ c.requires.least.1) in
     let small : cursor.from < 2 ^ 64 - 1 = subst (λ (x : Cursor). x.from < 2 ^ 64 - 1) (sym same) c.requires.least.2 in
-    subst (λ (l : List Cursor). AreAwaited l stock) (sym c.move_on.ensures) (awaited_moved stock cursors c.args.at cursor (2 ^ 64 - 1) found c.requires.awaited (idle_waits stock cursor.due cursor.from (2 ^ 64 - 1) (c.in_default.ensures (2 ^ 64 - 1))))
+    subst (λ (l : List Cursor). AreAwaited l stock) (sym c.move_on.ensures) (awaited_moved stock cursors c.args.at cursor (2 ^ 64 - 1) found c.requires.awaited (idle_waits stock cursor.scope cursor.from (2 ^ 64 - 1) (c.in_default.ensures (2 ^ 64 - 1))))
 
 pub returns-in_default-clause-nearer : goal.returns-in_default-clause-nearer
 returns-in_default-clause-nearer c =
     let cursors = c.args.cursors.now.items in
     let stock = c.args.self.now in
-    let cursor = c.index-cursor.result.now in
+    let cursor = c.index.result.now in
     let found : slice_get cursors c.args.at ≡ Some cursor = grind (arith, common_steps, gets) in
     let same : cursor ≡ c.requires.least.0 = same_Some cursor c.requires.least.0 (sym found ∙ c.requires.least.1) in
     let small : cursor.from < 2 ^ 64 - 1 = subst (λ (x : Cursor). x.from < 2 ^ 64 - 1) (sym same) c.requires.least.2 in
@@ -32,7 +32,7 @@ pub serve_or_pass-requires-clause-cursor : goal.serve_or_pass-requires-clause-cu
 serve_or_pass-requires-clause-cursor c =
     let cursors = c.args.cursors.now.items in
     let stock = c.args.self.now in
-    let cursor = c.index-cursor.result.now in
+    let cursor = c.index.result.now in
     let found : slice_get cursors c.args.at ≡ Some cursor = grind (arith, common_steps, gets) in
     let same : cursor ≡ c.requires.least.0 = same_Some cursor c.requires.least.0 (sym found ∙ c.requires.least.1) in
     let small : cursor.from < 2 ^ 64 - 1 = subst (λ (x : Cursor). x.from < 2 ^ 64 - 1) (sym same) c.requires.least.2 in
@@ -48,7 +48,7 @@ pub serve_or_pass-requires-clause-least : goal.serve_or_pass-requires-clause-lea
 serve_or_pass-requires-clause-least c =
     let cursors = c.args.cursors.now.items in
     let stock = c.args.self.now in
-    let cursor = c.index-cursor.result.now in
+    let cursor = c.index.result.now in
     let found : slice_get cursors c.args.at ≡ Some cursor = grind (arith, common_steps, gets) in
     let same : cursor ≡ c.requires.least.0 = same_Some cursor c.requires.least.0 (sym found ∙ c.requires.least.1) in
     let small : cursor.from < 2 ^ 64 - 1 = subst (λ (x : Cursor). x.from < 2 ^ 64 - 1) (sym same) c.requires.least.2 in
@@ -62,17 +62,17 @@ pub returns-then-not-are_from-clause-awaited : goal.returns-then-not-are_from-cl
 returns-then-not-are_from-clause-awaited c =
     let cursors = c.args.cursors.now.items in
     let stock = c.args.self.now in
-    let cursor = c.index-cursor.result.now in
+    let cursor = c.index.result.now in
     let found : slice_get cursors c.args.at ≡ Some cursor = grind (arith, common_steps, gets) in
     let same : cursor ≡ c.requires.least.0 = same_Some cursor c.requires.least.0 (sym found ∙ c.requires.least.1) in
     let small : cursor.from < 2 ^ 64 - 1 = subst (λ (x : Cursor). x.from < 2 ^ 64 - 1) (sym same) c.requires.least.2 in
-    subst (λ (l : List Cursor). AreAwaited l stock) (sym c.move_on-2.ensures) (awaited_moved stock cursors c.args.at cursor c.in-Some.place.ticket found c.requires.awaited (idle_waits stock cursor.due cursor.from c.in-Some.place.ticket c.in-Some.ensures.idle))
+    subst (λ (l : List Cursor). AreAwaited l stock) (sym c.move_on-2.ensures) (awaited_moved stock cursors c.args.at cursor c.in-Some.place.ticket found c.requires.awaited (idle_waits stock cursor.scope cursor.from c.in-Some.place.ticket c.in-Some.ensures.idle))
 
 pub returns-then-not-are_from-clause-nearer : goal.returns-then-not-are_from-clause-nearer
 returns-then-not-are_from-clause-nearer c =
     let cursors = c.args.cursors.now.items in
     let stock = c.args.self.now in
-    let cursor = c.index-cursor.result.now in
+    let cursor = c.index.result.now in
     let found : slice_get cursors c.args.at ≡ Some cursor = grind (arith, common_steps, gets) in
     let same : cursor ≡ c.requires.least.0 = same_Some cursor c.requires.least.0 (sym found ∙ c.requires.least.1) in
     let small : cursor.from < 2 ^ 64 - 1 = subst (λ (x : Cursor). x.from < 2 ^ 64 - 1) (sym same) c.requires.least.2 in
@@ -83,41 +83,41 @@ pub returns-then-can_serve-clause-ready : goal.returns-then-can_serve-clause-rea
 returns-then-can_serve-clause-ready c =
     let cursors = c.args.cursors.now.items in
     let stock = c.args.self.now in
-    let cursor = c.index-cursor.result.now in
+    let cursor = c.index.result.now in
     let found : slice_get cursors c.args.at ≡ Some cursor = grind (arith, common_steps, gets) in
     let same : cursor ≡ c.requires.least.0 = same_Some cursor c.requires.least.0 (sym found ∙ c.requires.least.1) in
     let small : cursor.from < 2 ^ 64 - 1 = subst (λ (x : Cursor). x.from < 2 ^ 64 - 1) (sym same) c.requires.least.2 in
     let w = c.in-Some.ensures in
     let awaited : AreAwaited c.move_on-2.new.cursors.items stock =
-    subst (λ (l : List Cursor). AreAwaited l stock) (sym c.move_on-2.ensures) (awaited_moved stock cursors c.args.at cursor c.in-Some.place.ticket found c.requires.awaited (idle_waits stock cursor.due cursor.from c.in-Some.place.ticket c.in-Some.ensures.idle)) in
+    subst (λ (l : List Cursor). AreAwaited l stock) (sym c.move_on-2.ensures) (awaited_moved stock cursors c.args.at cursor c.in-Some.place.ticket found c.requires.awaited (idle_waits stock cursor.scope cursor.from c.in-Some.place.ticket c.in-Some.ensures.idle)) in
     let all = subst (λ (l : List Cursor). AllByRecursion (λ (d : Cursor). c.in-Some.place.ticket ≤ d.from) l) c.as_slice.ensures.value (c.are_from.ensures c.if-not-are_from.false) in
-    ready_at stock c.move_on-2.new.cursors.items c.in-Some.place w.at w.standing c.stand_in_order.ensures awaited all w.there w.ticket (sym (c.can_serve.ensures w.at w.standing w.there) ∙ c.if-can_serve.true)
+    ready_at stock c.move_on-2.new.cursors.items c.in-Some.place w.at w.standing c.stand_in_order.ensures.order awaited all w.there w.ticket (sym (c.can_serve.ensures w.at w.standing w.there) ∙ c.if-can_serve.true)
 
 pub returns-then-can_serve-clause-awaited : goal.returns-then-can_serve-clause-awaited
 returns-then-can_serve-clause-awaited c =
     let cursors = c.args.cursors.now.items in
     let stock = c.args.self.now in
-    let cursor = c.index-cursor.result.now in
+    let cursor = c.index.result.now in
     let found : slice_get cursors c.args.at ≡ Some cursor = grind (arith, common_steps, gets) in
     let same : cursor ≡ c.requires.least.0 = same_Some cursor c.requires.least.0 (sym found ∙ c.requires.least.1) in
     let small : cursor.from < 2 ^ 64 - 1 = subst (λ (x : Cursor). x.from < 2 ^ 64 - 1) (sym same) c.requires.least.2 in
-    subst (λ (l : List Cursor). AreAwaited l stock) (sym c.move_on-2.ensures) (awaited_moved stock cursors c.args.at cursor c.in-Some.place.ticket found c.requires.awaited (idle_waits stock cursor.due cursor.from c.in-Some.place.ticket c.in-Some.ensures.idle))
+    subst (λ (l : List Cursor). AreAwaited l stock) (sym c.move_on-2.ensures) (awaited_moved stock cursors c.args.at cursor c.in-Some.place.ticket found c.requires.awaited (idle_waits stock cursor.scope cursor.from c.in-Some.place.ticket c.in-Some.ensures.idle))
 
 pub returns-clause-awaited : goal.returns-clause-awaited
 returns-clause-awaited c =
     let cursors = c.args.cursors.now.items in
     let stock = c.args.self.now in
-    let cursor = c.index-cursor.result.now in
+    let cursor = c.index.result.now in
     let found : slice_get cursors c.args.at ≡ Some cursor = grind (arith, common_steps, gets) in
     let same : cursor ≡ c.requires.least.0 = same_Some cursor c.requires.least.0 (sym found ∙ c.requires.least.1) in
     let small : cursor.from < 2 ^ 64 - 1 = subst (λ (x : Cursor). x.from < 2 ^ 64 - 1) (sym same) c.requires.least.2 in
-    subst (λ (l : List Cursor). AreAwaited l stock) (sym c.move_on-2.ensures) (awaited_moved stock cursors c.args.at cursor c.in-Some.place.ticket found c.requires.awaited (idle_waits stock cursor.due cursor.from c.in-Some.place.ticket c.in-Some.ensures.idle))
+    subst (λ (l : List Cursor). AreAwaited l stock) (sym c.move_on-2.ensures) (awaited_moved stock cursors c.args.at cursor c.in-Some.place.ticket found c.requires.awaited (idle_waits stock cursor.scope cursor.from c.in-Some.place.ticket c.in-Some.ensures.idle))
 
 pub returns-clause-nearer : goal.returns-clause-nearer
 returns-clause-nearer c =
     let cursors = c.args.cursors.now.items in
     let stock = c.args.self.now in
-    let cursor = c.index-cursor.result.now in
+    let cursor = c.index.result.now in
     let found : slice_get cursors c.args.at ≡ Some cursor = grind (arith, common_steps, gets) in
     let same : cursor ≡ c.requires.least.0 = same_Some cursor c.requires.least.0 (sym found ∙ c.requires.least.1) in
     let small : cursor.from < 2 ^ 64 - 1 = subst (λ (x : Cursor). x.from < 2 ^ 64 - 1) (sym same) c.requires.least.2 in

@@ -32,7 +32,7 @@ loop-key-preserved c =
     let kept = c.loop-key.invariant.stocked in
     let way = c.loop-key.invariant.way in
     record {
-      awaited = still_awaited c.args.number old new key out served kept c.next_ready.new.cursors.items c.stand_in_order.ensures c.next_ready.ensures.awaited;
+      awaited = still_awaited c.args.number old new key out served kept c.next_ready.new.cursors.items c.stand_in_order.ensures.order c.next_ready.ensures.awaited;
       stocked = still_stocked c.args.number old new key out served kept;
       way = record {
         outs = way.outs ++ out ∷ [];

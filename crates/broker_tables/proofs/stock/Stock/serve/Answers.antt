@@ -85,7 +85,7 @@ returns c =
     let left : remove c.deliver.new.order.all at ≡ remove stock.order.all at =
     ap (λ (o : Waiting). remove o.all at) given ∙ changed_removed (with_sub g) c.take_for.new.order.all at ∙ ap (λ (o : Waiting). remove o.all at) taken ∙ changed_removed (with_sub f) stock.order.all at in
     let next : c.deliver.new.order.next ≡ stock.order.next = ap (λ (o : Waiting). o.next) given ∙ ap (λ (o : Waiting). o.next) taken in
-    let last : List W → ℕ → Waiting = λ l n. record { all = l ++ (c.args.key, record { ticket = n; sub = s2.sub }) ∷ []; next = n + 1 } in
+    let last : List W → ℕ → Waiting = λ l n. record { all = l ++ (c.args.key, record s2 { ticket = n }) ∷ []; next = n + 1 } in
     record {
       served = record {
         out = message_out c.args.number (f s.sub) stock.next_delivery m;

@@ -1,8 +1,9 @@
 use Rattle.std.proofs.Common.{◌∙◌, List, ap, subst, sym}
 use Rattle.waiting_order.specs.Waiting.{subs_of}
-use Rattle.broker_tables.specs.declared.cursors.Cursor.{Cursor}
+use Rattle.broker_tables.specs.declared.due.Due.{Due}
 use Rattle.broker_state.specs.HandOut.{settled}
 use Rattle.broker_tables.specs.Answers.{with_outs}
+use Rattle.broker_tables.specs.Cursors.{AwaitAllDue}
 use Rattle.broker_tables.specs.Dues.{AreDue}
 use Rattle.broker_tables.specs.Stocks.{stocked}
 use Rattle.broker_tables.specs.Tables.{TablesValue}
@@ -13,14 +14,16 @@ use Rattle.broker_tables.proofs.tables.Tables.settle.Goals as goal
 pub hand_out-requires-clause-awaited : goal.hand_out-requires-clause-awaited
 hand_out-requires-clause-awaited c =
     let a = c.self.inside in
-    awaited_due a.due.items a.stock (c.self.invariant (ap (λ (b : TablesValue). b.broken) c.self.view_is ∙ c.requires.whole)).ready
+    let marks = a.due.items in
+    awaited_due c.in_ok-cursors.cursors.items marks a.stock (c.self.invariant (ap (λ (b : TablesValue). b.broken) c.self.view_is ∙ c.requires.whole)).ready
+    (subst (λ (l : List Due). AwaitAllDue c.in_ok-cursors.cursors.items l a.stock.order.all) c.as_slice.ensures.value c.in_ok-cursors.ensures)
 
 pub invariant_of-self-2 : goal.invariant_of-self-2
 invariant_of-self-2 c _ =
     let new = c.hand_out.new.self in
     record {
       whole = c.in_ok-hand_out.ensures.stocked;
-      ready = subst (λ (l : List Cursor). AreDue l (stocked new)) (sym c.clear.ensures.items) (none_due (stocked new) (subs_of new.order.all) c.in_ok-hand_out.ensures.none);
+      ready = subst (λ (l : List Due). AreDue l (stocked new)) (sym c.clear.ensures.items) (none_due (stocked new) (subs_of new.order.all) c.in_ok-hand_out.ensures.none);
     }
 
 pub returns-clause-outs : goal.returns-clause-outs

@@ -1,23 +1,42 @@
-use Rattle.std.proofs.Common.{◌∙◌, [], List, ap, sym, unwrap_or}
+use Rattle.std.proofs.Common.{◌≡◌, ◌∙◌, List, Some, None, ap, refl, subst, sym}
 use Rattle.std.specs.Option.{option_copied}
-use Rattle.waiting_order.specs.Directories.{is_plain_at}
-use Rattle.waiting_order.proofs.Keeping.{found_kept, put_in_none}
+use Rattle.std.proofs.lemmas.Result.{on_ok_weaker}
+use Rattle.broker_state.specs.Lists.{is_none}
+use Rattle.waiting_order.specs.declared.group.Group.{Group}
+use Rattle.waiting_order.specs.Directories.{AreOfGroup, IsGroup, is_plain_at}
+use Rattle.waiting_order.proofs.Keeping.{found_put, put_alike, put_nowhere}
 use Rattle.waiting_order.proofs.Timed.{W}
 use Rattle.waiting_order.proofs.order.Order.put_each.Goals as goal
 
-pub put_all-requires : goal.put_all-requires
-put_all-requires c =
+pub put_all-requires-clause-some : goal.put_all-requires-clause-some
+put_all-requires-clause-some c =
+    let d = c.self.invariant.directory in
     let to = c.args.destination.now in
-    (is_plain_at to, ap (λ o. unwrap_or (option_copied o) []) (sym c.in-Some.is) ∙ ap (λ o. unwrap_or o []) c.get.ensures.value ∙ c.self.invariant.directory.destinations to)
+    let it = subst (IsGroup (is_plain_at to) c.self.inside.standings.all) (sym c.get.ensures.value ∙ ap option_copied c.in-Some.is) (d.destinations to) in
+    ap (λ (g : Group). is_none g.places) (d.groups c.in-Some.handle.now) ∙ it.some
+
+pub put_all-requires-clause-group : goal.put_all-requires-clause-group
+put_all-requires-clause-group c = c.self.invariant.directory.groups c.in-Some.handle.now
 
 pub invariant_of-self : goal.invariant_of-self
 invariant_of-self c =
     let a = c.self.inside in
-    found_kept a.directory a.standings.all c.put_all.new.standings.all c.put_all.ensures.places c.self.invariant
+    let d = c.self.invariant.directory in
+    let to = c.args.destination.now in
+    let it = subst (IsGroup (is_plain_at to) a.standings.all) (sym c.get.ensures.value ∙ ap option_copied c.in-Some.is) (d.destinations to) in
+    let after = record a.directory { groups = c.put_all.new.groups } in
+    found_put a.directory after a.standings.all c.put_all.new.standings.all c.in-Some.handle.now c.put_all.ensures.places refl refl c.put_all.ensures.group c.put_all.ensures.groups c.put_all.ensures.others it.some c.self.invariant
 
-pub returns-in-None : goal.returns-in-None
-returns-in-None c =
+pub returns : goal.returns
+returns c =
     let a = c.self.inside in
     let to = c.args.destination.now in
-    let none = ap (λ o. unwrap_or (option_copied o) []) (sym c.in-None.is) ∙ ap (λ o. unwrap_or o []) c.get.ensures.value ∙ c.self.invariant.directory.destinations to in
-    rw (← c.self.view_is) (ap (λ (l : List W). record a.standings { all = l }) (put_in_none (is_plain_at to) c.args.message.now a.standings.all (sym none)))
+    let it = subst (IsGroup (is_plain_at to) a.standings.all) (sym c.get.ensures.value ∙ ap option_copied c.in-Some.is) (c.self.invariant.directory.destinations to) in
+    rw (← c.self.view_is) (on_ok_weaker c.put_all.result (λ is. is ∙ ap (λ (l : List W). record a.standings { all = l }) (put_alike (is_plain_at to) c.in-Some.handle.now c.args.message.now a.standings.all it.alike)) c.put_all.ensures.put)
+
+pub returns-in_default : goal.returns-in_default
+returns-in_default c =
+    let a = c.self.inside in
+    let to = c.args.destination.now in
+    let none = subst (IsGroup (is_plain_at to) a.standings.all) (sym c.get.ensures.value ∙ ap option_copied c.in_default.is) (c.self.invariant.directory.destinations to) in
+    rw (← c.self.view_is) (ap (λ (l : List W). record a.standings { all = l }) (put_nowhere (is_plain_at to) c.args.message.now a.standings.all none))

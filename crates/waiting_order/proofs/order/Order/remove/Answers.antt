@@ -1,9 +1,16 @@
-use Rattle.std.proofs.Common.{ap, subst, sym}
+use Rattle.std.proofs.Common.{◌≡◌, ◌∙◌, Some, ap, slice_get, subst, sym}
 use Rattle.broker_state.proofs.Weights.{all_removed}
+use Rattle.waiting_order.specs.declared.standing.Standing.{Standing}
 use Rattle.waiting_order.specs.Directories.{AreFound, IsSlotted}
 use Rattle.waiting_order.specs.Waiting.{Waiting}
-use Rattle.waiting_order.specs.declared.standing.Standing.{Standing}
 use Rattle.waiting_order.proofs.order.Order.remove.Goals as goal
+
+pub leave-requires : goal.leave-requires
+leave-requires c =
+    let a = c.self.inside in
+    let r = rw (← c.self.view_is) at c.requires in
+    let is = c.remove-ticket.ensures.removed r.0 r.1 r.2 in
+    (a.standings.all, r.0, c.args.key, r.2 ∙ ap (λ (s : Standing). Some (c.args.key, s)) (sym is.0), c.self.invariant.directory)
 
 pub invariant_of-self : goal.invariant_of-self
 invariant_of-self c =
@@ -12,5 +19,5 @@ invariant_of-self c =
     let is = c.remove-ticket.ensures.removed r.0 r.1 r.2 in
     subst (AreFound c.leave.new.self) (sym (ap (λ (x : Waiting). x.all) is.1)) (record {
       slots = all_removed IsSlotted a.standings.all r.0 c.self.invariant.slots;
-      directory = c.leave.ensures a.standings.all r.0 (c.args.key, r.1) c.remove-ticket.ensures.order.rising r.2 (sym (ap (λ (x : Standing). x.ticket) is.0)) (sym (ap (λ (x : Standing). x.sub) is.0)) c.self.invariant.directory;
+      directory = c.leave.ensures a.standings.all r.0 c.args.key c.remove-ticket.ensures.order.rising (r.2 ∙ ap (λ (s : Standing). Some (c.args.key, s)) (sym is.0)) c.self.invariant.directory;
     })

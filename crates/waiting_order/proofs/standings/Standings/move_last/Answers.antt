@@ -17,7 +17,7 @@ invariant_of-self c =
     let a = c.self.inside in
     let r = rw (← c.self.view_is) at c.requires.there in
     let there = at_its_key a.next a.all.entries c.self.invariant r.0 (c.args.key, r.1) r.2 in
-    let t : Standing = record { ticket = a.next; sub = c.unwrap-standing.result.now.sub } in
+    let t : Standing = record c.unwrap-standing.result.now { ticket = a.next } in
     let vs = c.get_mut.follows.lender t in
     let h = c.get_mut.follows.holds t in
     let up = h.3 (there_now (at_key c.args.key a.all.entries) r.1 there) in
@@ -29,15 +29,17 @@ returns c =
     let a = c.self.inside in
     let r = rw (← c.self.view_is) at c.requires.there in
     let there = at_its_key a.next a.all.entries c.self.invariant r.0 (c.args.key, r.1) r.2 in
-    let t : Standing = record { ticket = a.next; sub = c.unwrap-standing.result.now.sub } in
+    let t : Standing = record c.unwrap-standing.result.now { ticket = a.next } in
     let vs = c.get_mut.follows.lender t in
     let h = c.get_mut.follows.holds t in
     let up = h.3 (there_now (at_key c.args.key a.all.entries) r.1 there) in
     let more : suc a.next ≡ a.next + 1 = omega arith in
     rw (← c.self.view_is) (λ at s is.
     let was = at_its_key a.next a.all.entries c.self.invariant at (c.args.key, s) is in
-    let same : c.unwrap-standing.result.now ≡ s = same_Some c.unwrap-standing.result.now s (ap option_copied_mut (sym c.unwrap-standing.ensures) ∙ c.get_mut.ensures.value ∙ was) in
-    ap (λ (l : List W). record { all = l; next = a.next + 1 })
-    (ap (λ (n : ℕ). by_ticket n vs.entries) (sym more)
-    ∙ order_moved a.next a.next a.all.entries vs.entries c.self.invariant h.4 c.args.key t up.1 refl up.2 s was at is
-    ∙ ap (λ (x : Standing). remove (by_ticket a.next a.all.entries) at ++ (c.args.key, record x { ticket = a.next }) ∷ []) same))
+    let same : c.unwrap-standing.result.now ≡ s = same_Some c.unwrap-standing.result.now s (ap option_copied_mut (sym c.unwrap-standing.ensures) ∙ c.get_mut.ensures.value ∙ was) in (
+      ap (λ (x : Standing). (x.group, x.ticket)) same,
+      ap (λ (l : List W). record { all = l; next = a.next + 1 })
+          (ap (λ (n : ℕ). by_ticket n vs.entries) (sym more)
+          ∙ order_moved a.next a.next a.all.entries vs.entries c.self.invariant h.4 c.args.key t up.1 refl up.2 s was at is
+          ∙ ap (λ (x : Standing). remove (by_ticket a.next a.all.entries) at ++ (c.args.key, record x { ticket = a.next }) ∷ []) same),
+    ))

@@ -1,7 +1,8 @@
 use Rattle.std.proofs.Common.{◌≡◌, ◌∙◌, List, ap, sym}
 use Rattle.std.specs.Option.{option_copied_mut}
 use Rattle.std.proofs.lemmas.Option.{same_Some}
-use Rattle.std.proofs.lemmas.Result.{on_err_weaker, on_ok_weaker}
+use Rattle.std.proofs.lemmas.Result.{IfOk-weaker, on_err_weaker, on_ok_weaker}
+use Rattle.broker_state.specs.Lists.{is_none}
 use Rattle.line_core.specs.Lines.{inserted}
 use Rattle.waiting_order.specs.Keeping.{put_into}
 use Rattle.waiting_order.specs.declared.standing.Standing.{Standing}
@@ -60,3 +61,11 @@ returns-clause-same c =
     let same : c.unwrap-standing.result.now ≡ s = same_Some c.unwrap-standing.result.now s (ap option_copied_mut (sym c.unwrap-standing.ensures) ∙ c.get_mut.ensures.value ∙ was) in
     let ticket = c.put.ensures.ticket ∙ ap (λ (x : Standing). x.ticket) same in
     ap (λ (l : List W). record { all = l; next = a.next }) (order_changed a.next a.next a.all.entries vs.entries c.self.invariant h.4 c.args.key s c.put.new.self was up.1 ticket up.2 (λ w. w) (ap (λ (x : Standing). (c.args.key, x)) (is ∙ same)) at at_s ∙ changed_same a.next a.all.entries at)) c.put.ensures.same)
+
+pub returns-clause-first : goal.returns-clause-first
+returns-clause-first c =
+    let a = c.self.inside in
+    rw (← c.self.view_is) (IfOk-weaker c.put.result _ _ (λ first is at s at_s.
+    let was = at_its_key a.next a.all.entries c.self.invariant at (c.args.key, s) at_s in
+    let same : c.unwrap-standing.result.now ≡ s = same_Some c.unwrap-standing.result.now s (ap option_copied_mut (sym c.unwrap-standing.ensures) ∙ c.get_mut.ensures.value ∙ was) in
+    is ∙ ap (λ (x : Standing). is_none x.sub.line) same) c.put.ensures.first)

@@ -1,4 +1,4 @@
-use Rattle.std.proofs.Common.{◌≡◌, ◌∙◌, List, ap, drop, sym}
+use Rattle.std.proofs.Common.{◌≡◌, ◌==◌, ◌∙◌, List, None, Some, ap, drop, length, sym, if◌then◌else◌}
 use Rattle.std.specs.Option.{option_copied_mut}
 use Rattle.std.proofs.lemmas.Option.{same_Some}
 use Rattle.line_core.specs.Lines.{first_of}
@@ -39,4 +39,4 @@ returns c =
     let was = at_its_key a.next a.all.entries c.self.invariant at (c.args.key, s) at_s in
     let same : c.unwrap-standing.result.now ≡ s = same_Some c.unwrap-standing.result.now s (ap option_copied_mut (sym c.unwrap-standing.ensures) ∙ c.get_mut.ensures.value ∙ was) in
     let ticket = c.take.ensures.ticket ∙ ap (λ (x : Standing). x.ticket) same in
-    (c.take.ensures.taken ∙ ap (λ (x : Standing). first_of x.sub.line) same, ap (λ (l : List W). record { all = l; next = a.next }) (order_changed a.next a.next a.all.entries vs.entries c.self.invariant h.4 c.args.key s c.take.new.self was up.1 ticket up.2 (taken_from) (ap (λ (x : Standing). (c.args.key, x)) (c.take.ensures.rest ∙ ap (λ (x : Standing). record x { sub = record x.sub { line = drop 1 x.sub.line } }) same)) at at_s)))
+    (c.take.ensures.taken ∙ ap (λ (x : Standing). first_of x.sub.line) same, c.take.ensures.caught_up ∙ ap (λ (x : Standing). if length x.sub.line == 1 then Some x.group else None) same, ap (λ (l : List W). record { all = l; next = a.next }) (order_changed a.next a.next a.all.entries vs.entries c.self.invariant h.4 c.args.key s c.take.new.self was up.1 ticket up.2 (taken_from) (ap (λ (x : Standing). (c.args.key, x)) (c.take.ensures.rest ∙ ap (λ (x : Standing). record x { sub = record x.sub { line = drop 1 x.sub.line } }) same)) at at_s)))

@@ -1,0 +1,169 @@
+//! What the broker answers.
+
+ghost use Rattle.std.specs.Prelude.{◌≡◌, ◌<◌, ◌^◌, None, Some, IfOk, MatchOption, SomeIff, codes};
+ghost use Rattle.frame_core.specs.Writable.{Writable, first_of};
+ghost use Rattle.frame_core.specs.Written.{written};
+ghost use Rattle.frame_core.specs.declared.frame.Verb.TheVariants as verbs;
+ghost use Rattle.command_core.specs.Outs.{weight_of};
+ghost use Rattle.command_core.specs.Replies.{message_frame};
+
+use crate::delivery::{Delivery, is_acknowledged};
+use crate::weight::add_headers;
+use frame_core::{Frame, Verb, first, write_frame};
+use record_core::{HeaderText, Sending};
+use std::alloc::{AllocError, Global};
+use std::marker::Model;
+
+// What is told: a frame, or a MESSAGE in its parts, for which none is built.
+#[derive(Drop)]
+pub(crate) enum Content {
+    Framed(Frame),
+    Message(Delivery),
+}
+
+/// An output: a frame that a command gives, and the session that it goes to. Contracts see it as its three parts. Its
+/// frame can be written.
+///
+/// It takes 24 bytes where it waits, since what it tells is in a box. A MESSAGE is kept in its parts there, and shares its message with
+/// other deliveries if that is shared.
+#[derive(Drop)]
+pub struct Out {
+    number: u64,
+    session: u64,
+    content: Box<Content>,
+}
+
+impl Model for Out {
+    ghost use Rattle.frame_core.specs.Writable.{Writable};
+    ghost use Rattle.command_core.specs.Contents.{frame_of};
+    ghost use Rattle.command_core.specs.Outs.{OutValue};
+
+    ghost Value = { OutValue };
+
+    ghost view = { λ a. record { number = a.number; session = a.session; frame = frame_of a.content.value } };
+
+    ghost invariant = { λ a. Writable (frame_of a.content.value) };
+}
+
+impl Out {
+    /// Takes memory for a box. If that is refused, the frame is let go.
+    pub fn new(alloc: Global, number: u64, session: u64, frame: Frame) -> Result<Out, AllocError>
+        requires { Writable frame }
+        ensures { IfOk result (λ out. out ≡ record { number = number; session = session; frame = frame }) }
+    {
+        let content = Box::new(alloc, Content::Framed(frame))?;
+        Ok(Out {
+            number,
+            session,
+            content,
+        })
+    }
+
+    /// The MESSAGE that gives what was sent to a subscription of that id (STOMP 1.2, "MESSAGE"). The message's number is
+    /// that of its command and its place there. `delivery` is the number by which it is acknowledged, if it is to be.
+    ///
+    /// Takes memory for a box, and for the id if that isn't shared. If it is refused, the message is let go.
+    pub fn message(
+        alloc: Global,
+        number: u64,
+        session: u64,
+        subscription: &HeaderText,
+        command: u64,
+        place: u32,
+        delivery: Option<u64>,
+        sending: Sending,
+    ) -> Result<Out, AllocError>
+        ensures { IfOk result (λ out. out ≡ record { number = number; session = session; frame = message_frame subscription.now command place delivery sending }) }
+    {
+        let subscription = subscription.clone()?;
+        let (_name, _destination) = (subscription.as_str(), sending.destination());
+        let _fits = is_acknowledged(delivery);
+        let delivery = Delivery {
+            subscription,
+            command,
+            place,
+            delivery,
+            sending,
+        };
+        let content = Box::new(alloc, Content::Message(delivery))?;
+        Ok(Out {
+            number,
+            session,
+            content,
+        })
+    }
+
+    /// The number of the command that gives it.
+    pub fn number(&self) -> u64
+        ensures { result ≡ self.now.number }
+    {
+        self.number
+    }
+
+    /// The number of the session that it goes to.
+    pub fn session(&self) -> u64
+        ensures { result ≡ self.now.session }
+    {
+        self.session
+    }
+
+    /// The command of its frame.
+    pub fn verb(&self) -> Verb
+        ensures { result ≡ self.now.frame.verb }
+    {
+        match &*self.content {
+            Content::Framed(frame) => frame.verb,
+            Content::Message(_) => Verb::Message,
+        }
+    }
+
+    /// The body of its frame.
+    pub fn body(&self) -> &[u8]
+        ensures { result.now ≡ self.now.frame.body }
+    {
+        match &*self.content {
+            Content::Framed(frame) => frame.body.as_slice(),
+            Content::Message(delivery) => delivery.sending.body().as_slice(),
+        }
+    }
+
+    /// What an ERROR says in its header `message`.
+    pub fn error(&self) -> Option<&str>
+        ensures { MatchOption result
+            (self.now.frame.verb ≡ verbs.Error → first_of (codes "message") self.now.frame.headers ≡ None)
+            (λ text. (self.now.frame.verb ≡ verbs.Error) × (first_of (codes "message") self.now.frame.headers ≡ Some text.now)) }
+    {
+        match &*self.content {
+            Content::Framed(frame) => match frame.verb {
+                Verb::Error => first(frame, "message"),
+                _ => None,
+            },
+            Content::Message(_) => None,
+        }
+    }
+
+    /// The bytes that it counts for, those of its body and of its headers' names and values, or `None` if there are 2^64 or more. It
+    /// looks at each header once, and at no byte.
+    pub fn weight(&self) -> Option<u64>
+        ensures { SomeIff result (weight_of self.now < 2 ^ 64) (weight_of self.now) }
+    {
+        match &*self.content {
+            Content::Framed(frame) => {
+                let body = frame.body.as_slice().len() as u64;
+                add_headers(body, frame.headers.as_slice())
+            }
+            Content::Message(delivery) => delivery.weight(),
+        }
+    }
+
+    /// The bytes of its frame, which can be written.
+    pub fn write(&self, alloc: Global) -> Result<Vec<u8>, AllocError>
+        ensures bytes { IfOk result (λ bytes. bytes.items ≡ written self.now.frame) }
+        ensures form { Writable self.now.frame }
+    {
+        match &*self.content {
+            Content::Framed(frame) => write_frame(alloc, frame),
+            Content::Message(delivery) => delivery.write(alloc),
+        }
+    }
+}

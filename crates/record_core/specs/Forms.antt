@@ -1,0 +1,14 @@
+-- What is sent, however it is kept.
+use Rattle.std.specs.Arc.{arc_value}
+use Rattle.record_core.specs.declared.sending.Parts.{Parts}
+use Rattle.record_core.specs.declared.sending.SendingForm.{SendingForm}
+use Rattle.record_core.specs.declared.sending.SendingForm.TheVariants.{Own, Shared}
+use Rattle.record_core.specs.Sendings.{SendingValue}
+
+-- what the parts are of
+abbrev pub of_parts : Parts → SendingValue
+of_parts parts = record { destination = parts.destination; headers = parts.headers; body = parts.body }
+
+abbrev pub sending_of : SendingForm → SendingValue
+sending_of (Own parts) = of_parts parts
+sending_of (Shared parts) = of_parts (arc_value parts)
