@@ -6,7 +6,7 @@ ghost use Rattle.broker_state.specs.Steps.{farewell, outs_to, receipts};
 ghost use Rattle.broker_tables.specs.Answers.{with_outs};
 
 use broker_tables::Answers;
-use command_core::{End, Fault, Out, connected_reply, error_reply, receipt_reply};
+use command_core::{End, Fault, Out, connected_reply, error_reply};
 use record_core::HeaderText;
 use std::alloc::{AllocError, Global};
 
@@ -39,8 +39,7 @@ pub fn answer_done(
         drop(id);
         return Ok(());
     }
-    let frame = receipt_reply(alloc, id)?;
-    let out = Out::new(alloc, number, session, frame)?;
+    let out = Out::receipt(alloc, number, session, id)?;
     answers.add(out)
 }
 

@@ -52,8 +52,8 @@ fn go_on(alloc: Global, broker: &mut Broker) -> Result<(u64, u64, bool), Fail> {
     let outs = execute(alloc, broker, LISTEN)?;
     let is_sent = match outs.as_slice() {
         [out] => {
-            let bytes = out.write(alloc)?;
-            let text = str::from_utf8(bytes.as_slice())?;
+            let written = out.write(alloc)?;
+            let text = str::from_utf8(written.bytes.as_slice())?;
             text.contains("\nmessage-id:1.0\n")
         }
         _ => false,

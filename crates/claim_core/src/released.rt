@@ -1,11 +1,12 @@
 //! What may leave.
 
-ghost use Rattle.std.specs.Prelude.{◌≡◌, ◌<◌, ◌≤◌, IfOk, IfErr};
+ghost use Rattle.std.specs.Prelude.{◌≡◌, ◌<◌, ◌≤◌, IfOk, IfErr, true};
+ghost use Rattle.std.specs.Str.{IsUtf8};
 ghost use Rattle.frame_core.specs.Writable.{Writable};
 ghost use Rattle.frame_core.specs.Written.{written};
 
 use crate::refusals::NotYet;
-use command_core::Out;
+use command_core::{Out, Written};
 use frame_core::Verb;
 use std::alloc::{AllocError, Global};
 use std::marker::Model;
@@ -53,8 +54,9 @@ impl Released {
     }
 
     /// The bytes of the frame that may leave, which can be written.
-    pub fn write(&self, alloc: Global) -> Result<Vec<u8>, AllocError>
-        ensures bytes { IfOk result (λ bytes. bytes.items ≡ written self.now.frame) }
+    pub fn write(&self, alloc: Global) -> Result<Written, AllocError>
+        ensures bytes { IfOk result (λ it. it.bytes.items ≡ written self.now.frame) }
+        ensures text { IfOk result (λ it. it.is_text ≡ true → IsUtf8 it.bytes.items) }
         ensures form { Writable self.now.frame }
     {
         self.out.write(alloc)

@@ -1,11 +1,16 @@
 -- The bytes of a MESSAGE, one part after another.
-use Rattle.std.proofs.Common.{◌≡◌, ◌≢◌, ◌≤◌, ◌<◌, ◌^◌, ◌++◌, ◌∷◌, ◌∙◌, [], List, ℕ, Option, ap, append_assoc, arith, codes, flat_map, length, refl, rules, sym}
+use Rattle.std.proofs.Common.{◌≡◌, ◌≢◌, ◌≤◌, ◌<◌, ◌^◌, ◌++◌, ◌∷◌, ◌∙◌, [], List, ℕ, Option, ap, append_assoc, arith, codes, flat_map, length, refl, rules, subst, sym}
 use Rattle.std.specs.Fmt.{decimal}
+use Rattle.std.specs.List.{AllByRecursion}
+use Rattle.std.specs.Str.{IsUtf8}
 use Rattle.std.proofs.lemmas.Bool.{ne_eqb}
 use Rattle.std.proofs.lemmas.Grind.{flat_map-append}
 use Rattle.escape_core.specs.Escapes.{code_of, escaped}
 use Rattle.frame_core.specs.declared.frame.Verb.TheVariants.{Message}
-use Rattle.frame_core.specs.Written.{written, written_header}
+use Rattle.std.proofs.lemmas.Str.{IsUtf8-append}
+use Rattle.frame_core.proofs.Lists.{all_append}
+use Rattle.frame_core.proofs.Texts.{ascii_text, behind_ascii}
+use Rattle.frame_core.specs.Written.{IsText, written, written_header}
 use Rattle.record_core.specs.Sendings.{SendingValue}
 use Rattle.command_core.specs.Replies.{ack_header, message_frame, message_id, own_headers}
 use Rattle.command_core.proofs.WritableReplies.{AllDigits, digits_of_decimal}
@@ -60,3 +65,22 @@ message_written id n k d s none verb own all head body now p q r t u v w =
   where
     in_a_row : (own kept b : List ℕ) → ((((([] ++ codes "MESSAGE\n") ++ own) ++ kept) ++ 10 ∷ []) ++ b) ++ 0 ∷ [] ≡ (codes "MESSAGE" ++ (10 ∷ ((own ++ kept) ++ 10 ∷ []))) ++ (b ++ 0 ∷ [])
     in_a_row own kept b = search (rules, append_assoc)
+
+-- the header that names a message is UTF-8
+pub id_text : (n k : ℕ) (one two : List ℕ) → one ≡ decimal n → two ≡ decimal k → IsUtf8 one → IsUtf8 two → IsText (codes "message-id", message_id n k)
+id_text n k one two p q a b =
+    (ascii_text (codes "message-id") (search rules), IsUtf8-append (decimal n) (46 ∷ decimal k) (subst IsUtf8 p a) (behind_ascii 46 (decimal k) (omega arith) (subst IsUtf8 q b)))
+
+-- a header whose name and value are UTF-8, however they are given
+same_text : (name value : List ℕ) (h : List ℕ × List ℕ) → (name ≡ h.0) × (value ≡ h.1) → IsText (name, value) → IsText h
+same_text name value h is text = (subst IsUtf8 is.0 text.0, subst IsUtf8 is.1 text.1)
+
+-- the broker's own headers are UTF-8 if each of them is
+pub own_texts : (d : Option ℕ) (to subscription name destination : List ℕ) (size : ℕ) (id message : List ℕ) (s : SendingValue)
+    → (to ≡ codes "subscription") × (subscription ≡ id) → (name ≡ codes "destination") × (destination ≡ s.destination) → size ≡ length s.body
+    → IsText (to, subscription) → IsText (codes "message-id", message) → IsText (name, destination) → AllByRecursion IsText (ack_header d) → IsText (codes "content-length", decimal size)
+    → AllByRecursion IsText (own_headers id message d s)
+own_texts d to subscription name destination size id message s first third fifth a b c e f = (
+  same_text to subscription (codes "subscription", id) first a,
+  (b, (same_text name destination (codes "destination", s.destination) third c, all_append IsText (ack_header d) _ e (subst (λ n. IsText (codes "content-length", decimal n)) fifth f, tt))),
+)

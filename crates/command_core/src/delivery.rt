@@ -2,14 +2,16 @@
 
 ghost use Rattle.std.specs.Prelude.{◌≡◌, ◌<◌, ◌≤◌, ◌+◌, ◌^◌, ◌++◌, IfOk, IfSome, MatchOption, OnOk, SomeIff, codes, length};
 ghost use Rattle.std.specs.Fmt.{decimal};
-ghost use Rattle.std.specs.List.{flat_map, sum_by};
+ghost use Rattle.std.specs.List.{AllByRecursion, flat_map, sum_by};
+ghost use Rattle.std.specs.Str.{IsUtf8};
 ghost use Rattle.frame_core.specs.Words.{word_bytes};
-ghost use Rattle.frame_core.specs.Written.{written, written_header};
+ghost use Rattle.frame_core.specs.Written.{IsText, written, written_header};
 ghost use Rattle.frame_core.specs.declared.frame.Verb.TheVariants as verbs;
 ghost use Rattle.command_core.specs.Contents.{message_of, own_of};
 ghost use Rattle.command_core.specs.Outs.{header_bytes};
 ghost use Rattle.command_core.specs.Replies.{ack_header, message_id};
 
+use crate::output::Written;
 use crate::weight::add_headers;
 use frame_core::{Verb, Word, write_header, write_headers};
 use itoa::Buffer;
@@ -63,7 +65,8 @@ fn write_number(
     name: Word,
     value: u64,
 ) -> Result<(), AllocError>
-    ensures { OnOk result (bytes.new.items ≡ bytes.old.items ++ written_header verbs.Message (word_bytes name, decimal value)) }
+    ensures text { OnOk result (IsText (word_bytes name, decimal value)) }
+    ensures line { OnOk result (bytes.new.items ≡ bytes.old.items ++ written_header verbs.Message (word_bytes name, decimal value)) }
 {
     let mut digits = Buffer::new();
     write_header(
@@ -77,7 +80,8 @@ fn write_number(
 
 /// Appends the header line that names a delivery for its acknowledgement, if one is expected.
 fn write_ack(alloc: Global, bytes: &mut Vec<u8>, delivery: Option<u64>) -> Result<(), AllocError>
-    ensures { OnOk result (bytes.new.items ≡ bytes.old.items ++ flat_map (written_header verbs.Message) (ack_header delivery)) }
+    ensures texts { OnOk result (AllByRecursion IsText (ack_header delivery)) }
+    ensures lines { OnOk result (bytes.new.items ≡ bytes.old.items ++ flat_map (written_header verbs.Message) (ack_header delivery)) }
 {
     match delivery {
         None => Ok(()),
@@ -87,7 +91,8 @@ fn write_ack(alloc: Global, bytes: &mut Vec<u8>, delivery: Option<u64>) -> Resul
 
 /// Appends the header line that says which message it is. None of its bytes needs an escape.
 fn write_id(bytes: &mut Vec<u8>, command: u64, place: u32) -> Result<(), AllocError>
-    ensures { OnOk result (bytes.new.items ≡ bytes.old.items ++ written_header verbs.Message (codes "message-id", message_id command place)) }
+    ensures text { OnOk result (IsText (codes "message-id", message_id command place)) }
+    ensures line { OnOk result (bytes.new.items ≡ bytes.old.items ++ written_header verbs.Message (codes "message-id", message_id command place)) }
 {
     let (mut first, mut second) = (Buffer::new(), Buffer::new());
     bytes.extend_from_slice(b"message-id:")?;
@@ -99,8 +104,8 @@ fn write_id(bytes: &mut Vec<u8>, command: u64, place: u32) -> Result<(), AllocEr
 }
 
 impl Delivery {
-    ghost use Rattle.std.specs.Prelude.{◌≡◌, ◌<◌, ◌+◌, ◌^◌, ◌++◌, IfOk, OnOk, SomeIff, length};
-    ghost use Rattle.std.specs.List.{flat_map, sum_by};
+    ghost use Rattle.std.specs.Prelude.{◌≡◌, ◌<◌, ◌+◌, ◌^◌, ◌++◌, IfOk, OnOk, SomeIff, length, true};
+    ghost use Rattle.std.specs.List.{AllByRecursion, flat_map, sum_by};
 
     /// The bytes of the broker's own headers.
     fn own_bytes(&self) -> u64
@@ -139,7 +144,8 @@ impl Delivery {
 
     /// Appends the broker's own header lines.
     fn write_own(&self, alloc: Global, bytes: &mut Vec<u8>) -> Result<(), AllocError>
-        ensures { OnOk result (bytes.new.items ≡ bytes.old.items ++ flat_map (written_header verbs.Message) (own_of self.now)) }
+        ensures texts { OnOk result (AllByRecursion IsText (own_of self.now)) }
+        ensures lines { OnOk result (bytes.new.items ≡ bytes.old.items ++ flat_map (written_header verbs.Message) (own_of self.now)) }
     {
         let (verb, destination) = (Verb::Message, self.sending.destination());
         let length = self.sending.body().as_slice().len() as u64;
@@ -151,9 +157,21 @@ impl Delivery {
         write_number(alloc, bytes, Word::ContentLength, length)
     }
 
-    /// The bytes of its MESSAGE.
-    pub fn write(&self, alloc: Global) -> Result<Vec<u8>, AllocError>
-        ensures { IfOk result (λ bytes. bytes.items ≡ written (message_of self.now)) }
+    /// The bytes of its MESSAGE. They are known to be UTF-8 if its body is.
+    pub fn write(&self, alloc: Global) -> Result<Written, AllocError>
+        ensures bytes { IfOk result (λ it. it.bytes.items ≡ written (message_of self.now)) }
+        ensures text { IfOk result (λ it. it.is_text ≡ true → IsUtf8 it.bytes.items) }
+    {
+        let bytes = self.write_bytes(alloc)?;
+        Ok(Written {
+            bytes,
+            is_text: self.sending.is_text(),
+        })
+    }
+
+    fn write_bytes(&self, alloc: Global) -> Result<Vec<u8>, AllocError>
+        ensures bytes { IfOk result (λ bytes. bytes.items ≡ written (message_of self.now)) }
+        ensures text { IfOk result (λ bytes. IsUtf8 self.now.sending.body → IsUtf8 bytes.items) }
     {
         let mut bytes = Vec::with_capacity(alloc, self.room())?;
         bytes.extend_from_slice(b"MESSAGE\n")?;

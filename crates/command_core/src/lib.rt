@@ -23,6 +23,6 @@ pub use entry::Entry;
 pub use fault::{Fault, fault_text};
 pub use laws::spellings_begin_no_other;
 pub use member::{Member, Members};
-pub use output::Out;
-pub use replies::{connected_reply, error_reply, receipt_reply};
+pub use output::{Out, Written};
+pub use replies::{connected_reply, error_reply};
 pub use sizes::{member_size, op_size};

@@ -1,24 +1,36 @@
 //! What the broker answers.
 
-ghost use Rattle.std.specs.Prelude.{◌≡◌, ◌<◌, ◌^◌, None, Some, IfOk, MatchOption, SomeIff, codes};
+ghost use Rattle.std.specs.Prelude.{◌≡◌, ◌<◌, ◌^◌, None, Some, IfOk, MatchOption, SomeIff, codes, true};
+ghost use Rattle.std.specs.Str.{IsUtf8};
 ghost use Rattle.frame_core.specs.Writable.{Writable, first_of};
 ghost use Rattle.frame_core.specs.Written.{written};
 ghost use Rattle.frame_core.specs.declared.frame.Verb.TheVariants as verbs;
 ghost use Rattle.command_core.specs.Outs.{weight_of};
-ghost use Rattle.command_core.specs.Replies.{message_frame};
+ghost use Rattle.command_core.specs.Replies.{message_frame, receipt_frame};
 
 use crate::delivery::{Delivery, is_acknowledged};
+use crate::replies::write_receipt;
 use crate::weight::add_headers;
 use frame_core::{Frame, Verb, first, write_frame};
 use record_core::{HeaderText, Sending};
 use std::alloc::{AllocError, Global};
 use std::marker::Model;
 
-// What is told: a frame, or a MESSAGE in its parts, for which none is built.
+// What is told: a frame, or a RECEIPT or a MESSAGE in its parts, for which none is built.
 #[derive(Drop)]
 pub(crate) enum Content {
     Framed(Frame),
+    Receipt(HeaderText),
     Message(Delivery),
+}
+
+/// The bytes of a frame.
+#[derive(Drop)]
+pub struct Written {
+    /// These bytes.
+    pub bytes: Vec<u8>,
+    /// Whether they are known to be UTF-8.
+    pub is_text: bool,
 }
 
 /// An output: a frame that a command gives, and the session that it goes to. Contracts see it as its three parts. Its
@@ -93,6 +105,26 @@ impl Out {
         })
     }
 
+    /// The RECEIPT that was asked for with that text (STOMP 1.2, "RECEIPT").
+    ///
+    /// Takes memory for a box. If that is refused, the text is let go.
+    pub fn receipt(
+        alloc: Global,
+        number: u64,
+        session: u64,
+        id: HeaderText,
+    ) -> Result<Out, AllocError>
+        ensures { IfOk result (λ out. out ≡ record { number = number; session = session; frame = receipt_frame id }) }
+    {
+        let _id = id.as_str();
+        let content = Box::new(alloc, Content::Receipt(id))?;
+        Ok(Out {
+            number,
+            session,
+            content,
+        })
+    }
+
     /// The number of the command that gives it.
     pub fn number(&self) -> u64
         ensures { result ≡ self.now.number }
@@ -113,6 +145,7 @@ impl Out {
     {
         match &*self.content {
             Content::Framed(frame) => frame.verb,
+            Content::Receipt(_) => Verb::Receipt,
             Content::Message(_) => Verb::Message,
         }
     }
@@ -123,6 +156,7 @@ impl Out {
     {
         match &*self.content {
             Content::Framed(frame) => frame.body.as_slice(),
+            Content::Receipt(_) => &[],
             Content::Message(delivery) => delivery.sending.body().as_slice(),
         }
     }
@@ -138,7 +172,7 @@ impl Out {
                 Verb::Error => first(frame, "message"),
                 _ => None,
             },
-            Content::Message(_) => None,
+            Content::Receipt(_) | Content::Message(_) => None,
         }
     }
 
@@ -152,17 +186,32 @@ impl Out {
                 let body = frame.body.as_slice().len() as u64;
                 add_headers(body, frame.headers.as_slice())
             }
+            Content::Receipt(id) => Some(10 + id.as_str().len() as u64),
             Content::Message(delivery) => delivery.weight(),
         }
     }
 
     /// The bytes of its frame, which can be written.
-    pub fn write(&self, alloc: Global) -> Result<Vec<u8>, AllocError>
-        ensures bytes { IfOk result (λ bytes. bytes.items ≡ written self.now.frame) }
+    pub fn write(&self, alloc: Global) -> Result<Written, AllocError>
+        ensures bytes { IfOk result (λ it. it.bytes.items ≡ written self.now.frame) }
+        ensures text { IfOk result (λ it. it.is_text ≡ true → IsUtf8 it.bytes.items) }
         ensures form { Writable self.now.frame }
     {
         match &*self.content {
-            Content::Framed(frame) => write_frame(alloc, frame),
+            Content::Framed(frame) => {
+                let bytes = write_frame(alloc, frame)?;
+                Ok(Written {
+                    bytes,
+                    is_text: false,
+                })
+            }
+            Content::Receipt(id) => {
+                let bytes = write_receipt(alloc, id)?;
+                Ok(Written {
+                    bytes,
+                    is_text: true,
+                })
+            }
             Content::Message(delivery) => delivery.write(alloc),
         }
     }

@@ -2,13 +2,15 @@
 
 ghost use Rattle.std.specs.Prelude.{◌≡◌, ◌<◌, ◌≤◌, ◌^◌, ◌∷◌, ◌++◌, [], IfOk, IfSome, OnOk, codes, length};
 ghost use Rattle.std.specs.Fmt.{decimal};
+ghost use Rattle.std.specs.Str.{IsUtf8};
 ghost use Rattle.frame_core.specs.Words.{word_bytes};
 ghost use Rattle.frame_core.specs.Writable.{Writable};
+ghost use Rattle.frame_core.specs.Written.{written};
 ghost use Rattle.command_core.specs.Replies.{connected, error_frame, receipt_frame, receipt_header};
 ghost use Rattle.record_core.specs.Texts.{IsHeaderText};
 
 use crate::fault::{Fault, fault_text};
-use frame_core::{Bytes, Frame, Headers, Text, Verb, Word};
+use frame_core::{Bytes, Frame, Headers, Text, Verb, Word, write_header};
 use record_core::HeaderText;
 use std::alloc::{AllocError, Global};
 
@@ -29,8 +31,8 @@ fn add_text(
 ) -> Result<(), AllocError>
     ensures { OnOk result (headers.new.items ≡ headers.old.items ++ (word_bytes name, value.now) ∷ []) }
 {
-    let value = String::from_str(alloc, value)?;
-    add_header(headers, name, Text::new(value))
+    let value = Text::copy(alloc, value)?;
+    add_header(headers, name, value)
 }
 
 /// Adds a header whose value is a number in decimal.
@@ -62,18 +64,23 @@ pub fn connected_reply(alloc: Global, session: u64) -> Result<Frame, AllocError>
     })
 }
 
-/// The RECEIPT that was asked for with that text (STOMP 1.2, "RECEIPT").
-pub fn receipt_reply(alloc: Global, receipt: HeaderText) -> Result<Frame, AllocError>
-    ensures value { IfOk result (λ frame. frame ≡ receipt_frame receipt) }
-    ensures form { IfOk result (λ frame. Writable frame) }
+/// The bytes of the RECEIPT that was asked for with that text.
+pub(crate) fn write_receipt(alloc: Global, id: &HeaderText) -> Result<Vec<u8>, AllocError>
+    ensures bytes { IfOk result (λ bytes. bytes.items ≡ written (receipt_frame id.now)) }
+    ensures text { IfOk result (λ bytes. IsUtf8 bytes.items) }
 {
-    let mut headers = Vec::with_capacity(alloc, 1)?;
-    add_receipt(&mut headers, Some(receipt))?;
-    Ok(Frame {
-        verb: Verb::Receipt,
-        headers: Headers::new(headers),
-        body: Bytes::new(Vec::new(alloc)),
-    })
+    let id = id.as_str();
+    let mut bytes = Vec::with_capacity(alloc, id.len().saturating_mul(2).saturating_add(22))?;
+    bytes.extend_from_slice(b"RECEIPT\n")?;
+    write_header(
+        alloc,
+        &mut bytes,
+        Verb::Receipt,
+        Word::ReceiptId.as_str(),
+        id,
+    )?;
+    bytes.extend_from_slice(b"\n\0")?;
+    Ok(bytes)
 }
 
 fn add_receipt(

@@ -44,9 +44,9 @@ fn print_released(
 ) -> Result<(), AllocError>
     ensures { OnOk result (string_bytes text.new ≡ string_bytes text.old ++ line_for connection released.now.frame) }
 {
-    let bytes = released.write(alloc)?;
-    let printed = print_bytes(alloc, text, connection, bytes.as_slice());
-    drop(bytes);
+    let written = released.write(alloc)?;
+    let printed = print_bytes(alloc, text, connection, written.bytes.as_slice());
+    drop(written);
     printed
 }
 

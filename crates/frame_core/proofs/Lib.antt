@@ -20,4 +20,5 @@ pub mod NextLines
 pub mod Numbers
 pub mod Pieces
 pub mod Places
+pub mod Texts
 pub mod Writing

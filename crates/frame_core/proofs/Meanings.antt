@@ -109,7 +109,8 @@ high_meant (x ∷ p) q (b ∷ more) high h = elim (first_meant b more (x ∷ (p 
 char_utf8 : (c : ℕ) → scalar c ≡ true → IsUtf8 (encode c)
 char_utf8 c s = (c ∷ [], (and_from (scalar c) true s refl, append-nil (encode c)))
 
-ascii_utf8 : (b : ℕ) → b < 128 → IsUtf8 (b ∷ [])
+-- a byte of ASCII is UTF-8
+pub ascii_utf8 : (b : ℕ) → b < 128 → IsUtf8 (b ∷ [])
 ascii_utf8 b low = subst IsUtf8 (encode_ascii b low) (char_utf8 b (rw (lt-ltb b 55296 (omega arith)) refl))
 
 under_128 : (c : ℕ) → (c < 128) ⊎ (128 ≤ c)

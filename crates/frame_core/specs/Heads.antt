@@ -1,4 +1,5 @@
-use Rattle.std.specs.Prelude.{◌≡◌, ◌≢◌, ◌<◌, List, [], ◌∷◌, ◌++◌, ℕ, Bool, Option, Some, length, cond}
+use Rattle.std.specs.Prelude.{◌≡◌, ◌≢◌, ◌<◌, List, [], ◌∷◌, ◌++◌, ℕ, Bool, Option, None, Some, length, cond, Vec}
+use Rattle.std.specs.Global.{Global}
 use Rattle.std.specs.List.{AllByRecursion}
 use Rattle.std.specs.Str.{IsUtf8}
 use Rattle.escape_core.specs.Escapes.{unescaped}
@@ -32,6 +33,11 @@ pub record IsHeaderLine (line : HeaderLine) : Type 0 where
 -- what a name or value means under a command, if anything
 abbrev pub meaning : Verb → List ℕ → Option (List ℕ)
 meaning verb text = cond (is_raw verb) (Some text) (unescaped text)
+
+-- what is meant by bytes for which those others stand, if any do
+abbrev pub meant : List ℕ → Option (Vec ℕ Global) → List ℕ
+meant bytes None = bytes
+meant bytes (Some other) = other.items
 
 -- the line is a header of that name and value
 pub record IsHeaderOf (verb : Verb) (line : HeaderLine) (header : List ℕ × List ℕ) : Type 0 where

@@ -6,7 +6,7 @@ ghost use Rattle.std.specs.Str.{IsUtf8};
 ghost use Rattle.std.specs.Str.Parse.{IsNumeral};
 ghost use Rattle.frame_core.specs.declared.fault.FrameFault.TheVariants.{UndefinedEscape, BadHeaderValue};
 ghost use Rattle.frame_core.specs.Verbs.{name_of};
-ghost use Rattle.frame_core.specs.Heads.{IsInLine, meaning};
+ghost use Rattle.frame_core.specs.Heads.{IsInLine, meaning, meant};
 ghost use Rattle.frame_core.specs.Spelling.{IsNumber};
 ghost use Rattle.frame_core.specs.Parts.{Plans};
 ghost use Rattle.frame_core.specs.Stops.{IfFault, IsCommandFault, IsHeaderText, IsHeaderFault, IsPlanFault};
@@ -35,20 +35,20 @@ pub(crate) fn verb_of(line: &[u8]) -> Result<Verb, FrameFault>
     }
 }
 
-/// The bytes that a name or value means under a command.
-fn meaning_of(alloc: Global, verb: Verb, bytes: &[u8]) -> Result<Vec<u8>, Stop>
-    ensures ok { IfOk result (λ text. meaning verb bytes.now ≡ Some text.items) }
+/// The bytes that a name or value means under a command, if it has an escape. `None` says that it means itself.
+fn meaning_of(alloc: Global, verb: Verb, bytes: &[u8]) -> Result<Option<Vec<u8>>, Stop>
+    ensures ok { IfOk result (λ other. meaning verb bytes.now ≡ Some (meant bytes.now other)) }
     ensures fault { IfErr result (λ stop. IfFault stop (λ fault. (fault ≡ UndefinedEscape) × (meaning verb bytes.now ≡ None))) }
 {
     if verb.is_raw() {
-        return Ok(Vec::from_slice(alloc, bytes)?);
+        return Ok(None);
     }
-    // Most names and values have no escape, and are copied at once.
+    // Most names and values have no escape.
     if !has_byte(b'\\', bytes) {
-        return Ok(Vec::from_slice(alloc, bytes)?);
+        return Ok(None);
     }
     match unescape(alloc, bytes) {
-        Ok(text) => Ok(text),
+        Ok(text) => Ok(Some(text)),
         Err(EscapeFault::Undefined) => Err(Stop::Fault(FrameFault::UndefinedEscape)),
         Err(EscapeFault::Memory) => Err(Stop::Memory),
     }
@@ -62,6 +62,28 @@ fn text_of(bytes: Vec<u8>) -> Result<Text, Stop>
     match String::from_utf8(bytes) {
         Ok(text) => Ok(Text::new(text)),
         Err(_) => Err(Stop::Fault(FrameFault::BadHeaderValue)),
+    }
+}
+
+/// A copy of the bytes as a text.
+fn copy_of(alloc: Global, bytes: &[u8]) -> Result<Text, Stop>
+    ensures ok { IfOk result (λ text. (text ≡ bytes.now) × IsUtf8 bytes.now) }
+    ensures fault { IfErr result (λ stop. IfFault stop (λ fault. (fault ≡ BadHeaderValue) × (IsUtf8 bytes.now → ⊥))) }
+{
+    match str::from_utf8(bytes) {
+        Ok(text) => Ok(Text::copy(alloc, text)?),
+        Err(_) => Err(Stop::Fault(FrameFault::BadHeaderValue)),
+    }
+}
+
+/// What a name or value means, as a text: the other bytes, if it has an escape.
+fn meant_text(alloc: Global, bytes: &[u8], other: Option<Vec<u8>>) -> Result<Text, Stop>
+    ensures ok { IfOk result (λ text. (text ≡ meant bytes.now other) × IsUtf8 (meant bytes.now other)) }
+    ensures fault { IfErr result (λ stop. IfFault stop (λ fault. (fault ≡ BadHeaderValue) × (IsUtf8 (meant bytes.now other) → ⊥))) }
+{
+    match other {
+        None => copy_of(alloc, bytes),
+        Some(other) => text_of(other),
     }
 }
 
@@ -87,10 +109,10 @@ pub(crate) fn header_of(alloc: Global, verb: Verb, line: &[u8]) -> Result<(Text,
     let Some((name, value)) = cut_at_colon(line) else {
         return Err(Stop::Fault(FrameFault::Malformed));
     };
-    let name = meaning_of(alloc, verb, name)?;
-    let value = meaning_of(alloc, verb, value)?;
-    let name = text_of(name)?;
-    let value = text_of(value)?;
+    let other_name = meaning_of(alloc, verb, name)?;
+    let other_value = meaning_of(alloc, verb, value)?;
+    let name = meant_text(alloc, name, other_name)?;
+    let value = meant_text(alloc, value, other_value)?;
     Ok((name, value))
 }
 

@@ -4,21 +4,26 @@ ghost use Rattle.std.specs.Prelude.{◌≡◌, IfOk, string_bytes};
 ghost use Rattle.frame_core.specs.Words.{word_bytes};
 
 use crate::word::Word;
+use arrayvec::ArrayString;
 use std::alloc::{AllocError, Global};
 use std::cmp::Ordering;
 use std::marker::Model;
 use std::sync::Arc;
 
-// How a text is kept: as a word of the broker, a string of its own, or one that several texts share.
+/// The longest text that stands in the value itself. Most names, destinations and receipts are shorter.
+const INLINE_BYTES: usize = 24;
+
+// How a text is kept: as a word of the broker, in the value itself, as a string of its own, or as one that several texts share.
 #[derive(Drop)]
 pub(crate) enum TextForm {
     Written(Word),
+    Inline(ArrayString<INLINE_BYTES>),
     Own(String),
     Shared(Arc<String>),
 }
 
 /// A text in UTF-8. Contracts see it as the list of its bytes. A clone copies these bytes, unless they are a word of the broker or
-/// shared.
+/// shared, and takes no memory for one of up to 24 bytes that was made by `copy`.
 pub struct Text {
     form: TextForm,
 }
@@ -39,6 +44,18 @@ impl Text {
     {
         Text {
             form: TextForm::Own(text),
+        }
+    }
+
+    /// A copy of a text. One of up to 24 bytes takes no memory.
+    pub fn copy(alloc: Global, text: &str) -> Result<Text, AllocError>
+        ensures { IfOk result (λ copy. copy ≡ text.now) }
+    {
+        match ArrayString::from(text) {
+            Ok(text) => Ok(Text {
+                form: TextForm::Inline(text),
+            }),
+            Err(_) => Ok(Text::new(String::from_str(alloc, text)?)),
         }
     }
 
@@ -73,6 +90,7 @@ impl Text {
     {
         match &self.form {
             TextForm::Written(word) => word.as_str(),
+            TextForm::Inline(text) => text.as_str(),
             TextForm::Own(text) => text.as_str(),
             TextForm::Shared(text) => text.as_str(),
         }
@@ -95,6 +113,7 @@ impl Clone for Text {
     fn clone(&self) -> Result<Text, AllocError> {
         let form = match &self.form {
             TextForm::Written(word) => TextForm::Written(*word),
+            TextForm::Inline(text) => TextForm::Inline(*text),
             TextForm::Own(text) => TextForm::Own(text.clone()?),
             TextForm::Shared(text) => TextForm::Shared(text.clone()?),
         };

@@ -132,7 +132,8 @@ pub fn write_header(
     name: &str,
     value: &str,
 ) -> Result<(), AllocError>
-    ensures { OnOk result (bytes.new.items ≡ bytes.old.items ++ written_header verb (name.now, value.now)) }
+    ensures line { OnOk result (bytes.new.items ≡ bytes.old.items ++ written_header verb (name.now, value.now)) }
+    ensures text { OnOk result (IsText (name.now, value.now)) }
 {
     if verb.is_raw() {
         bytes.extend_from_slice(name.as_bytes())?;

@@ -76,10 +76,8 @@ impl Dest {
         if !is_destination(text) {
             return Err(DestFault::Bad);
         }
-        let text = String::from_str(alloc, text).map_err(DestFault::Memory)?;
-        Ok(Dest {
-            text: Text::new(text),
-        })
+        let text = Text::copy(alloc, text).map_err(DestFault::Memory)?;
+        Ok(Dest { text })
     }
 
     /// The destination as it is written, with `/topic/` or `/queue/`.

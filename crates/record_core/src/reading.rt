@@ -94,7 +94,7 @@ pub fn read_text(alloc: Global, bytes: &[u8]) -> Result<(HeaderText, &[u8]), Dec
     ensures { Gives (λ x. (x.0, x.1.now)) result (text_at bytes.now) }
 {
     let (text, rest) = read_str(bytes)?;
-    let text = Text::new(String::from_str(alloc, text)?);
+    let text = Text::copy(alloc, text)?;
     Ok((HeaderText::new(text), rest))
 }
 
@@ -175,8 +175,8 @@ fn read_header(alloc: Global, bytes: &[u8]) -> Result<((Text, Text), &[u8]), Dec
     if !is_kept_named(name) {
         return Err(DecodeFault::NoSpelling);
     }
-    let name = Text::new(String::from_str(alloc, name)?);
-    let value = Text::new(String::from_str(alloc, value)?);
+    let name = Text::copy(alloc, name)?;
+    let value = Text::copy(alloc, value)?;
     Ok(((name, value), rest))
 }
 

@@ -1,6 +1,8 @@
 //! What a SEND asks for.
 
-ghost use Rattle.std.specs.Prelude.{◌≡◌, ◌≤◌, IfOk, length};
+ghost use Rattle.std.specs.Prelude.{◌≡◌, ◌≤◌, IfOk, IsTrue, length};
+ghost use Rattle.std.specs.Str.{IsUtf8};
+ghost use Rattle.record_core.specs.Forms.{KnowsText, of_parts};
 ghost use Rattle.std.specs.List.{AllByRecursion};
 ghost use Rattle.record_core.specs.Sendings.{IsKept, IsSending, is_kept};
 
@@ -16,6 +18,8 @@ pub(crate) struct Parts {
     destination: Dest,
     headers: Headers,
     body: Bytes,
+    // Whether the body is known to be UTF-8.
+    is_text: bool,
 }
 
 // How what is sent is kept: in parts of its own, or in some that several share.
@@ -33,14 +37,25 @@ pub struct Sending {
 }
 
 impl Model for Sending {
-    ghost use Rattle.record_core.specs.Forms.{sending_of};
+    ghost use Rattle.record_core.specs.Forms.{KnowsText, parts_of, sending_of};
     ghost use Rattle.record_core.specs.Sendings.{SendingValue, IsSending};
 
     ghost Value = { SendingValue };
 
     ghost view = { λ a. sending_of a.form };
 
-    ghost invariant = { λ a. IsSending (sending_of a.form) };
+    ghost invariant = { λ a. IsSending (sending_of a.form) × KnowsText (parts_of a.form) };
+}
+
+impl Parts {
+    // The same parts, of which it is known whether the body is UTF-8.
+    fn looked_at(self) -> Parts
+        ensures value { of_parts result ≡ of_parts self }
+        ensures text { KnowsText result }
+    {
+        let is_text = str::from_utf8(self.body.as_slice()).is_ok();
+        Parts { is_text, ..self }
+    }
 }
 
 /// Whether a message keeps the headers of that name. It doesn't keep those that the broker has used up, or writes
@@ -73,6 +88,7 @@ impl Sending {
             destination,
             headers,
             body,
+            is_text: false,
         };
         Sending {
             form: SendingForm::Own(parts),
@@ -112,14 +128,25 @@ impl Sending {
         }
     }
 
-    /// The same, whose clones share it from now on. If memory is refused for that, it is gone.
+    /// Whether the body is known to be UTF-8. Only of what was shared that is known.
+    pub fn is_text(&self) -> bool
+        ensures { IsTrue result → IsUtf8 self.now.body }
+    {
+        match &self.form {
+            SendingForm::Own(parts) => parts.is_text,
+            SendingForm::Shared(parts) => parts.is_text,
+        }
+    }
+
+    /// The same, whose clones share it from now on. Whether its body is UTF-8 is looked at once, here. If memory is refused for
+    /// that, it is gone.
     pub fn share(self, alloc: Global) -> Result<Sending, AllocError>
         ensures { IfOk result (λ shared. shared ≡ self) }
     {
         let Sending { form } = self;
         match form {
             SendingForm::Own(parts) => {
-                let parts = Arc::new(alloc, parts)?;
+                let parts = Arc::new(alloc, parts.looked_at())?;
                 Ok(Sending {
                     form: SendingForm::Shared(parts),
                 })
@@ -171,6 +198,7 @@ fn copy_parts(parts: &Parts) -> Result<Parts, AllocError>
         destination,
         headers,
         body,
+        is_text: parts.is_text,
     })
 }
 

@@ -17,8 +17,8 @@ pub fn text(alloc: Global, value: &str) -> Result<HeaderText, AllocError>
     requires { IsHeaderText value.now }
     ensures { IfOk result (λ kept. kept ≡ value.now) }
 {
-    let value = String::from_str(alloc, value)?;
-    Ok(HeaderText::new(Text::new(value)))
+    let value = Text::copy(alloc, value)?;
+    Ok(HeaderText::new(value))
 }
 
 /// The text of the first header of that name, to be kept.

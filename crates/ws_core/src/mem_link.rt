@@ -97,8 +97,8 @@ impl Outgoing for MemLink {
         if self.over {
             return Err(LinkFault::Gone);
         }
-        let bytes = released.write(alloc).map_err(|_| LinkFault::Memory)?;
-        self.keep(bytes)
+        let written = released.write(alloc).map_err(|_| LinkFault::Memory)?;
+        self.keep(written.bytes)
     }
 
     fn flush(&mut self) -> Result<bool, LinkFault>

@@ -1,6 +1,7 @@
 //! The messages that carry a STOMP stream, and the frames that close it.
 
 ghost use Rattle.std.specs.Prelude.{◌≡◌, ◌≢◌, ◌<◌, ◌≤◌, IfOk, IfErr, OnOk, IsTrue, [], false, true, ◌⊎◌, Some, OnErr, not};
+ghost use Rattle.std.specs.Str.{IsUtf8};
 ghost use Rattle.tungstenite.specs.Failure.{IsIo};
 ghost use Rattle.tungstenite.specs.declared.error.Error.TheVariants.{OutOfMemory};
 ghost use Rattle.tungstenite.specs.Socket.{content_of, Flushed, Writes};
@@ -13,7 +14,8 @@ ghost use Rattle.ws_core.specs.Sending.{IsMessageOf};
 use crate::closing::CloseReason;
 use crate::fault::LinkFault;
 use crate::link::Received;
-use std::alloc::Global;
+use command_core::Written;
+use std::alloc::{AllocError, Global};
 use std::io;
 use std::io::{ErrorKind, Read, Write};
 use tungstenite::{Bytes, CloseCode, CloseFrame, Error, Message, NoMask, Utf8Bytes, WebSocket};
@@ -34,8 +36,8 @@ pub fn hear<S: Read + Write + Drop>(
     ensures rest { result ≡ Received.Failed → held_up.new ≡ false → socket.new.output ≡ [] }
 {
     match socket.read() {
-        Ok(Message::Text(text)) => bytes_of(alloc, text.as_str().as_bytes()),
-        Ok(Message::Binary(bytes)) => bytes_of(alloc, bytes.as_slice()),
+        Ok(Message::Text(text)) => bytes_of(alloc, text.into_bytes()),
+        Ok(Message::Binary(bytes)) => bytes_of(alloc, bytes),
         Ok(Message::Ping(_)) | Ok(Message::Pong(_)) => Received::Skipped,
         // The answer to it waits in the socket.
         Ok(Message::Close(_)) => said(flush(socket), held_up),
@@ -134,12 +136,23 @@ fn say_failure<S: Read + Write + Drop>(
     }
 }
 
-fn bytes_of(alloc: Global, bytes: &[u8]) -> Received
-    ensures { Holds result bytes.now }
+// The bytes of a message. They are nobody else's, so they move, and no memory is taken.
+fn bytes_of(alloc: Global, bytes: Bytes) -> Received
+    ensures { Holds result bytes }
 {
-    match bytes.to_vec(alloc) {
+    match vec_of(alloc, bytes) {
         Ok(bytes) => Received::Bytes(bytes),
         Err(_) => Received::Closed,
+    }
+}
+
+// The bytes as a vector; a copy if others share them.
+fn vec_of(alloc: Global, bytes: Bytes) -> Result<Vec<u8>, AllocError>
+    ensures { IfOk result (λ vec. vec.items ≡ bytes) }
+{
+    match bytes.try_into_mut() {
+        Ok(bytes) => bytes.into_vec().map_err(|_| AllocError),
+        Err(bytes) => bytes.as_slice().to_vec(alloc),
     }
 }
 
@@ -169,12 +182,17 @@ fn failure_code(error: &Error) -> Option<u16>
     }
 }
 
-// A text if the bytes are UTF-8, or else binary.
-pub fn message_of(bytes: Vec<u8>) -> Result<Message, LinkFault>
-    ensures ok { IfOk result (λ message. IsMessageOf bytes.items (content_of message)) }
+// A text if the bytes are UTF-8, or else binary. They are looked at unless they are known to be.
+pub fn message_of(written: Written) -> Result<Message, LinkFault>
+    requires { written.is_text ≡ true → IsUtf8 written.bytes.items }
+    ensures ok { IfOk result (λ message. IsMessageOf written.bytes.items (content_of message)) }
     ensures err { IfErr result (λ fault. fault ≡ LinkFault.Memory) }
 {
+    let Written { bytes, is_text } = written;
     let bytes = Bytes::from_vec(bytes).map_err(|_| LinkFault::Memory)?;
+    if is_text {
+        return Ok(Message::Text(Utf8Bytes::from_known_utf8(bytes)));
+    }
     match Utf8Bytes::from_utf8(bytes) {
         Ok(text) => Ok(Message::Text(text)),
         Err(error) => Ok(Message::Binary(error.bytes)),

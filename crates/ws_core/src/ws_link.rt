@@ -11,6 +11,7 @@ use crate::phase::Phase;
 use crate::stream::Ending;
 use crate::unfed::Unfed;
 use claim_core::Released;
+use command_core::Written;
 use frame_core::write_frame;
 use session_core::Notice;
 use std::alloc::Global;
@@ -82,7 +83,8 @@ fn limits() -> WebSocketConfig
 }
 
 impl<S: Read + Write + Drop> WsLink<S> {
-    ghost use Rattle.std.specs.Prelude.{◌≡◌, ◌≢◌, OnOk, IfErr};
+    ghost use Rattle.std.specs.Prelude.{◌≡◌, ◌≢◌, OnOk, IfErr, true};
+    ghost use Rattle.std.specs.Str.{IsUtf8};
     ghost use Rattle.tungstenite.specs.Socket.{content_of};
     ghost use Rattle.tungstenite.specs.declared.error.Error.TheVariants.{OutOfMemory};
     ghost use Rattle.ws_core.specs.declared.phase.Phase.TheVariants.{Open, Over};
@@ -116,12 +118,13 @@ impl<S: Read + Write + Drop> WsLink<S> {
     }
 
     // Sends bytes as one message. The traits call it, so that they are those of a frame that was released, or of a notice.
-    fn send_bytes(&mut self, bytes: Vec<u8>) -> Result<(), LinkFault>
-        requires { self.old.phase ≡ Open }
-        ensures sends { OnOk result (Sends S.contents bytes.items self.old self.new) }
+    fn send_bytes(&mut self, written: Written) -> Result<(), LinkFault>
+        requires open { self.old.phase ≡ Open }
+        requires text { written.is_text ≡ true → IsUtf8 written.bytes.items }
+        ensures sends { OnOk result (Sends S.contents written.bytes.items self.old self.new) }
         ensures refuses { IfErr result (Refuses self.old self.new) }
     {
-        let message = message_of(bytes)?;
+        let message = message_of(written)?;
         self.put(message)
     }
 
@@ -188,8 +191,8 @@ impl<S: Read + Write + Drop> Outgoing for WsLink<S> {
         if self.phase != Phase::Open {
             return Err(LinkFault::Gone);
         }
-        let bytes = released.write(alloc).map_err(|_| LinkFault::Memory)?;
-        self.send_bytes(bytes)
+        let written = released.write(alloc).map_err(|_| LinkFault::Memory)?;
+        self.send_bytes(written)
     }
 
     fn flush(&mut self) -> Result<bool, LinkFault>
@@ -270,7 +273,10 @@ impl<S: Read + Write + Ending + Drop> Link for WsLink<S> {
             return Err(LinkFault::Gone);
         }
         let bytes = write_frame(alloc, notice.frame()).map_err(|_| LinkFault::Memory)?;
-        self.send_bytes(bytes)
+        self.send_bytes(Written {
+            bytes,
+            is_text: false,
+        })
     }
 
     fn ping(&mut self) -> Result<(), LinkFault>

@@ -8,4 +8,4 @@ use Rattle.command_core.proofs.output.Out.write.Goals as goal
 pub returns-in-Message-clause-bytes : goal.returns-in-Message-clause-bytes
 returns-in-Message-clause-bytes c =
     let same : c.args.self.now.frame ≡ message_of c.in-Message.delivery = search rules in
-    subst (λ (f : Frame). IfOk c.write.result (λ bytes. bytes.items ≡ written f)) (sym same) c.write.ensures
+    subst (λ (f : Frame). IfOk c.write.result (λ it. it.bytes.items ≡ written f)) (sym same) c.write.ensures.bytes

@@ -4,5 +4,5 @@ use Rattle.record_core.proofs.destination.Dest.read.Goals as goal
 
 pub invariant_of-result : goal.invariant_of-result
 invariant_of-result c =
-    let same : c.new.result ≡ c.args.text.now = search rules in
+    let same : c.in_ok-text.text ≡ c.args.text.now = search rules in
     subst IsDestination (sym same) (search rules)
