@@ -89,7 +89,7 @@ def tell_rate(text, name, unit, loads):
     more = f"best, {middle:,.0f} median; receipt {best['receipt_median_us']:,.0f} us median, {best['receipt_99th_us']:,.0f} 99th"
     refused = sum(load.figures.get("refused_handshakes", 0) for load in loads)
     more += f"; {refused:.0f} handshakes refused" if refused else ""
-    tell(text, f"{best[name]:,.0f}", unit, f" {more}; processors: server {best.server_busy:.2f}, load {best.busy:.2f}")
+    tell(text, f"{best[name]:,.0f}", unit, f" {more}; {best.used(best[name])}")
     return best[name]
 
 
