@@ -14,7 +14,8 @@
 //
 // What comes back is compared with what has to come: receipts in order, each message once. What is not so ends the program
 // with status 1. LOAD_SEND in the environment are more header lines of each SEND, each with its line end; client.h has what
-// else is said there. bench/beside_rabbitmq.py loads another broker so.
+// else is said there. bench/beside_rabbitmq.py loads another broker so. What is measured for a time tells when that begins and
+// ends, at once, so that bench/serving.py sees what the server took meanwhile.
 
 #include "client.h"
 
@@ -72,6 +73,32 @@ static int is_measured(double time) {
     return time >= measuring_from && time < measuring_to;
 }
 
+static void tell_at_once(const char *name) {
+    tell(name, now());
+    fflush(stdout);
+}
+
+// In a second the measured time begins, of so many seconds.
+static void begin_to_measure(double seconds) {
+    measuring_from = now() + 1;
+    measuring_to = measuring_from + seconds;
+}
+
+// Whether the measured time is not over. Tells that it has begun, and that it is over.
+static int still_measures(void) {
+    static int has_begun;
+    double time = now();
+    if (!has_begun && time >= measuring_from) {
+        has_begun = 1;
+        tell_at_once("measured_from");
+    }
+    if (time >= measuring_to) {
+        tell_at_once("measured_to");
+        is_ending = 1;
+    }
+    return !is_ending;
+}
+
 // Takes a receipt, which has to be the next one of its connection.
 static double take_receipt(struct connection *one, const char *frame, size_t length) {
     if (!starts(frame, length, "RECEIPT\n") || number_of(frame, length, "\nreceipt-id:") != one->given) {
@@ -105,12 +132,10 @@ static int all_given(void) {
 }
 
 static void measure_for(double seconds) {
-    measuring_from = now() + 1;
-    measuring_to = measuring_from + seconds;
-    while (now() < measuring_to) {
+    begin_to_measure(seconds);
+    while (still_measures()) {
         pump(20);
     }
-    is_ending = 1;
 }
 
 static int in_flight;
@@ -143,6 +168,7 @@ static void on_lone_receipt(struct connection *one, const char *frame, size_t le
 static void latency(long count, long pause, const char *destination) {
     on_message = on_lone_receipt;
     measuring_to = 1e300;
+    tell_at_once("measured_from");
     for (long number = 0; number < count; number++) {
         add_send(&connections[0], destination, number);
         write_all();
@@ -151,6 +177,7 @@ static void latency(long count, long pause, const char *destination) {
             usleep(pause);
         }
     }
+    tell_at_once("measured_to");
     tell_times("receipt", samples, sample_count);
 }
 
@@ -246,13 +273,11 @@ static int all_heard(void) {
 static void fan_out(double seconds) {
     subscribe(1, connection_count, "/topic/room", "auto");
     on_message = on_fanned;
-    measuring_from = now() + 1;
-    measuring_to = measuring_from + seconds;
-    while (now() < measuring_to) {
+    begin_to_measure(seconds);
+    while (still_measures()) {
         send_ahead();
         pump(20);
     }
-    is_ending = 1;
     wait_for(all_heard, "the last messages");
     tell("messages_a_second", heard_messages / seconds);
     tell("sends_a_second", counted / seconds);
@@ -295,16 +320,14 @@ static void work_queue(double seconds) {
     done = calloc(JOBS, 1);
     subscribe(producers, connection_count, "/queue/jobs", "client-individual");
     on_message = on_job;
-    measuring_from = now() + 1;
-    measuring_to = measuring_from + seconds;
-    while (now() < measuring_to) {
+    begin_to_measure(seconds);
+    while (still_measures()) {
         for (int at = 0; at < producers; at++) {
             send_jobs(&connections[at]);
         }
         write_all();
         pump(1);
     }
-    is_ending = 1;
     wait_for(all_jobs_done, "the last jobs");
     see_acknowledged(producers);
     tell("jobs_a_second", heard_messages / seconds);

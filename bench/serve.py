@@ -36,6 +36,11 @@ CLIENTS, EACH = 10, 1_000
 NAMES, PER_CONNECTION = 256, 16
 # How many SENDs to them, and how many COMMITs of how many SENDs.
 SENDS, COMMITS, MEMBERS = 20, 3, 16
+# The loads in which growths of memory are counted, and the figure of what has them.
+GROWTHS = {
+    "growths_message": ("growths of memory, a message to 16 subscribers", ("fanout", 16), "messages_a_second"),
+    "growths_send": ("growths of memory, a SEND with its receipt", ("receipts", 31, 8), "receipts_a_second"),
+}
 
 
 class Bench:
@@ -89,7 +94,7 @@ def tell_rate(text, name, unit, loads):
     more = f"best, {middle:,.0f} median; receipt {best['receipt_median_us']:,.0f} us median, {best['receipt_99th_us']:,.0f} 99th"
     refused = sum(load.figures.get("refused_handshakes", 0) for load in loads)
     more += f"; {refused:.0f} handshakes refused" if refused else ""
-    tell(text, f"{best[name]:,.0f}", unit, f" {more}; processors: server {best.server_busy:.2f}, load {best.busy:.2f}")
+    tell(text, f"{best[name]:,.0f}", unit, f" {more}; {best.used(best[name])}")
     return best[name]
 
 
@@ -233,20 +238,20 @@ def idle(bench):
     tell("64 idle connections, of one processor", f"{load.server_busy * 100:,.2f}", "%", f" over {load.seconds:.0f} s")
 
 
-def growths(bench):
-    """How often memory grows, by malloc or realloc, for each thing that is done."""
+def grown(bench, server, words, name):
+    """How often memory grows, by malloc or realloc, for each thing that is done. `server` starts one with an environment."""
     counted = bench.seen.with_name("growths")
-    for text, words, name in (
-        ("growths of memory, a message to 16 subscribers", ("fanout", 16), "messages_a_second"),
-        ("growths of memory, a SEND with its receipt", ("receipts", 31, 8), "receipts_a_second"),
-    ):
-        counted.write_bytes(bytes(8))
-        with bench.server({**os.environ, "LD_PRELOAD": str(bench.counting), "COUNTED": str(counted)}) as server:
-            before = int.from_bytes(counted.read_bytes(), "little")
-            load = Load(bench.load, server, *words, bench.seconds)
-            grown = int.from_bytes(counted.read_bytes(), "little") - before
+    counted.write_bytes(bytes(8))
+    with server({**os.environ, "LD_PRELOAD": str(bench.counting), "COUNTED": str(counted)}) as running:
+        before = int.from_bytes(counted.read_bytes(), "little")
+        load = Load(bench.load, running, *words, bench.seconds)
         # The load begins a second before it is measured.
-        tell(text, f"{grown / (load[name] * (bench.seconds + 1)):,.1f}", "each", " (the connections' own counted)")
+        return (int.from_bytes(counted.read_bytes(), "little") - before) / (load[name] * (bench.seconds + 1))
+
+
+def growths(bench):
+    for text, words, name in GROWTHS.values():
+        tell(text, f"{grown(bench, bench.server, words, name):,.1f}", "each", " (the connections' own counted)")
 
 
 def listeners(port):

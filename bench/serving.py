@@ -12,6 +12,8 @@ from lib.scenario import child_of, free_port, processor_seconds_of
 from measuring import HERE, cpu_seconds
 
 HEADER = 32
+# What the load generator prints when the time that it measures begins and ends.
+MOMENTS = ("measured_from", "measured_to")
 
 
 def build_load(folder):
@@ -85,22 +87,43 @@ class Server:
 
 
 class Load:
-    """The load generator, against one server or none. `figures` are what it printed."""
+    """The load generator, against one server or none. `figures` are what it printed, `measured` how many seconds it measured."""
 
     def __init__(self, built, server, *words, environment=None):
-        used, begun = cpu_seconds(), time.perf_counter()
-        served = server.cpu() if server else 0
+        self.server, self.figures = server, {}
         mode, *rest = (str(word) for word in words)
         place = [str(server.port)] if server else []
-        done = subprocess.run([built, mode, *place, *rest], capture_output=True, text=True, check=False, env=environment)
-        if done.returncode != 0:
+        before, begun = cpu_seconds(), time.perf_counter()
+        looks = [(begun, 0, server.cpu() if server else 0)]
+        with subprocess.Popen([built, mode, *place, *rest], stdout=subprocess.PIPE, stderr=subprocess.PIPE, text=True, env=environment) as process:
+            for name, value in (line.split(" ") for line in process.stdout):
+                if name in MOMENTS:
+                    looks.append(self._look(processor_seconds_of(process.pid)))
+                else:
+                    self.figures[name] = float(value)
+            told = process.stderr.read()
+        if process.returncode != 0:
             ended = server and server.process.poll() is not None
-            sys.exit(f"{words}: {done.stderr.strip()}" + (f"; the server ended: {server.process.stderr.read()}" if ended else ""))
-        self.seconds = time.perf_counter() - begun
-        # Processors that the load generator and the server kept busy.
-        self.busy = (cpu_seconds() - used) / self.seconds
-        self.server_busy = (server.cpu() - served) / self.seconds if server else 0
-        self.figures = {name: float(value) for name, value in (line.split(" ") for line in done.stdout.splitlines())}
+            sys.exit(f"{words}: {told.strip()}" + (f"; the server ended: {server.process.stderr.read()}" if ended else ""))
+        looks.append(self._look(cpu_seconds() - before))
+        self.seconds = looks[-1][0] - begun
+        # Without a measured time all of it counts.
+        first, last = looks[1:-1] or looks
+        self.measured = last[0] - first[0]
+        # Processors that the load generator and the server kept busy meanwhile.
+        self.busy, self.server_busy = ((last[at] - first[at]) / self.measured for at in (1, 2))
+
+    def _look(self, own):
+        """The time, and the processor seconds of the load generator and of the server."""
+        return time.perf_counter(), own, self.server.cpu() if self.server else 0
 
     def __getitem__(self, name):
         return self.figures[name]
+
+    def cost(self, rate):
+        """Microseconds of the server's processors for each of what came at that rate."""
+        return self.server_busy / rate * 1e6
+
+    def used(self, rate):
+        """What of the processors was used for what came at that rate, in words."""
+        return f"processors: server {self.server_busy:.2f}, load {self.busy:.2f}; {self.cost(rate):,.1f} us of the server's each"

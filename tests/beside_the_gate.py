@@ -54,6 +54,7 @@ SCRIPTS = [
     Script("tests/program/telling.py", light=""),
     Script("tests/program/serve_script.py", light="--few"),
     Script("tests/program/logins.py", light=""),
+    Script("tests/program/picture.py", light=""),
     Script("tests/program/trace_format.sh"),
     Script("tests/program/trace_serve.py"),
     Script("tests/program/failing_disk.py"),
