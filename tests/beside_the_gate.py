@@ -78,6 +78,7 @@ SCRIPTS = [
     Script("tests/program/crowd.py", "--many"),
     Script("tests/program/slow_reader.py"),
     Script("tests/program/steady_readers.py", light="", waits=True),
+    Script("tests/program/starved_readers.py"),
     Script("tests/program/waiting_queue.py", light=""),
     Script("tests/program/unread.py", light=""),
     Script("tests/program/rubbish.py", light=""),

@@ -1,7 +1,7 @@
 #!/usr/bin/env python3
 """Subscribers that read all that comes stay, while one client sends as fast as the server takes it, and other programs keep all processors
 busy: the flusher waits for workers that get no processor, and does not fill the boxes of their clients. In the second scenario the worker of all
-subscribers is the only one that comes after these programs, so that the flusher and the sender's worker are far quicker.
+subscribers is the only one that comes after these programs, so that the flusher and the sender's worker are far quicker. Needs four processors.
 
     python3 tests/program/starved_readers.py [PROGRAM]
 """
@@ -29,6 +29,8 @@ TOPIC = "/topic/starved"
 BEGIN = b"MESSAGE\n"
 # How much the worker of all subscribers comes after others (nice), and for how many seconds they may go on to read what it has kept.
 AFTER, REST = 5, 20
+# With fewer processors that worker may get none for longer than it is waited for.
+LEAST = 4
 
 
 @contextlib.contextmanager
@@ -163,4 +165,7 @@ def read_while_their_worker_starves(broker, checks):
 
 
 if __name__ == "__main__":
+    if len(os.sched_getaffinity(0)) < LEAST:
+        print(f"starved_readers: needs {LEAST} processors", file=sys.stderr)
+        sys.exit(2)
     sys.exit(scenario.run(__doc__, [read_while_starved, read_while_their_worker_starves]))
