@@ -15,10 +15,10 @@ use crate::output::Written;
 use crate::weight::add_headers;
 use frame_core::{Verb, Word, write_header, write_headers};
 use itoa::Buffer;
-use record_core::{HeaderText, Sending};
+use record_core::{HeaderText, SharedSending};
 use std::alloc::{AllocError, Global};
 
-// What is delivered to whom: no frame is built for it. Of a message that is shared it copies nothing.
+// What is delivered to whom: no frame is built for it. It shares its message with other deliveries.
 #[derive(Drop)]
 pub(crate) struct Delivery {
     pub subscription: HeaderText,
@@ -27,7 +27,7 @@ pub(crate) struct Delivery {
     pub place: u32,
     // The number by which it is acknowledged, if it is to be.
     pub delivery: Option<u64>,
-    pub sending: Sending,
+    pub sending: SharedSending,
 }
 
 /// Whether a delivery is to be acknowledged, by a number that fits.

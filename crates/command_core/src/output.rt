@@ -37,7 +37,7 @@ pub struct Written {
 /// frame can be written.
 ///
 /// It takes 24 bytes where it waits, since what it tells is in a box. A MESSAGE is kept in its parts there, and shares its message with
-/// other deliveries if that is shared.
+/// other deliveries.
 #[derive(Drop)]
 pub struct Out {
     number: u64,
@@ -74,7 +74,8 @@ impl Out {
     /// The MESSAGE that gives what was sent to a subscription of that id (STOMP 1.2, "MESSAGE"). The message's number is
     /// that of its command and its place there. `delivery` is the number by which it is acknowledged, if it is to be.
     ///
-    /// Takes memory for a box, and for the id if that isn't shared. If it is refused, the message is let go.
+    /// Takes memory for a box, for the id if that isn't shared, and for the message if that isn't. If it is refused, the message is
+    /// let go.
     pub fn message(
         alloc: Global,
         number: u64,
@@ -88,6 +89,7 @@ impl Out {
         ensures { IfOk result (λ out. out ≡ record { number = number; session = session; frame = message_frame subscription.now command place delivery sending }) }
     {
         let subscription = subscription.clone()?;
+        let sending = sending.into_shared(alloc)?;
         let (_name, _destination) = (subscription.as_str(), sending.destination());
         let _fits = is_acknowledged(delivery);
         let delivery = Delivery {

@@ -24,6 +24,6 @@ pub use reading::{
     read_byte, read_destination, read_mode, read_name, read_optional, read_sending, read_text,
     read_u32, read_u64,
 };
-pub use sending::{Sending, is_kept_name};
+pub use sending::{Sending, SharedSending, is_kept_name};
 pub use sizes::{option_size, sending_size, text_size};
 pub use writing::{mode_byte, put_destination, put_optional, put_sending, put_text};

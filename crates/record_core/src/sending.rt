@@ -128,16 +128,6 @@ impl Sending {
         }
     }
 
-    /// Whether the body is known to be UTF-8. Only of what was shared that is known.
-    pub fn is_text(&self) -> bool
-        ensures { IsTrue result → IsUtf8 self.now.body }
-    {
-        match &self.form {
-            SendingForm::Own(parts) => parts.is_text,
-            SendingForm::Shared(parts) => parts.is_text,
-        }
-    }
-
     /// The same, whose clones share it from now on. Whether its body is UTF-8 is looked at once, here. If memory is refused for
     /// that, it is gone.
     pub fn share(self, alloc: Global) -> Result<Sending, AllocError>
@@ -155,6 +145,19 @@ impl Sending {
         }
     }
 
+    /// The same, as a value whose clones share it and that is known to be shared. If memory is refused for that, it is gone.
+    pub fn into_shared(self, alloc: Global) -> Result<SharedSending, AllocError>
+        ensures { IfOk result (λ shared. shared ≡ self) }
+    {
+        let _form = self.destination();
+        let Sending { form } = self;
+        let parts = match form {
+            SendingForm::Own(parts) => Arc::new(alloc, parts.looked_at())?,
+            SendingForm::Shared(parts) => parts,
+        };
+        Ok(SharedSending { parts })
+    }
+
     /// The same, sent to that destination instead. No memory is taken, unless it is shared: then headers and body are
     /// copied. If memory is refused for that, it is gone.
     pub fn redirect(self, destination: Dest) -> Result<Sending, AllocError>
@@ -169,6 +172,57 @@ impl Sending {
                 Ok(Sending::new(destination, headers, body))
             }
         }
+    }
+}
+
+/// What is sent, shared by all who have it: one word. Whether its body is UTF-8 was looked at once, as it was shared.
+#[derive(Drop)]
+pub struct SharedSending {
+    parts: Arc<Parts>,
+}
+
+impl Model for SharedSending {
+    ghost use Rattle.std.specs.Arc.{arc_value};
+    ghost use Rattle.record_core.specs.Forms.{KnowsText, of_parts};
+    ghost use Rattle.record_core.specs.Sendings.{SendingValue, IsSending};
+
+    ghost Value = { SendingValue };
+
+    ghost view = { λ a. of_parts (arc_value a.parts) };
+
+    ghost invariant = { λ a. IsSending (of_parts (arc_value a.parts)) × KnowsText (arc_value a.parts) };
+}
+
+impl SharedSending {
+    /// Where it is sent.
+    pub fn destination(&self) -> &Dest
+        ensures value { result.now ≡ self.now.destination }
+        ensures form { IsSending self.now }
+    {
+        &self.parts.destination
+    }
+
+    /// The headers that its MESSAGEs carry, in their order.
+    pub fn headers(&self) -> &Headers
+        ensures value { result.now ≡ self.now.headers }
+        ensures form { IsSending self.now }
+    {
+        &self.parts.headers
+    }
+
+    /// The body.
+    pub fn body(&self) -> &Bytes
+        ensures value { result.now ≡ self.now.body }
+        ensures form { IsSending self.now }
+    {
+        &self.parts.body
+    }
+
+    /// Whether the body is known to be UTF-8.
+    pub fn is_text(&self) -> bool
+        ensures { IsTrue result → IsUtf8 self.now.body }
+    {
+        self.parts.is_text
     }
 }
 
