@@ -5,7 +5,7 @@ use Rattle.std.specs.List.{AllByRecursion, flat_map}
 use Rattle.std.proofs.lemmas.Nat.{from_be_bytes-to_be_bytes_8}
 use Rattle.std.proofs.lemmas.List.{take_at, drop_at}
 use Rattle.command_core.specs.Commands.{CommandValue}
-use Rattle.record_core.specs.Spellings.{optional}
+use Rattle.command_core.specs.PartSpellings.{optional}
 use Rattle.command_core.specs.Spellings.{operation, record_of}
 use Rattle.command_core.proofs.RecordCommands.{begins_no_other}
 use Rattle.area_core.specs.declared.version.Version.{Version}

@@ -8,8 +8,7 @@ ghost use Rattle.area_core.specs.Areas.{HasRecord, records};
 ghost use Rattle.area_core.specs.Damage.{IsRecordRead, IsRecordTold, told_of};
 
 use crate::ReadFault;
-use command_core::{Command, decode};
-use record_core::DecodeFault;
+use command_core::{Command, DecodeFault, decode};
 use std::alloc::{AllocError, Global};
 
 // Reads the record that begins the bytes, adds its command to those before it, and answers how long it is.

@@ -2,7 +2,7 @@
 
 ghost use Rattle.std.specs.Prelude.{◌≡◌, ◌↔◌, [], IfOk, IfSome, IsTrue, false, true};
 ghost use Rattle.std.specs.List.{AllByRecursion};
-ghost use Rattle.record_core.specs.Destinations.{is_queue};
+ghost use Rattle.command_core.specs.Destinations.{is_queue};
 ghost use Rattle.broker_state.specs.Lists.{is_none};
 ghost use Rattle.broker_state.specs.Operations.{topic_of};
 ghost use Rattle.broker_state.specs.PartsOf.{state_of_parts};
@@ -11,8 +11,8 @@ ghost use Rattle.broker_state.specs.Waiting.{is_own};
 
 use crate::message_checks::{are_once_in_queues, are_once_under_names, have_once};
 use broker_state::{DurableName, Parts, Subscription};
+use command_core::Dest;
 use line_core::{Flight, Line, Message};
-use record_core::Dest;
 use std::alloc::{AllocError, Global};
 use std::collections::BTreeMap;
 

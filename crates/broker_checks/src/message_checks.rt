@@ -14,8 +14,8 @@ ghost use Rattle.broker_state.specs.Sound.{AreOnce, had_by};
 ghost use Rattle.broker_state.specs.Waiting.{line_at};
 
 use broker_state::{DurableName, Parts, Subscription};
+use command_core::{Dest, HeaderText};
 use line_core::{Flight, Line, Message, MessageNumber};
-use record_core::{Dest, HeaderText};
 use std::alloc::{AllocError, Global};
 use std::collections::{BTreeMap, BTreeSet};
 

@@ -2,14 +2,14 @@
 
 ghost use Rattle.std.specs.Prelude.{◌≡◌, ◌≤◌, ◌↔◌, IfOk, IsSome, IsTrue, Some, count_by, false, length};
 ghost use Rattle.std.specs.List.{AllByRecursion};
-ghost use Rattle.record_core.specs.Destinations.{is_queue};
+ghost use Rattle.command_core.specs.Destinations.{is_queue};
 ghost use Rattle.broker_state.specs.Names.{Name};
 ghost use Rattle.broker_state.specs.Operations.{client_of, topic_of, uses};
 ghost use Rattle.broker_state.specs.PartsOf.{state_of_parts};
 ghost use Rattle.broker_state.specs.Sound.{HasNames, OwnsName};
 
 use broker_state::{DurableName, GivenName, MOST_NAMES, Parts, Subscription};
-use record_core::Dest;
+use command_core::Dest;
 use std::alloc::{AllocError, Global};
 use std::collections::{BTreeMap, BTreeSet};
 

@@ -8,7 +8,7 @@ ghost use Rattle.broker_state.specs.Sound.{HasSubscriptions, window_of};
 ghost use Rattle.broker_state.specs.States.{is_open};
 
 use broker_state::{MOST_SUBSCRIPTIONS, Parts, Subscription, WINDOW};
-use record_core::{AckMode, HeaderText};
+use command_core::{AckMode, HeaderText};
 use std::alloc::{AllocError, Global};
 use std::collections::{BTreeMap, BTreeSet};
 

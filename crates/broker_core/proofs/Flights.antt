@@ -9,7 +9,7 @@ use Rattle.std.specs.declared.cmp.Ordering.TheVariants.{Less}
 use Rattle.std.proofs.lemmas.Cmp.{ranked}
 use Rattle.std.proofs.lemmas.List.Sums.{sum_by-cons}
 use Rattle.std.proofs.lemmas.Option.{none-some, same_Some}
-use Rattle.record_core.specs.Destinations.{is_queue}
+use Rattle.command_core.specs.Destinations.{is_queue}
 use Rattle.line_core.proofs.Flights.{has_delivery-mapped, length-settled, sum_by-settled, unsettled-mapped}
 use Rattle.line_core.specs.declared.message.Message.{Message}
 use Rattle.line_core.specs.Flights.{IsOver, IsRising, has_delivery, mapped, settled}

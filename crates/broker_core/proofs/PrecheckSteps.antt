@@ -4,8 +4,8 @@ use Rattle.std.proofs.lemmas.Bool.{and_parts, le-leb}
 use Rattle.std.proofs.lemmas.Bool.Decides.{nat_tests}
 use Rattle.command_core.specs.declared.fault.Fault.{Fault}
 use Rattle.command_core.specs.declared.fault.Fault.TheVariants.{NoRoom, UnknownAcknowledgement}
-use Rattle.record_core.specs.Destinations.{is_queue}
-use Rattle.record_core.specs.Sendings.{SendingValue}
+use Rattle.command_core.specs.Destinations.{is_queue}
+use Rattle.command_core.specs.Sendings.{SendingValue}
 use Rattle.line_core.specs.declared.message.Message.{Message}
 use Rattle.line_core.specs.Flights.{mapped, settled}
 use Rattle.line_core.specs.Messages.{size_of}

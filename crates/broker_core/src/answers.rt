@@ -6,8 +6,7 @@ ghost use Rattle.broker_state.specs.Steps.{farewell, outs_to, receipts};
 ghost use Rattle.broker_tables.specs.Answers.{with_outs};
 
 use broker_tables::Answers;
-use command_core::{End, Fault, Out, connected_reply, error_reply};
-use record_core::HeaderText;
+use command_core::{End, Fault, HeaderText, Out, connected_reply, error_reply};
 use std::alloc::{AllocError, Global};
 
 /// CONNECTED, to the session that the command of that number opens.

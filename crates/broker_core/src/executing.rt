@@ -1,7 +1,7 @@
 //! A command is carried out.
 
 ghost use Rattle.std.specs.Prelude.{◌≡◌, ◌∷◌, ◌++◌, ◌<◌, ◌^◌, [], false, IfOk, IsErr, OnOk};
-ghost use Rattle.record_core.specs.Texts.{IsGiven};
+ghost use Rattle.command_core.specs.Texts.{IsGiven};
 ghost use Rattle.command_core.specs.Operations.{IsOp};
 ghost use Rattle.command_core.specs.Replies.{connected};
 ghost use Rattle.broker_state.specs.HandOut.{settled};
@@ -16,8 +16,7 @@ use crate::answers::{answer_done, answer_end, answer_open, answer_refused};
 use crate::committing::commit;
 use broker_state::NackRule;
 use broker_tables::{Answers, Tables};
-use command_core::{Command, Fault, Op};
-use record_core::HeaderText;
+use command_core::{Command, Fault, HeaderText, Op};
 use std::alloc::{AllocError, Global};
 
 /// Carries out the command whose number is how many were carried out before it, and counts it. Its outputs, if they are kept,

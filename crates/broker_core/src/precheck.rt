@@ -19,9 +19,8 @@ ghost use Rattle.broker_core.specs.Prechecks.{HoldsFlights, Leads, SettlesFlight
 
 use broker_state::{Held, MOST_BYTES, NackRule, Subscription, stand_in_order};
 use broker_tables::{Tables, copies_to, find_room, is_dropped, refused_size};
-use command_core::{Fault, Member};
+use command_core::{AckMode, Fault, Member};
 use line_core::{Flight, Message, SettleFault, size};
-use record_core::AckMode;
 use std::alloc::{AllocError, Global};
 use waiting_order::{Order, Sought};
 

@@ -2,8 +2,8 @@ use Rattle.std.proofs.Common.{◌≡◌, ◌≤◌, ◌+◌, List, [], ◌∷◌
 use Rattle.std.specs.List.{sum_by}
 use Rattle.std.proofs.lemmas.List.Sums.{sum_by-cons, sum_by_push}
 use Rattle.command_core.specs.Commands.{CommandValue}
-use Rattle.record_core.specs.Destinations.{is_queue}
-use Rattle.record_core.specs.Sendings.{SendingValue}
+use Rattle.command_core.specs.Destinations.{is_queue}
+use Rattle.command_core.specs.Sendings.{SendingValue}
 use Rattle.line_core.specs.declared.message.Message.{Message}
 use Rattle.line_core.specs.Flights.{settled}
 use Rattle.broker_state.specs.declared.nack_rule.NackRule.{NackRule}

@@ -12,7 +12,7 @@ use Rattle.std.proofs.lemmas.Bool.Decides.{Decides-eqb}
 use Rattle.std.proofs.lemmas.List.Sums.{sum_by-append, sum_by-cons}
 use Rattle.std.proofs.lemmas.Map.Lookups.{exact_unsigned}
 use Rattle.frame_core.proofs.Lists.{all_weaker}
-use Rattle.record_core.specs.Destinations.{is_queue}
+use Rattle.command_core.specs.Destinations.{is_queue}
 use Rattle.line_core.specs.declared.message.Message.{Message}
 use Rattle.line_core.specs.declared.message.MessageNumber.{MessageNumber}
 use Rattle.line_core.specs.Lines.{by_number, inserted, is_same}

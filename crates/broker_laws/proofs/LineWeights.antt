@@ -10,7 +10,7 @@ use Rattle.std.specs.declared.cmp.Ordering.{Ordering}
 use Rattle.std.specs.declared.cmp.Ordering.TheVariants.{Less}
 use Rattle.std.proofs.lemmas.List.Sums.{sum_by-cons}
 use Rattle.std.proofs.lemmas.Map.Text.{is_eq-slice_cmp}
-use Rattle.record_core.specs.Destinations.{is_queue}
+use Rattle.command_core.specs.Destinations.{is_queue}
 use Rattle.line_core.specs.declared.message.Message.{Message}
 use Rattle.line_core.specs.Lines.{inserted}
 use Rattle.line_core.proofs.Inserted.{sum_by-inserted}

@@ -6,7 +6,7 @@ use Rattle.std.specs.Ordering.{is_eq, is_lt}
 use Rattle.std.specs.Str.{bytes_eq}
 use Rattle.std.specs.declared.cmp.Ordering.{Ordering}
 use Rattle.std.proofs.lemmas.Map.Text.{is_eq-slice_cmp}
-use Rattle.record_core.specs.Destinations.{is_queue}
+use Rattle.command_core.specs.Destinations.{is_queue}
 use Rattle.line_core.specs.declared.message.Message.{Message}
 use Rattle.line_core.specs.Lines.{by_number, inserted}
 use Rattle.broker_state.specs.declared.subscription.Subscription.{Subscription}

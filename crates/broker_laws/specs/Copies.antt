@@ -3,8 +3,8 @@ use Rattle.std.specs.Prelude.{◌≡◌, ◌≤◌, ◌&&◌, ℕ, count_by}
 use Rattle.line_core.specs.declared.message.Message.{Message}
 use Rattle.line_core.specs.declared.message.MessageNumber.{MessageNumber}
 use Rattle.line_core.specs.Lines.{is_same}
-use Rattle.record_core.specs.Destinations.{is_queue}
-use Rattle.record_core.specs.Sendings.{SendingValue}
+use Rattle.command_core.specs.Destinations.{is_queue}
+use Rattle.command_core.specs.Sendings.{SendingValue}
 use Rattle.broker_state.specs.Operations.{message_of}
 use Rattle.broker_state.specs.States.{State, standing, weight_of}
 

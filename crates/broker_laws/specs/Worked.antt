@@ -1,6 +1,6 @@
 use Rattle.std.specs.Prelude.{List, [], ◌∷◌, ℕ, None, codes}
-use Rattle.record_core.specs.declared.ack_mode.AckMode.TheVariants.{Client}
-use Rattle.record_core.specs.Sendings.{SendingValue}
+use Rattle.command_core.specs.declared.ack_mode.AckMode.TheVariants.{Client}
+use Rattle.command_core.specs.Sendings.{SendingValue}
 use Rattle.command_core.specs.Commands.{CommandValue}
 use Rattle.command_core.specs.declared.command.Op.{Op}
 use Rattle.command_core.specs.declared.command.Op.TheVariants.{Open, Send, Subscribe, Nack, Commit}

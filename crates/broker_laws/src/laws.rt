@@ -4,8 +4,8 @@ ghost use Rattle.std.specs.Prelude.{◌≡◌, ◌<◌, ◌≤◌, ◌+◌, ◌&
 ghost use Rattle.std.specs.List.{AllByRecursion, sum_by};
 ghost use Rattle.std.specs.Map.{keys_of};
 ghost use Rattle.command_core.specs.Commands.{CommandValue};
-ghost use Rattle.record_core.specs.Destinations.{is_queue};
-ghost use Rattle.record_core.specs.Sendings.{SendingValue};
+ghost use Rattle.command_core.specs.Destinations.{is_queue};
+ghost use Rattle.command_core.specs.Sendings.{SendingValue};
 ghost use Rattle.command_core.specs.declared.command.Op.{Op};
 ghost use Rattle.command_core.specs.declared.fault.Fault.{Fault};
 ghost use Rattle.line_core.specs.Lines.{is_same};

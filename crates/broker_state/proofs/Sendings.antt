@@ -4,8 +4,8 @@ use Rattle.std.specs.Map.{keys_of}
 use Rattle.std.specs.Str.{bytes_eq}
 use Rattle.std.proofs.lemmas.Option.{none-some, same_Some}
 use Rattle.command_core.specs.declared.fault.Fault.TheVariants.{NoRoom}
-use Rattle.record_core.specs.Destinations.{is_queue}
-use Rattle.record_core.specs.Sendings.{SendingValue}
+use Rattle.command_core.specs.Destinations.{is_queue}
+use Rattle.command_core.specs.Sendings.{SendingValue}
 use Rattle.line_core.specs.declared.message.Message.{Message}
 use Rattle.line_core.specs.Flights.{IsOver}
 use Rattle.line_core.specs.Lines.{inserted}

@@ -1,9 +1,9 @@
 //! Names that clients give.
 
 ghost use Rattle.std.specs.Prelude.{◌≡◌, ◌<◌, length};
-ghost use Rattle.record_core.specs.Texts.{IsGiven};
+ghost use Rattle.command_core.specs.Texts.{IsGiven};
 
-use record_core::HeaderText;
+use command_core::HeaderText;
 use std::marker::Model;
 
 /// A name that a client gives itself, or a durable subscription of its own: header text that is not empty. Contracts see it

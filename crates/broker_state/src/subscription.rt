@@ -2,8 +2,8 @@
 
 use crate::durable_name::DurableName;
 use crate::limits::WINDOW;
+use command_core::{AckMode, Dest, HeaderText};
 use line_core::{Flight, Line, Message};
-use record_core::{AckMode, Dest, HeaderText};
 
 /// A subscription of a session (STOMP 1.2, "SUBSCRIBE").
 #[derive(Drop)]

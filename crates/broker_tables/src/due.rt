@@ -8,7 +8,7 @@ ghost use Rattle.broker_tables.specs.Dues.{AllDue, OthersStand, has_name_of, is_
 
 use crate::durable_names::{DurableNames, Names};
 use broker_state::{DurableName, Subscription};
-use record_core::Dest;
+use command_core::Dest;
 use std::alloc::AllocError;
 
 /// Subscriptions that have something in common, so that they are looked at when what waits is handed out. They are told by

@@ -12,7 +12,7 @@ ghost use Rattle.broker_state.specs.Operations.{topic_of};
 ghost use Rattle.broker_tables.specs.Topics.{AreGrouped, names_at, names_of};
 
 use broker_state::DurableName;
-use record_core::Dest;
+use command_core::Dest;
 use std::alloc::{AllocError, Global};
 use std::collections::{BTreeMap, BTreeSet};
 use std::marker::Model;

@@ -21,9 +21,8 @@ use crate::shared_lines::SharedLines;
 use crate::stock::Stock;
 use crate::tables::Tables;
 use broker_state::{Held, LAST_DELIVERY, Subscription};
-use command_core::Out;
+use command_core::{AckMode, Out};
 use line_core::{Message, size};
-use record_core::AckMode;
 use std::alloc::{AllocError, Global};
 use waiting_order::{Key, Order};
 

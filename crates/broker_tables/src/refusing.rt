@@ -22,9 +22,8 @@ use crate::ending::let_deliveries_go;
 use crate::shared_lines::SharedLines;
 use crate::tables::Tables;
 use broker_state::{Held, MOST_BYTES, NackRule, Subscription};
-use command_core::Fault;
+use command_core::{AckMode, Dest, DestFault, Fault, Sending};
 use line_core::{Message, MessageNumber, settles, size};
-use record_core::{AckMode, Dest, DestFault, Sending};
 use std::alloc::{AllocError, Global};
 use waiting_order::{Key, Order};
 

@@ -3,7 +3,7 @@
 ghost use Rattle.std.specs.Prelude.{◌≡◌, ◌+◌, ◌<◌, ◌≤◌, ◌&&◌, ◌^◌, ℕ, IfOk, IsErr, OnOk, count_by, false, fold, map, true};
 ghost use Rattle.std.specs.List.{list_any};
 ghost use Rattle.std.specs.Str.{bytes_eq};
-ghost use Rattle.record_core.specs.Destinations.{is_queue};
+ghost use Rattle.command_core.specs.Destinations.{is_queue};
 ghost use Rattle.broker_state.specs.declared.subscription.Subscription.{Subscription};
 ghost use Rattle.broker_state.specs.Names.{name_cmp};
 ghost use Rattle.broker_state.specs.Operations.{copied, copied_to_names, sent, uses};
@@ -19,9 +19,8 @@ use crate::durable_names::{DurableNames, Names};
 use crate::shared_lines::SharedLines;
 use crate::tables::Tables;
 use broker_state::{Held, MOST_BYTES, MOST_MESSAGES};
-use command_core::Fault;
+use command_core::{Dest, Fault, Sending};
 use line_core::{Message, MessageNumber, size};
-use record_core::{Dest, Sending};
 use std::alloc::{AllocError, Global};
 use waiting_order::Order;
 

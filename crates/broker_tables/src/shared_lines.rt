@@ -15,8 +15,8 @@ ghost use Rattle.broker_state.specs.Waiting.{is_own, left_shared, line_at, line_
 
 use crate::keyed_lines::{self, Side};
 use broker_state::{DurableName, Subscription, has_waiting, stand_in_order};
+use command_core::Dest;
 use line_core::{Line, Message};
-use record_core::Dest;
 use std::alloc::{AllocError, Global};
 use std::collections::BTreeMap;
 use std::marker::Model;

@@ -3,8 +3,8 @@
 ghost use Rattle.std.specs.Prelude.{◌≡◌, ◌<◌, ◌^◌, ◌&&◌, ◌++◌, ◌∷◌, [], IfOk, IsErr, IsOk, MatchOption, OnOk, Some, count_by, false, length, nat_le, not, true};
 ghost use Rattle.std.specs.List.{list_any};
 ghost use Rattle.std.specs.Str.{bytes_eq};
-ghost use Rattle.record_core.specs.Texts.{IsGiven};
-ghost use Rattle.record_core.specs.declared.ack_mode.AckMode.{AckMode};
+ghost use Rattle.command_core.specs.Texts.{IsGiven};
+ghost use Rattle.command_core.specs.declared.ack_mode.AckMode.{AckMode};
 ghost use Rattle.broker_state.specs.Operations.{begun, begun_for, client_in, is_named, is_of, name_for, subscribed, uses, with_subscription};
 ghost use Rattle.broker_state.specs.Parts.{NonePass, leaving};
 ghost use Rattle.broker_state.specs.States.{one};
@@ -16,9 +16,8 @@ ghost use Rattle.broker_state.specs.declared.subscription.Subscription.{Subscrip
 use crate::due::{Due, mark};
 use crate::tables::Tables;
 use broker_state::{DurableName, GivenName, MOST_NAMES, MOST_SUBSCRIPTIONS, Subscription};
-use command_core::Fault;
+use command_core::{AckMode, Dest, Fault, HeaderText};
 use line_core::{Flight, Line};
-use record_core::{AckMode, Dest, HeaderText};
 use std::alloc::{AllocError, Global};
 use std::collections::BTreeMap;
 use waiting_order::{Key, Order, Sought};

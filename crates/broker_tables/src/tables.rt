@@ -1,7 +1,7 @@
 //! What the broker keeps: sessions, durable names, lines and subscriptions, and how much is held.
 
 ghost use Rattle.std.specs.Prelude.{◌≡◌, ◌<◌, ◌^◌, IfOk, OnErr, OnOk, false, true};
-ghost use Rattle.record_core.specs.Texts.{IsGiven};
+ghost use Rattle.command_core.specs.Texts.{IsGiven};
 ghost use Rattle.broker_state.specs.Operations.{opened};
 ghost use Rattle.broker_state.specs.States.{empty_state, held_bytes, held_messages};
 ghost use Rattle.broker_state.specs.PartsOf.{state_of_parts};
@@ -14,7 +14,7 @@ use crate::durable_names::DurableNames;
 use crate::shared_lines::SharedLines;
 use crate::stock::Stock;
 use broker_state::{DurableName, GivenName, Held, Parts};
-use record_core::{Dest, HeaderText};
+use command_core::{Dest, HeaderText};
 use std::alloc::{AllocError, Global};
 use std::collections::BTreeMap;
 use std::marker::Model;

@@ -2,8 +2,7 @@
 //! `tests/program/no_memory.py` has each growth refused in turn, and reads what these tests say of it.
 
 use broker_core::{Broker, BrokerFault};
-use command_core::decode;
-use record_core::DecodeFault;
+use command_core::{DecodeFault, decode};
 use snapshot_core::{decode_state, encode_state};
 use std::alloc::{AllocError, Global};
 use std::test::Fail;

@@ -1,6 +1,6 @@
 use crate::records::execute;
 use broker_core::Broker;
-use record_core::DecodeFault;
+use command_core::DecodeFault;
 use snapshot_core::{decode_state, encode_state};
 use std::alloc::{AllocError, Global};
 use std::test::Fail;

@@ -2,9 +2,8 @@
 
 use crate::records::{LISTEN, NACK, OPEN, SEND, execute, execute_all, is_error};
 use broker_core::Broker;
-use command_core::{Command, Op, decode};
+use command_core::{Command, Dest, Op, Sending, decode};
 use frame_core::{Bytes, Headers};
-use record_core::{Dest, Sending};
 use std::alloc::Global;
 use std::test::Fail;
 

@@ -1,3 +1,11 @@
+pub mod DestinationBytes
+pub mod Walks
+pub mod PartsSized
+pub mod Formats
+pub mod RecordTexts
+pub mod RecordModes
+pub mod RecordMessages
+pub mod ReadLoops
 pub mod WritableReplies
 pub mod WrittenMessages
 pub mod Sized

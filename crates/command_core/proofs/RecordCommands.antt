@@ -8,15 +8,15 @@ use Rattle.std.proofs.lemmas.Option.{some_pair_parts, none-some}
 use Rattle.command_core.specs.declared.command.End.TheVariants.{Bye, Lost, Bad}
 use Rattle.command_core.specs.declared.command.Op.{Op}
 use Rattle.command_core.specs.declared.command.Op.TheVariants.{Open, Send, Subscribe, Unsubscribe, Ack, Nack, Commit, Note, End}
-use Rattle.record_core.specs.declared.decode_fault.DecodeFault.{DecodeFault}
-use Rattle.record_core.specs.declared.decode_fault.DecodeFault.TheVariants as faults
+use Rattle.command_core.specs.declared.decode_fault.DecodeFault.{DecodeFault}
+use Rattle.command_core.specs.declared.decode_fault.DecodeFault.TheVariants as faults
 use Rattle.command_core.specs.Commands.{CommandValue, IsCommand, Fits}
-use Rattle.record_core.specs.Spellings.{AreBytes, IsText, optional}
+use Rattle.command_core.specs.PartSpellings.{AreBytes, IsText, optional}
 use Rattle.command_core.specs.Spellings.{Spells, operation, record_of}
-use Rattle.record_core.specs.Reading.{◌>>=◌, Fails, number_at, optional_at}
+use Rattle.command_core.specs.PartReading.{◌>>=◌, Fails, number_at, optional_at}
 use Rattle.command_core.specs.Reading.{operation_at, fits, command_at}
-use Rattle.record_core.proofs.Formats.{Takes, Takes-then, Format, first_takes, first_again, last_if, number, wide64}
-use Rattle.record_core.proofs.RecordTexts.{optional_format}
+use Rattle.command_core.proofs.Formats.{Takes, Takes-then, Format, first_takes, first_again, last_if, number, wide64}
+use Rattle.command_core.proofs.RecordTexts.{optional_format}
 use Rattle.command_core.proofs.RecordOperations.{IsFormed, operation_format}
 
 none_from : (o : Option (List ℕ)) → not (is_some o) ≡ true → o ≡ None

@@ -3,7 +3,7 @@ use Rattle.std.proofs.Common.{◌≡◌, ◌≢◌, ◌<◌, ◌^◌, arith, ◌
 use Rattle.std.specs.Prelude.{is_some, IsSome}
 use Rattle.std.specs.Int.{w64, to_be_bytes}
 use Rattle.std.proofs.lemmas.Bool.{false≢true}
-use Rattle.record_core.specs.declared.ack_mode.AckMode.{AckMode}
+use Rattle.command_core.specs.declared.ack_mode.AckMode.{AckMode}
 use Rattle.command_core.specs.declared.command.End.{End as ending}
 use Rattle.command_core.specs.declared.command.End.TheVariants.{Bye, Lost, Bad}
 use Rattle.command_core.specs.declared.command.Op.{Op}
@@ -12,19 +12,19 @@ use Rattle.command_core.specs.declared.fault.Fault.{Fault}
 use Rattle.command_core.specs.declared.fault.Fault.TheVariants.{MalformedFrame, FrameTooLarge, UndefinedEscape, UnknownCommand, MissingHeader, UnsupportedVersion, UnexpectedFrame, BadDestination, SubscriptionIdInUse, UnknownSubscription, UnknownAcknowledgement, NoRoom, NoClientId, DurableSubscription, TransactionBegun, TransactionNotBegun, TransactionTooLarge, TooManyEntries, BodyNotAllowed, BadHeaderValue}
 use Rattle.command_core.specs.declared.member.Member.{Member}
 use Rattle.command_core.specs.declared.member.Member.TheVariants as kinds
-use Rattle.record_core.specs.Destinations.{IsDestination, is_queue}
+use Rattle.command_core.specs.Destinations.{IsDestination, is_queue}
 use Rattle.command_core.specs.Faults.{code_of}
 use Rattle.command_core.specs.Operations.{IsOp, op_of}
-use Rattle.record_core.specs.Spellings.{AreBytes, IsText, IsSent, counted, optional, sending, mode_byte}
+use Rattle.command_core.specs.PartSpellings.{AreBytes, IsText, IsSent, counted, optional, sending, mode_byte}
 use Rattle.command_core.specs.Spellings.{IsMember, IsOperation, member, operation}
 use Rattle.command_core.specs.Spellings.{end as end_bytes}
-use Rattle.record_core.specs.Reading.{◌>>=◌, Reader, made, byte_at, number_at, text_at, optional_at, name_at, destination_at, sending_at, mode_at, few_at}
+use Rattle.command_core.specs.PartReading.{◌>>=◌, Reader, made, byte_at, number_at, text_at, optional_at, name_at, destination_at, sending_at, mode_at, few_at}
 use Rattle.command_core.specs.Reading.{all_faults, fault_with, fault_at, end_at, subscribe_at, unsubscribe_at, member_at, member_behind, operation_at}
-use Rattle.record_core.proofs.Formats.{Takes, Takes-then, Format, FewEach, HasBytes, spell_few, bind_some, first_takes, first_again, last_takes, last_if, last_if_not, byte, few, number, wide64}
-use Rattle.record_core.proofs.RecordTexts.{IsName, text_format, optional_format, name_format, destination_format}
-use Rattle.record_core.proofs.RecordMessages.{sending_format}
-use Rattle.record_core.proofs.RecordModes.{Always, chosen, kind_is, mode_bytes, mode_format}
-use Rattle.record_core.specs.Sendings.{SendingValue}
+use Rattle.command_core.proofs.Formats.{Takes, Takes-then, Format, FewEach, HasBytes, spell_few, bind_some, first_takes, first_again, last_takes, last_if, last_if_not, byte, few, number, wide64}
+use Rattle.command_core.proofs.RecordTexts.{IsName, text_format, optional_format, name_format, destination_format}
+use Rattle.command_core.proofs.RecordMessages.{sending_format}
+use Rattle.command_core.proofs.RecordModes.{Always, chosen, kind_is, mode_bytes, mode_format}
+use Rattle.command_core.specs.Sendings.{SendingValue}
 
 -- ---- kinds
 

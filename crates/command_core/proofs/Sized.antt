@@ -7,8 +7,8 @@ use Rattle.command_core.specs.declared.member.Member.{Member}
 use Rattle.command_core.specs.declared.member.Member.TheVariants as kinds
 use Rattle.command_core.specs.Sizes.{op_size, member_size}
 use Rattle.command_core.specs.Spellings as records
-use Rattle.record_core.specs.Spellings.{counted, mode_byte, optional}
-use Rattle.record_core.proofs.Sized.{before, each_sized, optional_sized, sending_sized}
+use Rattle.command_core.specs.PartSpellings.{counted, mode_byte, optional}
+use Rattle.command_core.proofs.PartsSized.{before, each_sized, optional_sized, sending_sized}
 
 pub member_sized : (m : Member) → member_size m ≡ length (records.member m)
 member_sized (kinds.Send s) =

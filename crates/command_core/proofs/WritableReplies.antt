@@ -4,9 +4,9 @@ use Rattle.std.specs.Fmt.{decimal}
 use Rattle.std.proofs.lemmas.Fmt.{decimal_by_steps}
 use Rattle.frame_core.proofs.Lists.{all_append}
 use Rattle.frame_core.specs.Writable.{HasNoNul, IsHeader, IsOneLine, Writable, first_of}
-use Rattle.record_core.specs.Texts.{IsHeaderText}
-use Rattle.record_core.specs.Sendings.{SendingValue, IsSending, IsKept}
-use Rattle.record_core.proofs.DestinationBytes.{dest_no_nul}
+use Rattle.command_core.specs.Texts.{IsHeaderText}
+use Rattle.command_core.specs.Sendings.{SendingValue, IsSending, IsKept}
+use Rattle.command_core.proofs.DestinationBytes.{dest_no_nul}
 use Rattle.command_core.specs.Replies.{ack_header, connected, message_frame, message_id, own_headers}
 
 abbrev pub AllDigits : List ℕ → Type 0

@@ -11,7 +11,7 @@ use Rattle.std.proofs.lemmas.Str.{IsUtf8-append}
 use Rattle.frame_core.proofs.Lists.{all_append}
 use Rattle.frame_core.proofs.Texts.{ascii_text, behind_ascii}
 use Rattle.frame_core.specs.Written.{IsText, written, written_header}
-use Rattle.record_core.specs.Sendings.{SendingValue}
+use Rattle.command_core.specs.Sendings.{SendingValue}
 use Rattle.command_core.specs.Replies.{ack_header, message_frame, message_id, own_headers}
 use Rattle.command_core.proofs.WritableReplies.{AllDigits, digits_of_decimal}
 

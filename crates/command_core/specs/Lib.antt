@@ -1,3 +1,11 @@
+pub mod Texts
+pub mod Destinations
+pub mod Sendings
+pub mod SendingForms
+pub mod PartSizes
+pub mod PartSpellings
+pub mod PartReading
+pub mod Formats
 pub mod Entries
 pub mod Faults
 pub mod Operations

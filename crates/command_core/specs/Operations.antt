@@ -3,8 +3,8 @@ use Rattle.command_core.specs.declared.command.Op.{Op}
 use Rattle.command_core.specs.declared.command.Op.TheVariants.{Open, Send, Subscribe, Unsubscribe, Ack, Nack}
 use Rattle.command_core.specs.declared.member.Member.{Member}
 use Rattle.command_core.specs.declared.member.Member.TheVariants as members
-use Rattle.record_core.specs.Destinations.{is_queue}
-use Rattle.record_core.specs.Texts.{IsGiven}
+use Rattle.command_core.specs.Destinations.{is_queue}
+use Rattle.command_core.specs.Texts.{IsGiven}
 
 -- a member as an operation of its own
 abbrev pub op_of : Member → Op

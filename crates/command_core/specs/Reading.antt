@@ -12,8 +12,8 @@ use Rattle.command_core.specs.declared.member.Member.TheVariants as kinds
 use Rattle.command_core.specs.Commands.{CommandValue}
 use Rattle.command_core.specs.Faults.{code_of}
 use Rattle.command_core.specs.Operations.{op_of}
-use Rattle.record_core.specs.Destinations.{is_queue}
-use Rattle.record_core.specs.Reading.{◌>>=◌, Reader, byte_at, destination_at, few_at, made, mode_at, name_at, number_at, optional_at, sending_at, text_at}
+use Rattle.command_core.specs.Destinations.{is_queue}
+use Rattle.command_core.specs.PartReading.{◌>>=◌, Reader, byte_at, destination_at, few_at, made, mode_at, name_at, number_at, optional_at, sending_at, text_at}
 
 -- every fault
 abbrev pub all_faults : List Fault

@@ -4,7 +4,7 @@ use Rattle.frame_core.specs.declared.frame.Frame.{Frame}
 use Rattle.frame_core.specs.declared.frame.Verb.TheVariants as verbs
 use Rattle.command_core.specs.declared.fault.Fault.{Fault}
 use Rattle.command_core.specs.Faults.{text_of}
-use Rattle.record_core.specs.Sendings.{SendingValue}
+use Rattle.command_core.specs.Sendings.{SendingValue}
 
 -- STOMP 1.2, "CONNECTED": the version, the session's number in decimal, and no heart-beats
 abbrev pub connected : ℕ → Frame

@@ -5,7 +5,7 @@ use Rattle.command_core.specs.declared.command.Op.{Op}
 use Rattle.command_core.specs.declared.command.Op.TheVariants.{Open, Send, Subscribe, Unsubscribe, Ack, Nack, Commit, Note, End}
 use Rattle.command_core.specs.declared.member.Member.{Member}
 use Rattle.command_core.specs.declared.member.Member.TheVariants as members
-use Rattle.record_core.specs.Sizes.{option_size, sending_size, text_size}
+use Rattle.command_core.specs.PartSizes.{option_size, sending_size, text_size}
 
 -- Bytes that operations take in the journal.
 

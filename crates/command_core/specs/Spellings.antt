@@ -8,8 +8,8 @@ use Rattle.command_core.specs.declared.command.Op.TheVariants.{Open, Send, Subsc
 use Rattle.command_core.specs.declared.member.Member.{Member}
 use Rattle.command_core.specs.declared.member.Member.TheVariants as kinds
 use Rattle.command_core.specs.Commands.{CommandValue, IsCommand}
-use Rattle.record_core.specs.Destinations.{IsDestination}
-use Rattle.record_core.specs.Spellings.{IsSent, IsText, counted, mode_byte, optional, sending}
+use Rattle.command_core.specs.Destinations.{IsDestination}
+use Rattle.command_core.specs.PartSpellings.{IsSent, IsText, counted, mode_byte, optional, sending}
 use Rattle.command_core.specs.Faults.{code_of}
 
 -- The record of a command: how it stands in the journal. Numbers are big-endian and unsigned.

@@ -3,9 +3,12 @@
 ghost use Rattle.std.specs.Prelude.{◌≡◌, Option};
 ghost use Rattle.command_core.specs.Commands.{IsCommand};
 
+use crate::ack_mode::AckMode;
+use crate::destination::Dest;
 use crate::fault::Fault;
+use crate::header_text::HeaderText;
 use crate::member::{Member, Members};
-use record_core::{AckMode, Dest, HeaderText, Sending};
+use crate::sending::Sending;
 use std::marker::Model;
 
 /// How a session ends.

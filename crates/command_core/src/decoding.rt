@@ -1,20 +1,24 @@
 //! Commands, read from their records.
 
 ghost use Rattle.std.specs.Prelude.{◌≡◌, ◌≤◌, ◌&&◌, ℕ, IfOk, IfErr, is_some, length, take};
-ghost use Rattle.record_core.specs.declared.decode_fault.DecodeFault.{DecodeFault};
+ghost use Rattle.command_core.specs.declared.decode_fault.DecodeFault.{DecodeFault};
 ghost use Rattle.command_core.specs.Commands.{CommandValue};
-ghost use Rattle.record_core.specs.Destinations.{is_queue};
-ghost use Rattle.record_core.specs.Reading.{Gives, few_at};
+ghost use Rattle.command_core.specs.Destinations.{is_queue};
+ghost use Rattle.command_core.specs.PartReading.{Gives, few_at};
 ghost use Rattle.command_core.specs.Reading.{fault_at, end_at, subscribe_at, unsubscribe_at, member_at, member_behind, operation_at, command_at};
 ghost use Rattle.command_core.specs.Reading.{fits as fits_with};
 ghost use Rattle.command_core.specs.Spellings.{Spells};
 
 use crate::command::{Command, End, Op};
+use crate::decode_fault::DecodeFault;
+use crate::destination::Dest;
 use crate::fault::Fault;
+use crate::header_text::HeaderText;
+use crate::list_reading::read_few;
 use crate::member::{Member, Members};
-use record_core::{
-    DecodeFault, Dest, HeaderText, read_byte, read_destination, read_few, read_mode, read_name,
-    read_optional, read_sending, read_text, read_u64,
+use crate::part_reading::{
+    read_byte, read_destination, read_mode, read_name, read_optional, read_sending, read_text,
+    read_u64,
 };
 use std::alloc::Global;
 

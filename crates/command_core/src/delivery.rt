@@ -11,11 +11,12 @@ ghost use Rattle.command_core.specs.Contents.{message_of, own_of};
 ghost use Rattle.command_core.specs.Outs.{header_bytes};
 ghost use Rattle.command_core.specs.Replies.{ack_header, message_id};
 
+use crate::header_text::HeaderText;
 use crate::output::Written;
+use crate::sending::SharedSending;
 use crate::weight::add_headers;
 use frame_core::{Verb, Word, write_header, write_headers};
 use itoa::Buffer;
-use record_core::{HeaderText, SharedSending};
 use std::alloc::{AllocError, Global};
 
 // What is delivered to whom: no frame is built for it. It shares its message with other deliveries.

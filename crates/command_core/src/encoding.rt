@@ -3,18 +3,20 @@
 ghost use Rattle.std.specs.Prelude.{◌≡◌, ◌<◌, ◌≤◌, ◌^◌, ◌∷◌, ◌++◌, IfOk, OnOk, length};
 ghost use Rattle.std.specs.Int.{w64, to_be_bytes};
 ghost use Rattle.std.specs.List.{AllByRecursion};
-ghost use Rattle.record_core.specs.Spellings.{IsSent, sending as spelled_sending};
+ghost use Rattle.command_core.specs.PartSpellings.{IsSent, sending as spelled_sending};
 ghost use Rattle.command_core.specs.Spellings.{Spells, IsMember, IsOperation};
 ghost use Rattle.command_core.specs.Spellings as records;
 ghost use Rattle.command_core.specs.declared.command.Op.TheVariants.{Subscribe, Unsubscribe};
 
+use crate::ack_mode::AckMode;
 use crate::command::{Command, End, Op};
+use crate::destination::Dest;
+use crate::header_text::HeaderText;
 use crate::member::Member;
+use crate::part_sizes::option_size;
+use crate::part_writing::{mode_byte, put_destination, put_optional, put_sending, put_text};
+use crate::sending::Sending;
 use crate::sizes::op_size;
-use record_core::{
-    AckMode, Dest, HeaderText, Sending, mode_byte, option_size, put_destination, put_optional,
-    put_sending, put_text,
-};
 use std::alloc::{AllocError, Global};
 
 // A kind and a number of eight bytes.

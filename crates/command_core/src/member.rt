@@ -2,7 +2,7 @@
 
 ghost use Rattle.std.specs.Prelude.{◌≡◌, ◌≤◌, length};
 
-use record_core::Sending;
+use crate::sending::Sending;
 use std::marker::Model;
 
 /// What may be a part of a transaction (STOMP 1.2, "BEGIN").

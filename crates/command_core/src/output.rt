@@ -9,10 +9,11 @@ ghost use Rattle.command_core.specs.Outs.{weight_of};
 ghost use Rattle.command_core.specs.Replies.{message_frame, receipt_frame};
 
 use crate::delivery::{Delivery, is_acknowledged};
+use crate::header_text::HeaderText;
 use crate::replies::write_receipt;
+use crate::sending::Sending;
 use crate::weight::add_headers;
 use frame_core::{Frame, Verb, first, write_frame};
-use record_core::{HeaderText, Sending};
 use std::alloc::{AllocError, Global};
 use std::marker::Model;
 

@@ -7,11 +7,11 @@ ghost use Rattle.frame_core.specs.Words.{word_bytes};
 ghost use Rattle.frame_core.specs.Writable.{Writable};
 ghost use Rattle.frame_core.specs.Written.{written};
 ghost use Rattle.command_core.specs.Replies.{connected, error_frame, receipt_frame, receipt_header};
-ghost use Rattle.record_core.specs.Texts.{IsHeaderText};
+ghost use Rattle.command_core.specs.Texts.{IsHeaderText};
 
 use crate::fault::{Fault, fault_text};
+use crate::header_text::HeaderText;
 use frame_core::{Bytes, Frame, Headers, Text, Verb, Word, write_header};
-use record_core::HeaderText;
 use std::alloc::{AllocError, Global};
 
 /// Adds a header after the others.

@@ -7,7 +7,7 @@ ghost use Rattle.command_core.specs.Sizes.{op_size as size_of_op, member_size as
 
 use crate::command::{End, Op};
 use crate::member::Member;
-use record_core::{option_size, sending_size, text_size};
+use crate::part_sizes::{option_size, sending_size, text_size};
 
 /// The bytes that a member of a transaction takes in the journal, with the one that tells its kind. Less than 2 MiB.
 pub fn member_size(member: &Member) -> u64

@@ -4,7 +4,7 @@ use Rattle.std.specs.List.{list_any, sum_by}
 use Rattle.std.specs.Str.{bytes_eq}
 use Rattle.command_core.specs.declared.command.Op.{Op}
 use Rattle.command_core.specs.declared.command.Op.TheVariants as ops
-use Rattle.record_core.specs.Sizes.{option_size, text_size}
+use Rattle.command_core.specs.PartSizes.{option_size, text_size}
 use Rattle.connection_core.specs.declared.footprint.Cut.{Cut}
 use Rattle.connection_core.specs.declared.footprint.Cut.TheVariants as cuts
 use Rattle.connection_core.specs.declared.footprint.Part.{Part}

@@ -3,8 +3,7 @@
 ghost use Rattle.std.specs.Prelude.{◌≡◌, ◌≤◌, ◌<◌, ◌++◌, ◌∷◌, ◌^◌, [], filter, not, OnOk, OnErr};
 ghost use Rattle.connection_core.specs.Footprints.{charged, has_id, part, parts_of, total};
 
-use command_core::Op;
-use record_core::{HeaderText, option_size, text_size};
+use command_core::{HeaderText, Op, option_size, text_size};
 use std::alloc::{AllocError, Global};
 use std::marker::Model;
 

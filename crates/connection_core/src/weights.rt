@@ -3,8 +3,7 @@
 ghost use Rattle.std.specs.Prelude.{◌≡◌, ◌≤◌, ◌*◌, ◌^◌, length};
 ghost use Rattle.connection_core.specs.Weights.{headers_of_all, headers_of_member, headers_of_op, op_weight, weight_of, weight_of_all};
 
-use command_core::{Member, Op, op_size};
-use record_core::{HeaderText, option_size};
+use command_core::{HeaderText, Member, Op, op_size, option_size};
 use session_core::Act;
 
 // How many bytes a frame that waits takes beside its texts.

@@ -3,12 +3,11 @@ ghost use Rattle.hub_tests.specs.Parties.{AreTogether};
 
 use crate::hubs::{HubFlusher, HubRing, HubSeat, Party, SMALL_AREA, close, new_party, party_over};
 use crate::paces::{Free, Shut};
-use command_core::{Command, Entry, Op};
+use command_core::{Command, Dest, Entry, Op, Sending};
 use disk_core::MemDisk;
 use frame_core::{Bytes, Headers};
 use hub_core::{Closed, flush_loop};
 use outbox_core::{OutSender, Silent};
-use record_core::{Dest, Sending};
 use std::alloc::Global;
 use std::test::Fail;
 

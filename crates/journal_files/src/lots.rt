@@ -8,8 +8,8 @@ ghost use Rattle.journal_files.specs.Held.{AreLotsOf, names_waiting, queues_wait
 
 use broker_state::DurableName;
 use broker_tables::SharedLines;
+use command_core::Dest;
 use line_core::{Line, Message, size};
-use record_core::Dest;
 use script_text::encode_text;
 use std::alloc::{AllocError, Global};
 use std::collections::BTreeMap;

@@ -1,7 +1,7 @@
 use Rattle.std.proofs.Common.{◌≤◌, ◌*◌, List, [], ◌∷◌, ℕ, length, arith}
 use Rattle.std.specs.List.{AllByRecursion, sum_by}
 use Rattle.std.proofs.lemmas.List.Sums.{sum_by-cons}
-use Rattle.record_core.specs.Sendings.{IsKept}
+use Rattle.command_core.specs.Sendings.{IsKept}
 use Rattle.line_core.specs.Messages.{header_size}
 
 -- kept headers have at most 16,384 bytes each

@@ -1,6 +1,6 @@
 use Rattle.std.specs.Prelude.{◌+◌, List, ℕ, length}
 use Rattle.std.specs.List.{sum_by}
-use Rattle.record_core.specs.Sendings.{SendingValue}
+use Rattle.command_core.specs.Sendings.{SendingValue}
 
 -- the bytes of a header
 abbrev pub header_size : List ℕ × List ℕ → ℕ

@@ -5,7 +5,7 @@ ghost use Rattle.std.specs.List.{remove};
 ghost use Rattle.line_core.specs.Flights.{IsOver, IsRising, StandsAt, has_delivery, settled, settles, unsettled};
 ghost use Rattle.line_core.specs.declared.flight.SettleFault.TheVariants.{Unknown};
 
-use record_core::AckMode;
+use command_core::AckMode;
 use std::alloc::{AllocError, Global};
 use std::marker::Model;
 use std::mem;

@@ -2,7 +2,7 @@
 
 ghost use Rattle.std.specs.Prelude.{◌≡◌, ◌+◌, List, ℕ, length};
 ghost use Rattle.std.specs.List.{sum_by};
-ghost use Rattle.record_core.specs.declared.ack_mode.AckMode.{AckMode};
+ghost use Rattle.command_core.specs.declared.ack_mode.AckMode.{AckMode};
 ghost use Rattle.line_core.specs.Flights.{IsRising, has_delivery, mapped, settled, unsettled};
 
 /// What an acknowledgement settles and what it leaves are together the flight.

@@ -2,11 +2,11 @@
 
 ghost use Rattle.std.specs.Prelude.{◌≡◌, ◌+◌, ◌<◌, ◌≤◌, ◌*◌, ◌^◌, List, ℕ, length};
 ghost use Rattle.std.specs.List.{sum_by, AllByRecursion};
-ghost use Rattle.record_core.specs.Sendings.{IsKept, IsSending};
+ghost use Rattle.command_core.specs.Sendings.{IsKept, IsSending};
 ghost use Rattle.line_core.specs.Messages.{header_size, size_of};
 
+use command_core::Sending;
 use frame_core::Text;
-use record_core::Sending;
 
 /// The number of a message: that of the command that sent it, and the message's place among the members of that
 /// command, which is 0 for a plain SEND.

@@ -1,11 +1,10 @@
 //! Records of commands.
 
-use command_core::{Command, Op, decode, encode};
-use frame_core::{Bytes, Headers, Text};
-use record_core::{
-    DecodeFault, Dest, DestFault, HeaderText, Sending, lists_are_read_as_they_are_spelled,
-    parts_are_read_as_they_are_spelled,
+use command_core::{
+    Command, DecodeFault, Dest, DestFault, HeaderText, Op, Sending, decode, encode,
+    lists_are_read_as_they_are_spelled, parts_are_read_as_they_are_spelled,
 };
+use frame_core::{Bytes, Headers, Text};
 use std::alloc::{AllocError, Global};
 use std::test::Fail;
 

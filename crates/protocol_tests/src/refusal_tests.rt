@@ -1,9 +1,8 @@
 //! Calls whose memory is refused. In an ordinary run nothing is refused, and each call gives its whole answer.
 //! `tests/program/no_memory.py` has each growth refused in turn, and reads what these tests say of it.
 
-use command_core::{End, Op, decode, encode};
+use command_core::{DecodeFault, End, Op, decode, encode};
 use frame_core::{FeedFault, FrameReader};
-use record_core::DecodeFault;
 use session_core::{Act, Session, SessionFault};
 use std::alloc::Global;
 use std::test::Fail;

@@ -1,10 +1,9 @@
 //! The escapes of header texts, and the texts of the faults.
 
-use command_core::{Fault, fault_text};
+use command_core::{DecodeFault, DestFault, Fault, fault_text, is_header_text};
 use escape_core::{EscapeFault, escape, is_defined, unescape};
 use frame_core::{FeedFault, FrameFault};
 use line_core::SettleFault;
-use record_core::{DecodeFault, DestFault, is_header_text};
 use session_core::SessionFault;
 use std::alloc::{AllocError, Global};
 use std::test::Fail;

@@ -5,11 +5,11 @@ use Rattle.std.specs.List.{AllByRecursion, list_all, sum_by}
 use Rattle.std.specs.Map.{values_of}
 use Rattle.std.proofs.lemmas.Bool.{and_parts, leb-true}
 use Rattle.std.proofs.lemmas.List.Sums.{sum_by-cons}
-use Rattle.record_core.specs.Destinations.{IsDestination, is_destination_byte, is_name, is_queue, is_topic}
-use Rattle.record_core.specs.Sendings.{SendingValue}
-use Rattle.record_core.specs.Sizes.{option_size, text_size}
-use Rattle.record_core.proofs.Sized.{each_sized, optional_sized}
-use Rattle.record_core.specs.Spellings.{IsText, counted, headers, mode_byte, optional, pair, sending}
+use Rattle.command_core.specs.Destinations.{IsDestination, is_destination_byte, is_name, is_queue, is_topic}
+use Rattle.command_core.specs.Sendings.{SendingValue}
+use Rattle.command_core.specs.PartSizes.{option_size, text_size}
+use Rattle.command_core.proofs.PartsSized.{each_sized, optional_sized}
+use Rattle.command_core.specs.PartSpellings.{IsText, counted, headers, mode_byte, optional, pair, sending}
 use Rattle.line_core.specs.declared.message.Message.{Message}
 use Rattle.line_core.specs.Messages.{header_size, size_of}
 use Rattle.broker_state.specs.declared.subscription.Subscription.{Subscription}

@@ -12,8 +12,8 @@ use crate::OpenFault;
 use crate::folding::{MOST_COUNTED, repeat_all};
 use area_core::{Area, ReadFault};
 use broker_core::Broker;
+use command_core::DecodeFault;
 use disk_core::Disk;
-use record_core::DecodeFault;
 use snapshot_core::decode_state;
 use std::alloc::Global;
 

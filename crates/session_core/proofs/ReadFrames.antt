@@ -10,8 +10,8 @@ use Rattle.frame_core.specs.Writable.{first_of, HasNoNul}
 use Rattle.frame_core.specs.Heads.{IsInLine, HeaderLine, line_of, eol, IsHeaderOf, HeaderLines}
 use Rattle.frame_core.specs.Spelling.{Spells, IsWithinLimits}
 use Rattle.frame_core.specs.Streams.{Frames}
-use Rattle.record_core.specs.Texts.{IsHeaderText}
-use Rattle.record_core.specs.Sendings.{IsKept, is_kept, kept_headers}
+use Rattle.command_core.specs.Texts.{IsHeaderText}
+use Rattle.command_core.specs.Sendings.{IsKept, is_kept, kept_headers}
 use Rattle.session_core.specs.ReadFrames.{IsReadHeader, IsRead}
 
 one_found : (b : Bool) (text value : List ℕ) (other : Option (List ℕ)) → IsHeaderText text → (other ≡ Some value → IsHeaderText value) → cond b (Some text) other ≡ Some value → IsHeaderText value

@@ -5,12 +5,12 @@ use Rattle.frame_core.specs.declared.frame.Frame.{Frame}
 use Rattle.frame_core.specs.declared.frame.Verb.{Verb}
 use Rattle.frame_core.specs.declared.frame.Verb.TheVariants.{Connect, Stomp}
 use Rattle.frame_core.specs.Writable.{first_of}
-use Rattle.record_core.specs.declared.ack_mode.AckMode.{AckMode}
-use Rattle.record_core.specs.declared.ack_mode.AckMode.TheVariants.{Auto, Client, ClientIndividual}
+use Rattle.command_core.specs.declared.ack_mode.AckMode.{AckMode}
+use Rattle.command_core.specs.declared.ack_mode.AckMode.TheVariants.{Auto, Client, ClientIndividual}
 use Rattle.command_core.specs.declared.fault.Fault.{Fault}
 use Rattle.command_core.specs.declared.fault.Fault.TheVariants.{MissingHeader, BadHeaderValue}
-use Rattle.record_core.specs.Destinations.{is_queue}
-use Rattle.record_core.specs.Texts.{IsHeaderText}
+use Rattle.command_core.specs.Destinations.{is_queue}
+use Rattle.command_core.specs.Texts.{IsHeaderText}
 use Rattle.session_core.specs.Numbers.{decimal_value}
 
 -- a header as the reader gives it: with a name, and texts that fit into a header

@@ -1,8 +1,7 @@
 //! What is to be done for a session.
 
 use crate::notice::Notice;
-use command_core::Op;
-use record_core::HeaderText;
+use command_core::{HeaderText, Op};
 
 /// Why a connection is closed (RFC 6455, section 7.4.1).
 #[derive(Clone, Copy)]

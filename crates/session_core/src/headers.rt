@@ -2,14 +2,13 @@
 
 ghost use Rattle.std.specs.Prelude.{◌≡◌, codes, IfOk};
 ghost use Rattle.frame_core.specs.Writable.{first_of};
-ghost use Rattle.record_core.specs.Sendings.{kept_headers as kept};
-ghost use Rattle.record_core.specs.Texts.{IsHeaderText};
+ghost use Rattle.command_core.specs.Sendings.{kept_headers as kept};
+ghost use Rattle.command_core.specs.Texts.{IsHeaderText};
 ghost use Rattle.session_core.specs.ReadFrames.{IsRead, receipt_of, some_text, durable_at, durable_of, mode_of, delivery_of};
 
 use crate::numbers::number_of;
-use command_core::Fault;
+use command_core::{AckMode, Dest, Fault, HeaderText, is_kept_name};
 use frame_core::{Frame, Headers, Text, Verb, first};
-use record_core::{AckMode, Dest, HeaderText, is_kept_name};
 use std::alloc::{AllocError, Global};
 
 /// The text of a header, to be kept.

@@ -8,9 +8,8 @@ use crate::headers::{
     ack_mode, client_id, delivery, durable_name, durable_name_at, header, kept_headers, text,
 };
 use crate::versions::offers_version;
-use command_core::{Fault, Member, Op};
+use command_core::{Dest, DestFault, Fault, HeaderText, Member, Op, Sending};
 use frame_core::{Frame, Verb, first};
-use record_core::{Dest, DestFault, HeaderText, Sending};
 use std::alloc::{AllocError, Global};
 
 /// What a frame of an open session asks for.

@@ -13,9 +13,8 @@ use crate::headers::receipt;
 use crate::notice::Notice;
 use crate::phase::Phase;
 use crate::requests::{Request, ask, ask_first};
-use command_core::{End, Fault, Member, Op, error_reply};
+use command_core::{End, Fault, HeaderText, Member, Op, error_reply};
 use frame_core::Frame;
-use record_core::HeaderText;
 use std::alloc::{AllocError, Global};
 use tx_core::{OpenTx, TxFault};
 

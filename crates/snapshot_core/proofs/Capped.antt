@@ -2,9 +2,9 @@
 use Rattle.std.proofs.Common.{◌≡◌, ◌<◌, ◌+◌, ◌∙◌, ◌^◌, ℕ, List, [], ◌∷◌, ◌++◌, ap, sym, length, option_map, length-append, flat_map, get_or, take, arith}
 use Rattle.std.specs.Int.{w64, to_be_bytes}
 use Rattle.std.proofs.lemmas.List.{take_more, flat_map_more}
-use Rattle.record_core.specs.Sizes.{sending_size}
-use Rattle.record_core.specs.Spellings.{counted, mode_byte, optional}
-use Rattle.record_core.proofs.Sized.{sending_sized}
+use Rattle.command_core.specs.PartSizes.{sending_size}
+use Rattle.command_core.specs.PartSpellings.{counted, mode_byte, optional}
+use Rattle.command_core.proofs.PartsSized.{sending_sized}
 use Rattle.line_core.specs.declared.message.Message.{Message}
 use Rattle.snapshot_core.specs.Lengths.{counted_in_eight}
 use Rattle.broker_state.specs.declared.subscription.Subscription.{Subscription}

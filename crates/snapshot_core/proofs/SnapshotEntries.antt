@@ -3,11 +3,11 @@ use Rattle.std.proofs.Common.{◌≡◌, ℕ, ◌<◌, ◌++◌, List, length, O
 use Rattle.std.specs.Int.{w64, to_be_bytes}
 use Rattle.std.proofs.lemmas.Bool.{ltb-true, lt-ltb}
 use Rattle.std.specs.Prelude.{nat_lt}
-use Rattle.record_core.specs.Destinations.{IsDestination}
-use Rattle.record_core.specs.Reading.{◌>>=◌, destination_at, name_at, text_at}
-use Rattle.record_core.specs.Spellings.{AreBytes, IsText, counted, optional}
-use Rattle.record_core.proofs.Formats.{Format, Takes, Takes-then, last_takes, tested}
-use Rattle.record_core.proofs.RecordTexts.{destination_format, name_format, text_format}
+use Rattle.command_core.specs.Destinations.{IsDestination}
+use Rattle.command_core.specs.PartReading.{◌>>=◌, destination_at, name_at, text_at}
+use Rattle.command_core.specs.PartSpellings.{AreBytes, IsText, counted, optional}
+use Rattle.command_core.proofs.Formats.{Format, Takes, Takes-then, last_takes, tested}
+use Rattle.command_core.proofs.RecordTexts.{destination_format, name_format, text_format}
 use Rattle.line_core.specs.declared.message.Message.{Message}
 use Rattle.broker_core.specs.Names.{Name}
 use Rattle.snapshot_core.specs.Reading.{durable_at, given_at, queue_at, session_at, waiting_at}

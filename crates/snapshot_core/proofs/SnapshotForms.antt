@@ -8,8 +8,8 @@ use Rattle.std.proofs.lemmas.List.{length-map, nil_from_length}
 use Rattle.std.proofs.lemmas.Bool.{eqb-true}
 use Rattle.std.proofs.lemmas.Option.{none-some, some_pair_parts}
 use Rattle.frame_core.proofs.Lists.{all_both, all_weaker}
-use Rattle.record_core.specs.Destinations.{IsDestination}
-use Rattle.record_core.specs.Spellings.{AreBytes}
+use Rattle.command_core.specs.Destinations.{IsDestination}
+use Rattle.command_core.specs.PartSpellings.{AreBytes}
 use Rattle.line_core.specs.declared.message.Message.{Message}
 use Rattle.broker_state.specs.declared.subscription.Subscription.{Subscription}
 use Rattle.broker_core.specs.Lists.{is_none}

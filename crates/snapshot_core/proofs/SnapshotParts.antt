@@ -4,14 +4,14 @@ use Rattle.std.specs.Int.{w32, w64, to_be_bytes}
 use Rattle.std.specs.List.Sorted.{IsStrictlySortedBy}
 use Rattle.std.specs.Map.{keys_of}
 use Rattle.std.specs.declared.cmp.Ordering.{Ordering}
-use Rattle.record_core.specs.Reading.{◌>>=◌, Reader, number_at, sending_at}
-use Rattle.record_core.specs.Sendings.{SendingValue}
-use Rattle.record_core.specs.Spellings.{AreBytes, sending}
-use Rattle.record_core.proofs.Formats.{Format, HasBytes, Listed, Takes, Takes-then, First, first_again, first_takes, last_takes, number, tested, wide32, wide64}
-use Rattle.record_core.proofs.Formats.{listed as format_of_list}
-use Rattle.record_core.proofs.RecordMessages.{sending_format}
+use Rattle.command_core.specs.PartReading.{◌>>=◌, Reader, number_at, sending_at}
+use Rattle.command_core.specs.Sendings.{SendingValue}
+use Rattle.command_core.specs.PartSpellings.{AreBytes, sending}
+use Rattle.command_core.proofs.Formats.{Format, HasBytes, Listed, Takes, Takes-then, First, first_again, first_takes, last_takes, number, tested, wide32, wide64}
+use Rattle.command_core.proofs.Formats.{listed as format_of_list}
+use Rattle.command_core.proofs.RecordMessages.{sending_format}
 use Rattle.line_core.specs.declared.message.Message.{Message}
-use Rattle.record_core.specs.Reading.{listed_at}
+use Rattle.command_core.specs.PartReading.{listed_at}
 use Rattle.snapshot_core.specs.Reading.{delivery_at, is_rising, keyed_at, message_at, rises, waiting_at}
 use Rattle.snapshot_core.specs.Snapshots.{IsDelivery, IsLine, IsMessage, delivery, line, listed, message}
 use Rattle.snapshot_core.proofs.RisingLists.{from_rising, rises_from, rising_from, sorted_from}

@@ -5,14 +5,14 @@ use Rattle.std.specs.List.{AllByRecursion}
 use Rattle.std.specs.Ordering.{nat_cmp}
 use Rattle.std.proofs.lemmas.List.{length-map}
 use Rattle.std.proofs.lemmas.List.Folds.{flat_map-map}
-use Rattle.record_core.specs.Reading.{◌>>=◌, number_at}
-use Rattle.record_core.specs.Spellings.{AreBytes}
-use Rattle.record_core.proofs.Formats.{Format, Listed, Takes, Takes-then, last_takes}
+use Rattle.command_core.specs.PartReading.{◌>>=◌, number_at}
+use Rattle.command_core.specs.PartSpellings.{AreBytes}
+use Rattle.command_core.proofs.Formats.{Format, Listed, Takes, Takes-then, last_takes}
 use Rattle.broker_state.specs.declared.subscription.Subscription.{Subscription}
 use Rattle.broker_core.specs.Names.{Name, name_cmp, text_cmp}
 use Rattle.broker_core.specs.States.{State}
 use Rattle.broker_core.specs.Waiting.{Lines, Shared}
-use Rattle.record_core.specs.Reading.{listed_at}
+use Rattle.command_core.specs.PartReading.{listed_at}
 use Rattle.snapshot_core.specs.Reading.{durable_at, keyed_at, lines_of, queue_at, session_at, state_at, subscription_at}
 use Rattle.snapshot_core.specs.Snapshots.{IsSession, durable, listed, queue, session, snapshot_of, subscription}
 use Rattle.snapshot_core.proofs.SnapshotParts.{Keyed, keyed_format, listed_format, numbers64, step_again, step_takes}

@@ -8,14 +8,14 @@ use Rattle.std.specs.Option.{option_map}
 use Rattle.std.specs.Ordering.{nat_cmp}
 use Rattle.std.proofs.lemmas.Option.{none-some, same_Some}
 use Rattle.frame_core.proofs.Lists.{all_weaker}
-use Rattle.record_core.specs.declared.ack_mode.AckMode.{AckMode}
-use Rattle.record_core.specs.Destinations.{IsDestination, is_queue}
-use Rattle.record_core.specs.Reading.{◌>>=◌, destination_at, mode_at, name_at, text_at}
-use Rattle.record_core.specs.Spellings.{AreBytes, IsText, counted, mode_byte, optional}
-use Rattle.record_core.proofs.Formats.{Format, Takes, Takes-then, bind_some, last_takes}
-use Rattle.record_core.proofs.RecordModes.{mode_format}
-use Rattle.record_core.proofs.RecordTexts as texts
-use Rattle.record_core.proofs.RecordTexts.{destination_format, name_format, text_format}
+use Rattle.command_core.specs.declared.ack_mode.AckMode.{AckMode}
+use Rattle.command_core.specs.Destinations.{IsDestination, is_queue}
+use Rattle.command_core.specs.PartReading.{◌>>=◌, destination_at, mode_at, name_at, text_at}
+use Rattle.command_core.specs.PartSpellings.{AreBytes, IsText, counted, mode_byte, optional}
+use Rattle.command_core.proofs.Formats.{Format, Takes, Takes-then, bind_some, last_takes}
+use Rattle.command_core.proofs.RecordModes.{mode_format}
+use Rattle.command_core.proofs.RecordTexts as texts
+use Rattle.command_core.proofs.RecordTexts.{destination_format, name_format, text_format}
 use Rattle.line_core.specs.declared.message.Message.{Message}
 use Rattle.broker_state.specs.declared.subscription.Subscription.{Subscription}
 use Rattle.broker_core.specs.Names.{Name}

@@ -2,11 +2,11 @@
 use Rattle.std.proofs.Common.{◌≡◌, ◌∙◌, ◌||◌, ℕ, Bool, List, Option, None, Some, ap, is_some, not, refl, subst, sym}
 use Rattle.std.specs.Int.{w64}
 use Rattle.std.specs.Ordering.{nat_cmp}
-use Rattle.record_core.specs.declared.ack_mode.AckMode.{AckMode}
-use Rattle.record_core.specs.declared.decode_fault.DecodeFault.{DecodeFault}
-use Rattle.record_core.specs.declared.decode_fault.DecodeFault.TheVariants as faults
-use Rattle.record_core.specs.Destinations.{is_queue}
-use Rattle.record_core.specs.Reading.{◌>>=◌, Fails, destination_at, mode_at, name_at, number_at, text_at}
+use Rattle.command_core.specs.declared.ack_mode.AckMode.{AckMode}
+use Rattle.command_core.specs.declared.decode_fault.DecodeFault.{DecodeFault}
+use Rattle.command_core.specs.declared.decode_fault.DecodeFault.TheVariants as faults
+use Rattle.command_core.specs.Destinations.{is_queue}
+use Rattle.command_core.specs.PartReading.{◌>>=◌, Fails, destination_at, mode_at, name_at, number_at, text_at}
 use Rattle.line_core.specs.declared.message.Message.{Message}
 use Rattle.broker_state.specs.declared.subscription.Subscription.{Subscription}
 use Rattle.broker_core.specs.Names.{Name}

@@ -2,7 +2,7 @@
 use Rattle.std.specs.Prelude.{List, [], ◌∷◌, ℕ}
 use Rattle.std.specs.Int.{w32, w64, to_be_bytes}
 use Rattle.std.specs.List.{flat_map}
-use Rattle.record_core.specs.Spellings.{counted, sending}
+use Rattle.command_core.specs.PartSpellings.{counted, sending}
 use Rattle.snapshot_core.specs.declared.part.Part.{Part}
 use Rattle.snapshot_core.specs.declared.part.Part.TheVariants.{Number, Count, Byte, Text, Destination, Sending}
 

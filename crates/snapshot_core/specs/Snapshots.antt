@@ -1,9 +1,9 @@
 use Rattle.std.specs.Prelude.{◌≡◌, ◌<◌, ◌^◌, List, [], ◌∷◌, ◌++◌, ℕ, Option, IfSome, length, option_map, if◌then◌else◌}
 use Rattle.std.specs.Int.{w32, w64, to_be_bytes}
 use Rattle.std.specs.List.{AllByRecursion, flat_map}
-use Rattle.record_core.specs.Destinations.{IsDestination}
-use Rattle.record_core.specs.Texts.{IsGiven}
-use Rattle.record_core.specs.Spellings.{IsSent, IsText, counted, mode_byte, optional, sending}
+use Rattle.command_core.specs.Destinations.{IsDestination}
+use Rattle.command_core.specs.Texts.{IsGiven}
+use Rattle.command_core.specs.PartSpellings.{IsSent, IsText, counted, mode_byte, optional, sending}
 use Rattle.line_core.specs.declared.message.Message.{Message}
 use Rattle.line_core.specs.Flights as flights
 use Rattle.line_core.specs.Lines.{IsRising}

@@ -6,7 +6,7 @@ ghost use Rattle.snapshot_core.specs.Snapshots.{Spells};
 
 use crate::reading::read_parts;
 use broker_core::Broker;
-use record_core::DecodeFault;
+use command_core::DecodeFault;
 use std::alloc::Global;
 
 /// The broker of the state that the bytes spell, from the first to the last. It is `NoSpelling` if they spell no state that

@@ -4,16 +4,18 @@ ghost use Rattle.std.specs.Prelude.{◌≡◌, IfOk};
 ghost use Rattle.std.specs.List.Sorted.{IsStrictlySortedBy};
 ghost use Rattle.std.specs.Map.{keys_of};
 ghost use Rattle.std.specs.Ordering.{nat_cmp};
-ghost use Rattle.record_core.specs.Reading.{Gives, name_at};
+ghost use Rattle.command_core.specs.PartReading.{Gives, name_at};
 ghost use Rattle.broker_core.specs.Names.{name_cmp, text_cmp};
-ghost use Rattle.record_core.specs.Reading.{listed_at};
+ghost use Rattle.command_core.specs.PartReading.{listed_at};
 ghost use Rattle.snapshot_core.specs.Reading.{durable_at, full_name_at, given_at, keyed_at, queue_at, session_at};
 
 use crate::message_reading::read_line;
 use crate::rising::{map_of, rises};
 use broker_state::{DurableName, GivenName};
+use command_core::{
+    DecodeFault, Dest, read_destination, read_list, read_name, read_text, read_u64,
+};
 use line_core::Line;
-use record_core::{DecodeFault, Dest, read_destination, read_list, read_name, read_text, read_u64};
 use std::alloc::Global;
 use std::collections::BTreeMap;
 

@@ -2,7 +2,7 @@
 //! number that they can.
 
 ghost use Rattle.std.specs.Prelude.{◌≡◌, ◌<◌, ◌^◌, [], false, length, option_map};
-ghost use Rattle.record_core.specs.Spellings.{counted, optional};
+ghost use Rattle.command_core.specs.PartSpellings.{counted, optional};
 ghost use Rattle.broker_core.specs.Names.{Name, name_cmp};
 ghost use Rattle.broker_core.specs.Sound.{IsSound};
 ghost use Rattle.broker_core.specs.Waiting.{is_own, line_at};
@@ -13,8 +13,8 @@ ghost use Rattle.snapshot_core.specs.Snapshots as spelled;
 use broker_core::Broker;
 use broker_state::{DurableName, GivenName, Subscription};
 use broker_tables::SharedLines;
+use command_core::{Dest, sending_size, text_size};
 use line_core::{Line, Message};
-use record_core::{Dest, sending_size, text_size};
 use std::collections::BTreeMap;
 
 #[tactic(auto, using(crate::proofs::Capped::message_counted))]

@@ -4,10 +4,10 @@
 ghost use Rattle.std.specs.Prelude.{◌≡◌, ◌<◌, ◌++◌, ◌^◌, [], ℕ, false, IfSome, OnOk, length, option_map};
 ghost use Rattle.std.specs.Int.{w32, w64, to_be_bytes};
 ghost use Rattle.std.specs.List.{AllByRecursion};
-ghost use Rattle.record_core.specs.Destinations.{IsDestination};
-ghost use Rattle.record_core.specs.Sendings.{IsKept};
-ghost use Rattle.record_core.specs.Texts.{IsGiven};
-ghost use Rattle.record_core.specs.Spellings.{AreBytes, AreTexts, IsSent, IsText, counted, optional, sending};
+ghost use Rattle.command_core.specs.Destinations.{IsDestination};
+ghost use Rattle.command_core.specs.Sendings.{IsKept};
+ghost use Rattle.command_core.specs.Texts.{IsGiven};
+ghost use Rattle.command_core.specs.PartSpellings.{AreBytes, AreTexts, IsSent, IsText, counted, optional, sending};
 ghost use Rattle.broker_core.specs.Names.{Name, name_cmp};
 ghost use Rattle.broker_core.specs.Sound.{IsSound};
 ghost use Rattle.broker_core.specs.Waiting.{is_own, line_at};
@@ -19,9 +19,9 @@ use crate::part::Part;
 use broker_core::Broker;
 use broker_state::{DurableName, GivenName, Subscription};
 use broker_tables::SharedLines;
+use command_core::{Dest, HeaderText, Sending, mode_byte};
 use frame_core::Text;
 use line_core::{Line, Message};
-use record_core::{Dest, HeaderText, Sending, mode_byte};
 use std::alloc::{AllocError, Global};
 use std::collections::BTreeMap;
 

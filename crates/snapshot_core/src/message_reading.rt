@@ -1,13 +1,13 @@
 //! Messages, lines of them and deliveries, read from the front of bytes, as `reading` says.
 
 ghost use Rattle.std.specs.Ordering.{nat_cmp};
-ghost use Rattle.record_core.specs.Reading.{Gives};
-ghost use Rattle.record_core.specs.Reading.{listed_at};
+ghost use Rattle.command_core.specs.PartReading.{Gives};
+ghost use Rattle.command_core.specs.PartReading.{listed_at};
 ghost use Rattle.snapshot_core.specs.Reading.{delivery_at, keyed_at, message_at, waiting_at};
 
 use crate::rising::{is_rising, rises};
+use command_core::{DecodeFault, read_list, read_sending, read_u32, read_u64};
 use line_core::{Flight, Line, Message, MessageNumber};
-use record_core::{DecodeFault, read_list, read_sending, read_u32, read_u64};
 use std::alloc::Global;
 
 /// A message: the number of its command, its place there, and what is sent.

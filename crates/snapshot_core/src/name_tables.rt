@@ -10,8 +10,8 @@ ghost use Rattle.broker_core.specs.Names.{Name, name_cmp};
 ghost use Rattle.snapshot_core.specs.Reading.{lines_of};
 
 use broker_state::DurableName;
+use command_core::Dest;
 use line_core::Line;
-use record_core::Dest;
 use std::alloc::{AllocError, Global};
 use std::collections::BTreeMap;
 

@@ -3,7 +3,7 @@
 ghost use Rattle.std.specs.Prelude.{◌≡◌, ◌++◌, OnOk};
 ghost use Rattle.snapshot_core.specs.Parts.{spelled_by};
 
-use record_core::{Dest, HeaderText, Sending, put_destination, put_sending, put_text};
+use command_core::{Dest, HeaderText, Sending, put_destination, put_sending, put_text};
 use std::alloc::AllocError;
 
 /// A part of a snapshot that is written at once: a number of eight bytes or of four, a byte, a text, a destination, or what

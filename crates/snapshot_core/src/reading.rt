@@ -2,7 +2,7 @@
 //! answers `NoSpelling` just if no spelling of its part begins the bytes, and `Memory` if memory is refused. No room
 //! is taken by a count that was read: it may lie.
 
-ghost use Rattle.record_core.specs.Reading.{Gives};
+ghost use Rattle.command_core.specs.PartReading.{Gives};
 ghost use Rattle.broker_core.specs.PartsOf.{state_of_parts};
 ghost use Rattle.snapshot_core.specs.Reading.{state_at};
 
@@ -10,7 +10,7 @@ use crate::entry_reading::{read_durables, read_queues, read_sessions};
 use crate::name_tables::tables_of;
 use crate::subscription_reading::read_subscriptions;
 use broker_state::Parts;
-use record_core::{DecodeFault, read_u64};
+use command_core::{DecodeFault, read_u64};
 use std::alloc::Global;
 
 /// The parts of a state, and the bytes after them.

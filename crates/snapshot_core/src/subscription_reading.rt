@@ -1,20 +1,20 @@
 //! Subscriptions, read from the front of bytes, as `reading` says.
 
 ghost use Rattle.std.specs.Prelude.{◌≡◌, ◌||◌, is_some, not, option_map};
-ghost use Rattle.record_core.specs.Destinations.{is_queue};
-ghost use Rattle.record_core.specs.Reading.{Gives};
+ghost use Rattle.command_core.specs.Destinations.{is_queue};
+ghost use Rattle.command_core.specs.PartReading.{Gives};
 ghost use Rattle.broker_core.specs.Operations.{client_in as client_among};
-ghost use Rattle.record_core.specs.Reading.{listed_at};
+ghost use Rattle.command_core.specs.PartReading.{listed_at};
 ghost use Rattle.snapshot_core.specs.Reading.{durable_name_at, front_at, had_at, named_by, own_line_at, subscription_at};
 
 use crate::entry_reading::read_optional_name;
 use crate::message_reading::{read_flight, read_line};
 use broker_state::{DurableName, GivenName, Subscription};
-use line_core::{Flight, Line, Message};
-use record_core::{
+use command_core::{
     AckMode, DecodeFault, Dest, HeaderText, read_destination, read_list, read_mode, read_text,
     read_u64,
 };
+use line_core::{Flight, Line, Message};
 use std::alloc::Global;
 use std::collections::BTreeMap;
 

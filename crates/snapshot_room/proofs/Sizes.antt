@@ -3,10 +3,10 @@ use Rattle.std.proofs.Common.{◌≤◌, ◌+◌, ◌*◌, ◌++◌, List, [], �
 use Rattle.std.specs.Int.{to_be_bytes, w64}
 use Rattle.std.specs.List.{AllByRecursion, sum_by}
 use Rattle.std.proofs.lemmas.List.Sums.{sum_by-cons, sum_by-le-sum_by}
-use Rattle.record_core.specs.Sendings.{IsKept}
-use Rattle.record_core.specs.Sizes.{pair_size}
-use Rattle.record_core.specs.Spellings.{optional}
-use Rattle.record_core.proofs.Sized.{optional_sized}
+use Rattle.command_core.specs.Sendings.{IsKept}
+use Rattle.command_core.specs.PartSizes.{pair_size}
+use Rattle.command_core.specs.PartSpellings.{optional}
+use Rattle.command_core.proofs.PartsSized.{optional_sized}
 use Rattle.command_core.specs.declared.command.End.TheVariants.{Bye, Lost, Bad}
 use Rattle.command_core.specs.declared.command.Op.{Op}
 use Rattle.command_core.specs.declared.command.Op.TheVariants.{Open, Send, Subscribe, Unsubscribe, Ack, Nack, Commit, Note, End}

@@ -5,8 +5,7 @@ ghost use Rattle.tx_core.specs.Places.{HasNone, IsPlace};
 
 use crate::fault::TxFault;
 use crate::transaction::Transaction;
-use command_core::{Member, Members};
-use record_core::HeaderText;
+use command_core::{HeaderText, Member, Members};
 use std::alloc::{AllocError, Global};
 use std::marker::Model;
 

@@ -7,8 +7,7 @@ ghost use Rattle.tx_core.specs.Refusals.{refusal_to_join};
 ghost use Rattle.tx_core.specs.TxFaults.{fault_of};
 
 use crate::fault::TxFault;
-use command_core::{Member, Members, member_size};
-use record_core::HeaderText;
+use command_core::{HeaderText, Member, Members, member_size};
 use std::alloc::{AllocError, Global};
 use std::marker::Model;
 

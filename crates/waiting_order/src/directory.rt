@@ -11,7 +11,7 @@ use crate::group::Group;
 use crate::groups::{forget, join, leave, move_last};
 use crate::places::Place;
 use broker_state::{DurableName, Subscription};
-use record_core::Dest;
+use command_core::Dest;
 use slab::Slab;
 use std::alloc::{AllocError, Global};
 use std::collections::BTreeMap;

@@ -23,9 +23,9 @@ use crate::sought::Sought;
 use crate::standing::Standing;
 use crate::standings::Standings;
 use broker_state::{DurableName, Subscription};
+use command_core::Dest;
 use indexmap::map::Slice;
 use line_core::Message;
-use record_core::Dest;
 use std::alloc::{AllocError, Global};
 use std::marker::Model;
 

@@ -5,7 +5,7 @@ ghost use Rattle.waiting_order.specs.Soughts.{is_sought, sooner};
 
 use crate::places::Place;
 use broker_state::Subscription;
-use record_core::HeaderText;
+use command_core::HeaderText;
 
 /// Which subscription of a session is sought.
 #[derive(Clone, Copy)]

@@ -5,7 +5,7 @@ use Rattle.command_core.specs.declared.command.Op.{Op}
 use Rattle.command_core.specs.declared.command.Op.TheVariants.{Subscribe, Send, Commit}
 use Rattle.command_core.specs.declared.member.Member.{Member}
 use Rattle.command_core.specs.declared.member.Member.TheVariants as members
-use Rattle.record_core.specs.Destinations.{is_queue}
+use Rattle.command_core.specs.Destinations.{is_queue}
 use Rattle.work_share.specs.declared.sample.Sample.{Sample}
 use Rattle.work_share.specs.declared.sample.Sample.TheVariants.{Nothing, Joins, Hears}
 

@@ -7,8 +7,7 @@ ghost use Rattle.work_share.specs.declared.audiences.TheConstants.{OPERATION, PL
 
 use crate::sample::Sample;
 use crate::words::Words;
-use command_core::{Member, Op};
-use record_core::Dest;
+use command_core::{Dest, Member, Op};
 use std::alloc::{AllocError, Global};
 use std::marker::Model;
 

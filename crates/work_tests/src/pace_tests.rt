@@ -1,6 +1,5 @@
-use command_core::Op;
+use command_core::{Dest, Op, Sending};
 use frame_core::{Bytes, Headers};
-use record_core::{Dest, Sending};
 use std::alloc::Global;
 use std::test::Fail;
 use work_share::{Pace, Sample};

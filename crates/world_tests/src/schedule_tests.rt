@@ -1,8 +1,7 @@
 //! Single schedules: tables of events, and whether each is possible when it comes.
 use crate::schedules::{FIRST_GATE, Pick, apply, claim, open};
-use command_core::{Command, Op};
+use command_core::{Command, Dest, Op, Sending};
 use frame_core::{Bytes, Headers};
-use record_core::{Dest, Sending};
 use std::alloc::{AllocError, Global};
 use std::process::Abort;
 use std::test::Fail;

@@ -1,6 +1,6 @@
 use Rattle.std.proofs.Common.{◌++◌, [], flat_map, sym, ◌∙◌, ap, List, ℕ}
 use Rattle.std.proofs.lemmas.List.{take_all}
-use Rattle.record_core.proofs.Walks.{put_more}
+use Rattle.command_core.proofs.Walks.{put_more}
 use Rattle.area_core.proofs.Batches.{batch_records, entry_record}
 use Rattle.area_core.proofs.batch.put_records.Goals as goal
 

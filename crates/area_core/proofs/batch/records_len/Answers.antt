@@ -2,7 +2,7 @@ use Rattle.std.proofs.Common.{inl, inr, ◌+◌, ◌^◌, arith, length, ap, sym
 use Rattle.std.specs.List.{AllByRecursion}
 use Rattle.std.proofs.lemmas.List.{take_all}
 use Rattle.std.proofs.lemmas.Bool.{cases_lt}
-use Rattle.record_core.proofs.Walks.{all_more}
+use Rattle.command_core.proofs.Walks.{all_more}
 use Rattle.area_core.proofs.Batches.{EntryHasRecord, batch_forms, batch_records, carried, entry_record, total_more, total_most}
 use Rattle.area_core.proofs.batch.records_len.Goals as goal
 

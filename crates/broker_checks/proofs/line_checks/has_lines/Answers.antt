@@ -1,6 +1,6 @@
 use Rattle.std.proofs.Common.{◌≡◌, ◌↔◌, [], Bool, IfSome, IsTrue, List, false, refl, subst, sym, true}
 use Rattle.std.specs.List.{AllByRecursion}
-use Rattle.record_core.specs.Destinations.{is_queue}
+use Rattle.command_core.specs.Destinations.{is_queue}
 use Rattle.broker_state.specs.Lists.{is_none}
 use Rattle.broker_state.specs.Operations.{topic_of}
 use Rattle.broker_state.specs.PartsOf.{state_of_parts}

@@ -1,6 +1,6 @@
 use Rattle.std.proofs.Common.{◌≡◌, ◌≤◌, ◌↔◌, Bool, IsSome, IsTrue, List, count_by, false, length, refl, subst, sym}
 use Rattle.std.specs.List.{AllByRecursion}
-use Rattle.record_core.specs.Destinations.{is_queue}
+use Rattle.command_core.specs.Destinations.{is_queue}
 use Rattle.broker_state.specs.Names.{Name}
 use Rattle.broker_state.specs.Operations.{topic_of, uses}
 use Rattle.broker_state.specs.PartsOf.{state_of_parts}

@@ -1,6 +1,6 @@
 use Rattle.std.proofs.Common.{arith}
 use Rattle.std.proofs.lemmas.Result.{err_from_is_err_and}
-use Rattle.record_core.proofs.Walks.{bytes_are}
+use Rattle.command_core.proofs.Walks.{bytes_are}
 use Rattle.command_core.proofs.RecordCommands.{failed, none_is_spelled, rest_is_short, read_is_spelled}
 use Rattle.command_core.proofs.decoding.decode.Goals as goal
 

@@ -1,5 +1,5 @@
 use Rattle.std.proofs.Common.{arith, sym, ◌∙◌}
-use Rattle.record_core.proofs.Walks.{bytes_are}
+use Rattle.command_core.proofs.Walks.{bytes_are}
 use Rattle.command_core.proofs.RecordCommands.{command_formed}
 use Rattle.command_core.proofs.decoding.read_command.Goals as goal
 

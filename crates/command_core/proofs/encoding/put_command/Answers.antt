@@ -2,9 +2,9 @@ use Rattle.std.proofs.Common.{◌≡◌, ◌++◌, ℕ, List, Option, IfSome, re
 use Rattle.std.specs.Int.{w64, to_be_bytes}
 use Rattle.std.proofs.lemmas.Result.{on_ok_weaker}
 use Rattle.command_core.specs.declared.command.Op.{Op}
-use Rattle.record_core.specs.Spellings.{IsText, optional}
+use Rattle.command_core.specs.PartSpellings.{IsText, optional}
 use Rattle.command_core.specs.Spellings.{IsOperation, operation}
-use Rattle.record_core.proofs.Walks.{put_three}
+use Rattle.command_core.proofs.Walks.{put_three}
 use Rattle.command_core.proofs.encoding.put_command.Goals as goal
 
 pub returns-clause-put : goal.returns-clause-put

@@ -1,7 +1,7 @@
 use Rattle.std.specs.Int.{w16, to_be_bytes}
 use Rattle.std.proofs.Common.{length}
 use Rattle.command_core.specs.Spellings.{IsMember, member}
-use Rattle.record_core.proofs.Walks.{all_more, put_more}
+use Rattle.command_core.proofs.Walks.{all_more, put_more}
 use Rattle.command_core.proofs.encoding.put_members.Goals as goal
 
 pub loop-member-preserved : goal.loop-member-preserved

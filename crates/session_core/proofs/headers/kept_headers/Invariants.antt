@@ -1,5 +1,5 @@
 use Rattle.std.proofs.Common.{◌≡◌}
-use Rattle.record_core.specs.Sendings.{kept_headers}
+use Rattle.command_core.specs.Sendings.{kept_headers}
 use Rattle.session_core.proofs.headers.kept_headers.Given as goal
 
 abbrev pub invariant-loop-name : goal.invariant-loop-name

@@ -1,6 +1,6 @@
 use Rattle.std.proofs.Common.{◌≤◌, length, arith, subst, sym, List, ℕ}
 use Rattle.std.specs.List.{AllByRecursion}
-use Rattle.record_core.specs.Sendings.{IsKept}
+use Rattle.command_core.specs.Sendings.{IsKept}
 use Rattle.session_core.proofs.ReadFrames.{all_kept, few_kept}
 use Rattle.session_core.proofs.requests.send.Goals as goal
 

@@ -2,7 +2,7 @@ use Rattle.std.proofs.Common.{arith, is_some, ap, sym, subst, ◌∙◌}
 use Rattle.std.proofs.lemmas.Bool.{false≢true}
 use Rattle.std.proofs.lemmas.Result.{err_from_is_err_and}
 use Rattle.command_core.proofs.RecordCommands.{failed}
-use Rattle.record_core.proofs.Walks.{bytes_are}
+use Rattle.command_core.proofs.Walks.{bytes_are}
 use Rattle.broker_core.specs.States.{BrokerValue}
 use Rattle.snapshot_core.specs.Snapshots.{Spells}
 use Rattle.snapshot_core.proofs.SnapshotForms.{longer_is_none, none_is_spelled, read_is_spelled, unsound_is_none}

@@ -1,6 +1,6 @@
 use Rattle.std.specs.Int.{w32, to_be_bytes}
 use Rattle.std.proofs.Common.{length}
-use Rattle.record_core.proofs.Walks.{all_more, put_more}
+use Rattle.command_core.proofs.Walks.{all_more, put_more}
 use Rattle.snapshot_core.specs.Snapshots.{IsDelivery, delivery}
 use Rattle.snapshot_core.specs.Parts.{written}
 use Rattle.snapshot_core.proofs.listing.list_deliveries.Goals as goal

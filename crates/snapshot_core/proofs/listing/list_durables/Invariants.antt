@@ -1,6 +1,6 @@
 use Rattle.std.proofs.Common.{◌≡◌, ◌++◌}
 use Rattle.std.specs.List.{AllByRecursion, flat_map}
-use Rattle.record_core.specs.Destinations.{IsDestination}
+use Rattle.command_core.specs.Destinations.{IsDestination}
 use Rattle.broker_core.specs.Names.{name_cmp}
 use Rattle.broker_core.specs.Waiting.{line_at}
 use Rattle.snapshot_core.specs.Snapshots.{IsLine, IsName, durable, listed}

@@ -1,7 +1,7 @@
 use Rattle.std.specs.Int.{w32, to_be_bytes}
 use Rattle.std.proofs.Common.{◌≡◌, Some, length, rules, slice_get, sym}
 use Rattle.std.proofs.lemmas.Option.{get_or_from_slice_get, slice_get_within}
-use Rattle.record_core.proofs.Walks.{all_more, put_more}
+use Rattle.command_core.proofs.Walks.{all_more, put_more}
 use Rattle.snapshot_core.specs.Snapshots.{IsMessage, message}
 use Rattle.snapshot_core.specs.Parts.{written}
 use Rattle.snapshot_core.proofs.listing.list_line.Goals as goal

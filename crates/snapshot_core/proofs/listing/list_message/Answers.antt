@@ -1,7 +1,7 @@
 use Rattle.std.proofs.Common.{◌≡◌, ◌<◌, ◌^◌, ◌++◌}
 use Rattle.std.proofs.lemmas.Result.{on_ok_weaker}
 use Rattle.std.specs.Int.{w32, w64, to_be_bytes}
-use Rattle.record_core.specs.Spellings.{sending}
+use Rattle.command_core.specs.PartSpellings.{sending}
 use Rattle.snapshot_core.proofs.Puts.{last_put, then_put}
 use Rattle.snapshot_core.specs.Parts.{written}
 use Rattle.snapshot_core.proofs.listing.list_message.Goals as goal

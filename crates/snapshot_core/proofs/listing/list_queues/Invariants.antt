@@ -1,6 +1,6 @@
 use Rattle.std.proofs.Common.{◌≡◌, ◌<◌, ◌^◌, ◌++◌, length}
 use Rattle.std.specs.List.{AllByRecursion, flat_map}
-use Rattle.record_core.specs.Destinations.{IsDestination}
+use Rattle.command_core.specs.Destinations.{IsDestination}
 use Rattle.snapshot_core.specs.Snapshots.{IsLine, listed, queue}
 use Rattle.snapshot_core.specs.Parts.{written}
 use Rattle.snapshot_core.proofs.listing.list_queues.Given as goal

@@ -1,7 +1,7 @@
 use Rattle.std.proofs.Common.{◌≡◌, ◌++◌, [], ◌∷◌, option_map, rules}
 use Rattle.std.proofs.lemmas.Result.{on_ok_weaker}
 use Rattle.std.specs.Int.{w64, to_be_bytes}
-use Rattle.record_core.specs.Spellings.{counted, mode_byte, optional}
+use Rattle.command_core.specs.PartSpellings.{counted, mode_byte, optional}
 use Rattle.broker_core.specs.Names.{Name}
 use Rattle.snapshot_core.specs.Snapshots.{delivery, listed, own_line}
 use Rattle.snapshot_core.proofs.Puts.{last_put, then_put}

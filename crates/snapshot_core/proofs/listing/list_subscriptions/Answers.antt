@@ -2,7 +2,7 @@ use Rattle.std.specs.Int.{w32, to_be_bytes}
 use Rattle.std.proofs.Common.{◌≡◌, ◌∙◌, List, Some, ap, arith, length, slice_get, sym}
 use Rattle.std.proofs.lemmas.Grind.{common_steps}
 use Rattle.std.proofs.lemmas.Option.{get_or_from_slice_get, gets, slice_get_within}
-use Rattle.record_core.proofs.Walks.{all_more, put_more}
+use Rattle.command_core.proofs.Walks.{all_more, put_more}
 use Rattle.broker_state.specs.declared.subscription.Subscription.{Subscription}
 use Rattle.snapshot_core.specs.Snapshots.{IsSubscription, subscription}
 use Rattle.snapshot_core.proofs.Counted.{holds_few, waits_in_own}

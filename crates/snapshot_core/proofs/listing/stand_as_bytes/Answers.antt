@@ -1,5 +1,5 @@
 use Rattle.std.proofs.Common.{arith}
-use Rattle.record_core.proofs.Walks.{bytes_are}
+use Rattle.command_core.proofs.Walks.{bytes_are}
 use Rattle.snapshot_core.proofs.listing.stand_as_bytes.Goals as goal
 
 pub returns : goal.returns

@@ -1,6 +1,6 @@
-use Rattle.record_core.specs.Sendings.{IsKept}
-use Rattle.record_core.specs.Spellings.{AreTexts}
-use Rattle.record_core.proofs.Walks.{all_at, all_more}
+use Rattle.command_core.specs.Sendings.{IsKept}
+use Rattle.command_core.specs.PartSpellings.{AreTexts}
+use Rattle.command_core.proofs.Walks.{all_at, all_more}
 use Rattle.snapshot_core.proofs.listing.stand_as_headers.Goals as goal
 
 pub stands_as_header-requires : goal.stands_as_header-requires

@@ -1,6 +1,6 @@
 use Rattle.std.proofs.Common.{◌≡◌, ◌∙◌, List, Option, ℕ, ap, subst, sym}
 use Rattle.std.proofs.lemmas.Result.{err_from_is_err_and}
-use Rattle.record_core.specs.Reading.{Fails}
+use Rattle.command_core.specs.PartReading.{Fails}
 use Rattle.broker_core.specs.Names.{Name}
 use Rattle.snapshot_core.specs.Reading.{had_at}
 use Rattle.snapshot_core.proofs.SubscriptionParts.{Front, fails_in_front, fails_in_had, fails_in_name, subscription_is, takes_own}
