@@ -1,6 +1,7 @@
 #!/usr/bin/env python3
 """Asks a running server for a WebSocket late and in parts: docs/PROTOCOL.md gives a client time between two parts of its
-request, so each is to be accepted. Then clients that never open a session, each in its way, are to be let go once their
+request, so each is to be accepted. A request that names its key or its version twice, and STOMP with no WebSocket, are answered
+400. Then clients that never open a session, each in its way, are to be let go once their
 minute is over, and so is one that has opened its session and answers no ping, once its 80 seconds are; one that answers is to
 be kept. That takes a minute and a half. Needs Python 3 alone; the gate does not run it.
 
@@ -14,7 +15,7 @@ import sys
 import time
 
 from lib.scenario import BUILT, built_program, serving, words_of
-from lib.wire import PONG, TEXT, handshake, message_bytes, stomp_message
+from lib.wire import PONG, TEXT, handshake, message_bytes, stomp_bytes, stomp_message
 
 REQUEST = handshake(0)
 CONNECT = stomp_message("CONNECT", [("accept-version", "1.2")])
@@ -38,6 +39,37 @@ def is_accepted(port, pauses):
             return one.recv(4_096).startswith(b"HTTP/1.1 101")
         except OSError:
             return False
+
+
+def with_field(line):
+    """The request with one more field."""
+    return REQUEST.replace(b"\r\n\r\n", b"\r\n" + line + b"\r\n\r\n")
+
+
+KEY = next(line for line in REQUEST.split(b"\r\n") if line.startswith(b"Sec-WebSocket-Key: "))
+# Neither field may appear more than once (RFC 6455, sections 11.3.1 and 11.3.5), whatever the case of its letters (RFC 9110, section 5.1). Bytes that
+# are STOMP with no WebSocket are no request of HTTP; the answer names what is spoken.
+BAD_REQUESTS = {
+    "with its key twice": with_field(KEY),
+    "with two keys": with_field(b"sec-websocket-key: AAAAAAAAAAAAAAAAAAAAAA=="),
+    "with its version twice": with_field(b"Sec-WebSocket-Version: 13"),
+    "with two versions": with_field(b"SEC-WEBSOCKET-VERSION: 8"),
+    "that is a CONNECT of STOMP": stomp_bytes("CONNECT", [("accept-version", "1.2"), ("host", "a")]),
+    "that is a STOMP of STOMP": stomp_bytes("STOMP", [("accept-version", "1.2"), ("host", "a")]),
+}
+
+
+def answer_to(port, request):
+    """All that is answered until the server closes the connection."""
+    with socket.create_connection(("127.0.0.1", port), timeout=5) as one:
+        one.sendall(request)
+        answer = b""
+        try:
+            while data := one.recv(4_096):
+                answer += data
+        except OSError:
+            pass
+    return answer
 
 
 def is_over(one):
@@ -118,6 +150,11 @@ def main():
             accepted = sum(is_accepted(server.port, pauses) for _ in range(TRIES))
             failed |= accepted < TRIES
             print(f"handshakes: pauses of {pauses} s: {accepted} of {TRIES} accepted")
+        for what, request in BAD_REQUESTS.items():
+            answer = answer_to(server.port, request)
+            is_told = answer.startswith(b"HTTP/1.1 400 ") and (what.startswith("with") or b"STOMP over WebSocket" in answer)
+            failed |= not is_told
+            print(f"handshakes: a request {what}: {'400' if is_told else answer}")
         for way, end in let_go(server.port).items():
             failed |= not is_in_time(way, end)
             told = "kept" if end is None else f"let go after {end:.0f} s"

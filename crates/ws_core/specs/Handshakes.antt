@@ -1,5 +1,5 @@
 -- What a client that asks for a WebSocket is answered (RFC 6455, section 4.2).
-use Rattle.std.specs.Prelude.{◌≡◌, ◌⊎◌, ◌<◌, ◌==◌, ◌||◌, ◌++◌, [], ℕ, List, Bool, true, false, Option, Result, Ok, Err, cond, codes, length, map, nat_eq, not, bytes_eq}
+use Rattle.std.specs.Prelude.{◌≡◌, ◌⊎◌, ◌<◌, ◌==◌, ◌||◌, ◌++◌, [], ℕ, List, Bool, true, false, Option, Result, Ok, Err, cond, codes, length, map, nat_eq, nat_lt, not, bytes_eq}
 use Rattle.std.specs.Fmt.{decimal}
 use Rattle.std.specs.Io.KnownBytes.{Appends, Consumes}
 use Rattle.std.specs.List.{list_all, list_any, starts_with}
@@ -23,9 +23,16 @@ abbrev pub is_let_in : List (List ℕ) → Fields → Bool
 is_let_in origins fields =
     length origins == 0 || list_all (λ origin. list_any (λ served. bytes_eq served origin) origins) (values fields (codes "Origin"))
 
--- it has another number of Hosts than one (RFC 9112, section 3.2), or says that a body follows in pieces
+-- that field stands in it more than once
+abbrev pub is_repeated : Fields → List ℕ → Bool
+is_repeated fields name = nat_lt 1 (length (values fields name))
+
+-- it has another number of Hosts than one (RFC 9112, section 3.2), says that a body follows in pieces, or repeats its key or its
+-- version (sections 11.3.1 and 11.3.5)
 abbrev pub is_malformed : Fields → Bool
-is_malformed fields = not (length (values fields (codes "Host")) == 1) || not (length (values fields (codes "Transfer-Encoding")) == 0)
+is_malformed fields =
+    not (length (values fields (codes "Host")) == 1) || not (length (values fields (codes "Transfer-Encoding")) == 0)
+    || is_repeated fields (codes "Sec-WebSocket-Key") || is_repeated fields (codes "Sec-WebSocket-Version")
 
 -- The refusal that says what the request lacks. It has another method than GET, or another version than 13. Or it has no Upgrade
 -- to a WebSocket, as HTTP/1.0 never has (RFC 9110, section 7.8). Or its key is missing or is none.
@@ -109,7 +116,7 @@ further_fields Full = codes "Connection: close\r\nRetry-After: 10\r\n"
 
 -- its text
 abbrev pub body_of : Refusal → List ℕ
-body_of Malformed = codes "This is no request for a WebSocket as it should be.\n"
+body_of Malformed = codes "This is no proper request for a WebSocket. This server speaks STOMP over WebSocket alone.\n"
 body_of OtherProtocol = codes "This server speaks STOMP 1.2 alone: offer the subprotocol v12.stomp.\n"
 body_of Foreign = codes "This server does not serve pages of your origin.\n"
 body_of Method = codes "A WebSocket is asked for by GET.\n"

@@ -4,7 +4,7 @@ ghost use Rattle.std.specs.Prelude.{◌≡◌, ◌==◌, All, IfSome, IsNone, co
 ghost use Rattle.httparse.specs.Grammar.{HasNoRequest};
 ghost use Rattle.httparse.specs.Spans.{IsHeaderWithin, IsRequestWithin, span_bytes};
 ghost use Rattle.websocket.specs.Headers.{fields_of};
-ghost use Rattle.ws_core.specs.Handshakes.{IsAnswer, IsAnswerTo, answer_by, as_refusal};
+ghost use Rattle.ws_core.specs.Handshakes.{IsAnswer, IsAnswerTo, answer_by, as_refusal, is_malformed};
 
 use crate::fields::{choose, count, is_let_in};
 use crate::offers::Choice;
@@ -67,10 +67,21 @@ fn answer_of(
 {
     let asked = check_request(head, request, spans);
     let fields = &spans[..request.headers];
-    if count(head, fields, b"Host") != 1 || count(head, fields, b"Transfer-Encoding") != 0 {
+    if is_malformed(head, fields) {
         return Answer::Refuse(Refusal::Malformed);
     }
     answer_by(origins, head, fields, asked)
+}
+
+// Whether a field stands there another number of times than it may.
+fn is_malformed(head: &[u8], fields: &[HeaderSpan]) -> bool
+    requires { All (IsHeaderWithin (length head.now)) fields.now }
+    ensures { result ≡ is_malformed (fields_of head.now fields.now) }
+{
+    count(head, fields, b"Host") != 1
+        || count(head, fields, b"Transfer-Encoding") != 0
+        || count(head, fields, b"Sec-WebSocket-Key") > 1
+        || count(head, fields, b"Sec-WebSocket-Version") > 1
 }
 
 // The answer if the request's key is answered so, or lacks that.

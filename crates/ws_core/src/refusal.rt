@@ -9,8 +9,8 @@ use websocket::handshake::HandshakeError;
 /// Why a client that asks for a WebSocket, or for something else, is refused.
 #[derive(Clone, Copy)]
 pub enum Refusal {
-    /// 400: its head is no request's, it has no Host or two, its key is missing or not of 16 bytes, or it says that a body
-    /// follows in pieces.
+    /// 400: its head is no request's, it has no Host or two, its key is missing or not of 16 bytes, its key or its version stands
+    /// there twice, or it says that a body follows in pieces.
     Malformed,
     /// 400: it offers only other subprotocols, such as `v10.stomp` and `v11.stomp`.
     OtherProtocol,
@@ -91,7 +91,9 @@ impl Refusal {
         ensures { result.now ≡ body_of self }
     {
         match self {
-            Refusal::Malformed => "This is no request for a WebSocket as it should be.\n",
+            Refusal::Malformed => {
+                "This is no proper request for a WebSocket. This server speaks STOMP over WebSocket alone.\n"
+            }
             Refusal::OtherProtocol => {
                 "This server speaks STOMP 1.2 alone: offer the subprotocol v12.stomp.\n"
             }

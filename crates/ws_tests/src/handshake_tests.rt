@@ -136,6 +136,17 @@ const SPOILED: &[(&str, &str, &str)] = &[
     ("Sec-WebSocket-Key:", "X-Key:", "HTTP/1.1 400 "),
     ("Host:", "X-Host:", "HTTP/1.1 400 "),
     ("Host:", "Host: a\r\nHost:", "HTTP/1.1 400 "),
+    // Sections 11.3.1 and 11.3.5.
+    (
+        "Sec-WebSocket-Key:",
+        "sec-websocket-key: AAAAAAAAAAAAAAAAAAAAAA==\r\nSec-WebSocket-Key:",
+        "HTTP/1.1 400 ",
+    ),
+    (
+        "Version: 13\r\n",
+        "Version: 13\r\nSec-WebSocket-Version: 13\r\n",
+        "HTTP/1.1 400 ",
+    ),
     (
         "Upgrade: websocket\r\n",
         "Upgrade: websocket\r\nTransfer-Encoding: chunked\r\n",
