@@ -53,6 +53,11 @@ globalThis.addEventListener?.("unhandledrejection", event => unhandled.push(Stri
 """
 
 
+def node_words():
+    """How Node is called with a WebSocket: its words, and what a script is told of the package."""
+    return (["node"], [WS]) if WS.exists() else (["node", "--experimental-websocket"], [])
+
+
 class Node:
     """Node with the module, asked by lines."""
 
@@ -63,8 +68,8 @@ class Node:
         (copy / "clients").mkdir(parents=True)
         shutil.copytree(folder / "examples", copy / "examples")
         shutil.copy(HERE / "module.mjs", copy / "clients")
-        words = ["node", copy / "clients" / "module.mjs", WS] if WS.exists() else ["node", "--experimental-websocket", copy / "clients" / "module.mjs"]
-        self.process = subprocess.Popen(words, stdin=subprocess.PIPE, stdout=subprocess.PIPE, text=True)
+        node, package = node_words()
+        self.process = subprocess.Popen([*node, copy / "clients" / "module.mjs", *package], stdin=subprocess.PIPE, stdout=subprocess.PIPE, text=True)
 
     def value(self, code):
         self.process.stdin.write(json.dumps(code) + "\n")

@@ -5,10 +5,10 @@ memory, traces of its system calls, and the clients. Its last line counts what p
     python3 tests/beside_the_gate.py [PROGRAM] [--light] [--kills N] [--only WORD]
 
 PROGRAM is the built program; without it, it is what `bin/build --any` makes. Needs Python 3; strace for the traces, `rt` and a C compiler for
-refused memory, Chromium and Debian's python3-stomp and python3-websocket for two of the clients, Node for the module, dpkg and root for the package,
-and nginx, HAProxy, Caddy, Apache and Docker for the recipes of deploy/. It takes some thirty minutes, and ends with status 0
-only if nothing failed. With --light it runs the part that needs none of these, with fewer kills, in less than ten minutes; those that mostly wait run
-side by side.
+refused memory, Chromium and Debian's python3-stomp and python3-websocket for two of the clients, Node for the module and Debian's node-typescript
+for its types, dpkg and root for the package, and nginx, HAProxy, Caddy, Apache and Docker for the recipes of deploy/. It takes some thirty minutes,
+and ends with status 0 only if nothing failed. With --light it runs the part that needs none of these, with fewer kills, in less than ten minutes;
+those that mostly wait run side by side.
 """
 
 import argparse
@@ -88,6 +88,7 @@ SCRIPTS = [
     Script("tests/program/restarts.py", light=""),
     Script("clients/browser.py"),
     Script("clients/module.py"),
+    Script("clients/types.py"),
     Script("clients/proxies.py"),
     Script("clients/secure_page.py"),
     Script("clients/containers.py"),
