@@ -21,7 +21,7 @@ use std::alloc::Global;
 const MOST_COUNTED: usize = 1 << 32;
 
 // Whether a snapshot of the broker's state fits into an area of `size` bytes, with its length before it and a gate after it.
-fn has_room_for(broker: &Broker, size: u64) -> bool
+pub(crate) fn has_room_for(broker: &Broker, size: u64) -> bool
     requires whole { broker.now.broken ≡ false }
     requires least { 9 ≤ size }
     ensures yes { result ≡ true → HasRoomFor size broker.now.state }
@@ -33,7 +33,7 @@ fn has_room_for(broker: &Broker, size: u64) -> bool
 }
 
 // Writes a snapshot of the broker's state into the area that is not live, and makes that one live.
-fn write_state<D: Disk>(
+pub(crate) fn write_state<D: Disk>(
     alloc: Global,
     disk: &mut D,
     area: &mut Area,

@@ -8,6 +8,7 @@ mod folding;
 mod law;
 mod opening;
 mod reading;
+mod replacing;
 mod seen;
 mod size_law;
 mod snapshot;
