@@ -25,7 +25,7 @@ Description: message broker for rooms in the browser
  and no login: recipes for proxies are in /usr/share/doc/stompd/deploy.
 """
 
-# Nothing is started: systemctl enable --now stompd does that. DPKG_ROOT is the folder of `dpkg --root`, and mostly empty.
+# Nothing is started or restarted: systemctl does that. DPKG_ROOT is the folder of `dpkg --root`, and mostly empty.
 POSTINST = """#!/bin/sh
 set -e
 if [ "$1" = configure ]; then
@@ -33,6 +33,7 @@ if [ "$1" = configure ]; then
     chown "$(sed -n 's/^stompd:[^:]*:\\([0-9]*\\):\\([0-9]*\\):.*/\\1:\\2/p' "$DPKG_ROOT/etc/passwd")" "$DPKG_ROOT/var/lib/stompd"
     chmod 0700 "$DPKG_ROOT/var/lib/stompd"
     if [ -z "$DPKG_ROOT" ] && [ -d /run/systemd/system ]; then systemctl daemon-reload; fi
+    if [ -n "$2" ]; then echo 'stompd: a running server keeps the program of before; systemctl restart stompd starts the new one'; fi
 fi
 """
 PRERM = """#!/bin/sh

@@ -90,6 +90,8 @@ def try_package(package, program, root, checks):
     checks.check("the recipes are there", (root / "usr/share/doc/stompd/deploy/nginx.conf").exists())
     journal = folder / "rooms.journal"
     serve_installed(root, journal, checks)
+    checks.check("an upgrade says that it restarts nothing", "systemctl restart stompd" in dpkg(root, "-i", package))
+    checks.check("and keeps the journal", journal.exists())
     dpkg(root, "--remove", "stompd")
     checks.check("removed, the program is gone", not (root / "usr/lib/stompd/stompd").exists())
     checks.check("and the journal is there", journal.exists())

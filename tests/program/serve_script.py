@@ -313,6 +313,18 @@ esac""")
     checks.same("and each was a server", count.read_text().split(), ["serve"] * 5)
 
 
+def a_replaced_program(checks):
+    file, port = new_file(checks), free_port()
+    subprocess.run([checks.program, "format", file, SMALL_JOURNAL], check=True)
+    program, another = checks.stand_in("echo 'listening 0'; echo 'stompd: J4 journal full' >&2; exit 1"), checks.stand_in("")
+    start = Start(program, file, port)
+    checks.check("a server is full at once", start.listens())
+    another.replace(program)
+    checks.check("it is started again, as another program", start.listens())
+    status, told = start.end(signal.SIGTERM)
+    checks.check("which is logged", (status, told.count(f"serve: {program} was replaced")) == (143, 1), told)
+
+
 def what_the_server_tells(checks):
     file = new_file(checks)
     words, line = file.parent / "words", "stompd: compacted: 3120 bytes won in 2 ms\n"
@@ -432,6 +444,7 @@ SCENARIOS = [
     a_slow_first_start,
     a_killed_first_start,
     a_full_journal,
+    a_replaced_program,
     what_the_server_tells,
     nobody_reads,
     a_signal_to_the_group,
