@@ -64,7 +64,7 @@ def main():
                 browser.close()
         finally:
             lane.end()
-    return 1 if lane.failed else 0
+    return lane.status()
 
 
 if __name__ == "__main__":

@@ -160,7 +160,7 @@ def main():
         return 1 if checks.failed else 2
     for _ in range(words.rounds):
         hand_over_volume(words.program, checks, words.early)
-    return 1 if checks.failed else 0
+    return checks.status()
 
 
 if __name__ == "__main__":

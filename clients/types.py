@@ -46,7 +46,7 @@ def main():
             node, package = node_words()
             ended = run(*node, folder / "clients" / "every_call.mjs", f"ws://127.0.0.1:{broker.port}/", *package)
             checks.same("each call does in Node what its type says", (ended[0], ended[1].splitlines()[-1:]), (0, [LAST]))
-    return 1 if checks.failed else 0
+    return checks.status()
 
 
 if __name__ == "__main__":

@@ -43,7 +43,7 @@ def main():
     for clients, members in CASES:
         with scenario.serving(words.program) as broker:
             try_case(broker, checks, clients, members, words.seconds)
-    return 1 if checks.failed else 0
+    return checks.status()
 
 
 if __name__ == "__main__":

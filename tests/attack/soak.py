@@ -245,7 +245,7 @@ def main():
         except Exception as error:
             traceback.print_exc()
             checks.check("it runs to its end", False, (error, last_words(broker)))
-    return 1 if checks.failed else 0
+    return checks.status()
 
 
 if __name__ == "__main__":

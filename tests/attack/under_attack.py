@@ -298,7 +298,7 @@ def main():
         traceback.print_exc()
         checks.check("it runs to its end", False, error)
     checks.tell(f"{time.monotonic() - began:.0f} s")
-    return 1 if checks.failed else 0
+    return checks.status()
 
 
 if __name__ == "__main__":

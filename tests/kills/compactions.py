@@ -303,7 +303,7 @@ def main():
     with scenario.serving(words.program, JOURNAL_BYTES, Unheard) as broker:
         under_load(broker, words.seconds / 4, chance, checks)
     checks.check("all that was receipted is there once, and nothing else", not checks.failed)
-    return 1 if checks.failed else 0
+    return checks.status()
 
 
 if __name__ == "__main__":

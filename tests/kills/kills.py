@@ -218,7 +218,7 @@ def main():
     checks.check("the load was one: some messages had no receipt at the kill", totals.unknown > 0)
     checks.check("and far more had one", 10 * words.rounds < totals.receipted, totals.receipted)
     tell(checks, totals, words.rounds)
-    return 1 if checks.failed else 0
+    return checks.status()
 
 
 if __name__ == "__main__":

@@ -295,7 +295,7 @@ def main():
         if words.old:
             there_is_no_way_back(words.old, path, checks)
     checks.check("after each kill the same was there, and each message once after the restart", not checks.failed)
-    return 1 if checks.failed else 0
+    return checks.status()
 
 
 if __name__ == "__main__":

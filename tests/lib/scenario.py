@@ -122,23 +122,41 @@ def serving(program=PROGRAM, journal_bytes=JOURNAL_BYTES, kind=Broker):
 
 
 class Checks:
-    """Prints a line for each check, and counts those that failed."""
+    """Counts checks and those that failed, and prints a line for each, or for those alone if it is brief."""
+
+    is_brief = False
 
     def __init__(self):
-        self.failed = 0
+        self.count = self.failed = 0
 
     def check(self, what, holds, seen=None):
-        if holds:
-            print(f"ok    {what}", flush=True)
-        else:
+        self.count += 1
+        if not holds:
             self.failed += 1
             print(f"FAIL  {what}; seen: {seen!r}", flush=True)
+        elif not self.is_brief:
+            print(f"ok    {what}", flush=True)
 
     def same(self, what, seen, expected):
         self.check(what, seen == expected, f"{seen!r} and not {expected!r}")
 
     def tell(self, what):
         print(f"      {what}", flush=True)
+
+    def status(self):
+        """Prints the counts, and answers the status with which a script ends."""
+        print(f"{self.count} checked, {self.failed} failed", flush=True)
+        return 1 if self.failed else 0
+
+
+class BriefChecks(Checks):
+    """Those of a program, of which there are too many for a line each."""
+
+    is_brief = True
+
+    def __init__(self, program, folder=None):
+        super().__init__()
+        self.program, self.folder = program, folder
 
 
 def try_one(scenario, broker, checks):
@@ -180,4 +198,4 @@ def run_over(program, scenarios):
             try_one(scenario, broker, checks)
         checks.check("the broker still runs", broker.is_running(), broker.process.poll())
     checks.tell(f"{time.monotonic() - start:.1f} s")
-    return 1 if checks.failed else 0
+    return checks.status()

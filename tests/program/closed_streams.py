@@ -16,7 +16,7 @@ import sys
 import tempfile
 import time
 
-from lib.scenario import BUILT, built_program, free_port, words_of
+from lib.scenario import BUILT, BriefChecks, built_program, free_port, words_of
 from lib.stomp_client import Client
 
 # Areas of 131,056 bytes, which SENDs of 60 KB to a topic fill at once.
@@ -25,17 +25,7 @@ CLOSINGS = {0: "<&-", 1: ">&-", 2: "2>&-"}
 CHOICES = [choice for size in range(4) for choice in itertools.combinations(CLOSINGS, size)]
 
 
-class Checks:
-    def __init__(self, program, folder):
-        self.program, self.folder = program, folder
-        self.count = self.failed = 0
-
-    def expect(self, what, holds, seen=""):
-        self.count += 1
-        if not holds:
-            self.failed += 1
-            print(f"closed_streams: {what}: {seen}", file=sys.stderr)
-
+class Checks(BriefChecks):
     def words(self, closed, *words):
         """The words of a shell that closes these streams and becomes the program."""
         closings = " ".join(CLOSINGS[it] for it in closed)
@@ -54,21 +44,21 @@ class Checks:
 def alone(checks, closed):
     """The subcommands that start no server."""
     name = "closed " + ("".join(map(str, closed)) or "none")
-    checks.expect(f"{name}: --version ends with 0", checks.run(closed, "--version")[0] == 0)
-    checks.expect(f"{name}: script ends with 0", checks.run(closed, "script")[0] == 0)
+    checks.check(f"{name}: --version ends with 0", checks.run(closed, "--version")[0] == 0)
+    checks.check(f"{name}: script ends with 0", checks.run(closed, "script")[0] == 0)
     made = checks.folder / f"made{name}"
     status, _ = checks.run(closed, "format", made, SMALL_JOURNAL)
     same = checks.journal(f"same{name}").read_bytes()
-    checks.expect(f"{name}: format makes a journal", status == 0 and made.read_bytes() == same, status)
+    checks.check(f"{name}: format makes a journal", status == 0 and made.read_bytes() == same, status)
     for command in ("show", "held"):
         status, wrote = checks.run(closed, command, made)
-        checks.expect(f"{name}: {command} ends with 0", status == 0, status)
-        checks.expect(f"{name}: {command} writes if it can", bool(wrote) == (1 not in closed), wrote)
-        checks.expect(f"{name}: {command} leaves the journal", made.read_bytes() == same)
+        checks.check(f"{name}: {command} ends with 0", status == 0, status)
+        checks.check(f"{name}: {command} writes if it can", bool(wrote) == (1 not in closed), wrote)
+        checks.check(f"{name}: {command} leaves the journal", made.read_bytes() == same)
     for words in (["serve", made, "0"], ["serve", checks.folder / "missing", "8080"], ["format", made, SMALL_JOURNAL]):
         status, _ = checks.run(closed, *words)
-        checks.expect(f"{name}: {words[0]} is refused", status in (1, 2), status)
-        checks.expect(f"{name}: a refused {words[0]} leaves the journal", made.read_bytes() == same)
+        checks.check(f"{name}: {words[0]} is refused", status in (1, 2), status)
+        checks.check(f"{name}: a refused {words[0]} leaves the journal", made.read_bytes() == same)
 
 
 def connected(port):
@@ -95,14 +85,14 @@ def served(checks, closed):
         before = journal.read_bytes()
         for command in ("show", "held"):
             status, _ = checks.run(closed, command, journal)
-            checks.expect(f"{name}: {command} beside the server ends with 0", status == 0, status)
-            checks.expect(f"{name}: {command} beside the server changes nothing", journal.read_bytes() == before)
+            checks.check(f"{name}: {command} beside the server ends with 0", status == 0, status)
+            checks.check(f"{name}: {command} beside the server changes nothing", journal.read_bytes() == before)
         client.publish("/queue/kept", "acknowledged too")
     finally:
         process.send_signal(signal.SIGKILL)
         process.wait()
     status, wrote = checks.run((), "show", journal)
-    checks.expect(f"{name}: the journal is one after a kill", status == 0 and wrote.endswith("held 2\n"), (status, wrote))
+    checks.check(f"{name}: the journal is one after a kill", status == 0 and wrote.endswith("held 2\n"), (status, wrote))
 
 
 def main():
@@ -112,10 +102,8 @@ def main():
         for closed in CHOICES:
             alone(checks, closed)
             served(checks, closed)
-    if checks.failed:
-        sys.exit(f"closed_streams: {checks.failed} of {checks.count} checks failed")
-    print(f"closed_streams: ok, {checks.count} checks")
+    return checks.status()
 
 
 if __name__ == "__main__":
-    main()
+    sys.exit(main())

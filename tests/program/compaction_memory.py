@@ -64,7 +64,7 @@ def main():
     with scenario.serving(program, JOURNAL_BYTES) as broker:
         scenario.try_one(memory_of_a_compaction, broker, checks)
     print(f"{checks.failed} failed", flush=True)
-    return 1 if checks.failed else 0
+    return checks.status()
 
 
 if __name__ == "__main__":

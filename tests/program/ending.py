@@ -236,7 +236,7 @@ def main():
                 part(program, journal, checks)
             except Exception as error:
                 checks.check(f"{part.__doc__} is tried to the end", False, repr(error))
-    return 1 if checks.failed else 0
+    return checks.status()
 
 
 if __name__ == "__main__":

@@ -35,7 +35,7 @@ import sys
 import tempfile
 import time
 
-from lib.scenario import BUILT, built_program, child_of, free_port, words_of
+from lib.scenario import BUILT, BriefChecks, built_program, child_of, free_port, words_of
 from lib.stomp_client import Client
 
 # Areas of 4,096 bytes.
@@ -49,17 +49,7 @@ NO_FILE = "stompd: cannot open: FILE: it is no file\n"
 DIRECTORY = "stompd: cannot open: FILE: it is a directory\n"
 
 
-class Checks:
-    def __init__(self, program, folder):
-        self.program, self.folder = program, folder
-        self.count = self.failed = 0
-
-    def same(self, what, seen, wanted):
-        self.count += 1
-        if seen != wanted:
-            self.failed += 1
-            print(f"failing_disk: {what}: {seen} and not {wanted}", file=sys.stderr)
-
+class Checks(BriefChecks):
     def path(self, name):
         return str(self.folder / name)
 
@@ -318,15 +308,13 @@ def main():
     program = built_program(words_of(__doc__, BUILT).parse_args())
     if shutil.which("strace") is None:
         print("failing_disk: strace is missing", file=sys.stderr)
-        sys.exit(2)
+        return 2
     with tempfile.TemporaryDirectory() as name:
         checks = Checks(str(program), pathlib.Path(name).resolve())
         for part in (formatting, filling, progress, swapping, limiting, what_is_no_file, showing, locking, opening, slow_opening, storing, asleep, losing):
             part(checks)
-    if checks.failed:
-        sys.exit(f"failing_disk: {checks.failed} of {checks.count} are wrong")
-    print(f"failing_disk: {checks.count} ok")
+    return checks.status()
 
 
 if __name__ == "__main__":
-    main()
+    sys.exit(main())

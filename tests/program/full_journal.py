@@ -82,7 +82,7 @@ def main():
     checks = scenario.Checks()
     for part in (one_at_a_time, all_at_once):
         scenario.try_one(part, program, checks)
-    return 1 if checks.failed else 0
+    return checks.status()
 
 
 if __name__ == "__main__":

@@ -14,7 +14,7 @@ import socket
 import sys
 import time
 
-from lib.scenario import BUILT, built_program, serving, words_of
+from lib.scenario import BUILT, Checks, built_program, serving, words_of
 from lib.wire import PONG, TEXT, handshake, message_bytes, stomp_bytes, stomp_message
 
 REQUEST = handshake(0)
@@ -144,25 +144,19 @@ def is_in_time(way, end):
 
 
 def main():
-    program, failed = built_program(words_of(__doc__, BUILT).parse_args()), False
+    program, checks = built_program(words_of(__doc__, BUILT).parse_args()), Checks()
     with serving(program, 2_097_184) as server:
         for pauses in ((0,), (0.001,), (0.1,), (0, 0.05), (0.01, 0.01, 0.01, 0.01)):
-            accepted = sum(is_accepted(server.port, pauses) for _ in range(TRIES))
-            failed |= accepted < TRIES
-            print(f"handshakes: pauses of {pauses} s: {accepted} of {TRIES} accepted")
+            checks.same(f"with pauses of {pauses} s all are accepted", sum(is_accepted(server.port, pauses) for _ in range(TRIES)), TRIES)
         for what, request in BAD_REQUESTS.items():
             answer = answer_to(server.port, request)
             is_told = answer.startswith(b"HTTP/1.1 400 ") and (what.startswith("with") or b"STOMP over WebSocket" in answer)
-            failed |= not is_told
-            print(f"handshakes: a request {what}: {'400' if is_told else answer}")
+            checks.check(f"a request {what} is answered 400", is_told, answer)
         for way, end in let_go(server.port).items():
-            failed |= not is_in_time(way, end)
             told = "kept" if end is None else f"let go after {end:.0f} s"
-            print(f"handshakes: a client that {way}: {told}")
-    if failed:
-        sys.exit("handshakes: some were refused")
-    print("handshakes: ok")
+            checks.check(f"a client that {way} is {told}", is_in_time(way, end))
+    return checks.status()
 
 
 if __name__ == "__main__":
-    main()
+    sys.exit(main())

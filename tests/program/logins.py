@@ -90,8 +90,7 @@ def main():
         finally:
             process.kill()
             process.wait()
-    print(f"{checks.failed} failed")
-    return 1 if checks.failed else 0
+    return checks.status()
 
 
 if __name__ == "__main__":

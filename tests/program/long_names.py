@@ -107,7 +107,7 @@ def main():
     with scenario.serving(program, kind=Small) as broker:
         scenario.try_one(a_desk_is_full, broker, checks)
         checks.check("the broker still runs", broker.is_running(), broker.process.poll())
-    return 1 if checks.failed else 0
+    return checks.status()
 
 
 if __name__ == "__main__":

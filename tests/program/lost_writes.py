@@ -156,7 +156,7 @@ def main():
     with tempfile.TemporaryDirectory(prefix="lost-") as folder:
         syncs = next(number for number in range(1, MOST_SYNCS) if not fail_once(program, folder, number, checks))
     checks.check("there were compactions", syncs > 2 * (KEPT + PASSING) + 5, syncs)
-    return 1 if checks.failed else 0
+    return checks.status()
 
 
 if __name__ == "__main__":

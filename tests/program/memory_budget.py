@@ -394,7 +394,7 @@ def main():
     with scenario.serving(program, kind=AsServed) as broker:
         scenario.try_one(longest_messages, broker, checks)
     checks.tell(f"{time.monotonic() - start:.1f} s")
-    return 1 if checks.failed else 0
+    return checks.status()
 
 
 if __name__ == "__main__":

@@ -128,7 +128,7 @@ def main():
         package = words.package or first[1]
         try_lintian(package, checks)
         try_package(package, program, rooms[3], checks)
-    return 1 if checks.failed else 0
+    return checks.status()
 
 
 if __name__ == "__main__":

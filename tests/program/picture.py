@@ -162,8 +162,7 @@ def main():
         checks.same("without a word it is the disk's", draw(folder / "kept.json", folder / "again.svg"), (0, ""))
         checks.check("the same file gives the same bytes", (folder / "again.svg").read_bytes() == (folder / "disk.svg").read_bytes())
         try_unfit(checks, folder, told)
-    print(f"picture: {checks.failed} failed")
-    return 1 if checks.failed else 0
+    return checks.status()
 
 
 if __name__ == "__main__":

@@ -421,7 +421,7 @@ def main():
     for trial in (ports, running, full, other_servers, what_is_said, peers):
         trial(program, checks)
     print(f"ping: {checks.failed} failed, {time.monotonic() - start:.0f} s")
-    return 1 if checks.failed else 0
+    return checks.status()
 
 
 if __name__ == "__main__":

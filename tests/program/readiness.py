@@ -193,7 +193,7 @@ def main():
         print("readiness.py needs strace for the count of reads", file=sys.stderr)
         return 1 if checks.failed else 2
     reads_in_vain(program, checks)
-    return 1 if checks.failed else 0
+    return checks.status()
 
 
 if __name__ == "__main__":

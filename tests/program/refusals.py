@@ -15,7 +15,7 @@ import subprocess
 import sys
 import tempfile
 
-from lib.scenario import BUILT, built_program, free_port, words_of
+from lib.scenario import BUILT, BriefChecks, built_program, free_port, words_of
 
 KEY = "Sec-WebSocket-Key: dGhlIHNhbXBsZSBub25jZQ=="
 HOST, UPGRADE, CONNECTION, VERSION = "Host: localhost", "Upgrade: websocket", "Connection: Upgrade", "Sec-WebSocket-Version: 13"
@@ -137,14 +137,10 @@ def faults(head, body, status, has_content):
 
 def main():
     program = built_program(words_of(__doc__, BUILT).parse_args())
-    count = failed = 0
+    checks = BriefChecks(program)
 
     def check(port, what, asked, status):
-        nonlocal count, failed
-        count += 1
-        for wrong in faults(*answer(port, asked), status, not asked.startswith(b"HEAD ")):
-            failed += 1
-            print(f"refusals: one that asks for {what}: {wrong}", file=sys.stderr)
+        checks.same(f"faults of the answer to one that asks for {what}", faults(*answer(port, asked), status, not asked.startswith(b"HEAD ")), [])
 
     with serving(program) as port:
         for what, asked, status in TRIES * ASKED:
@@ -157,10 +153,8 @@ def main():
     with serving(program, "--origin", SERVED[0], f"--origin={SERVED[1]}") as port:
         for fields, _, status in ORIGINS:
             check(port, f"a WebSocket with {fields}, where {SERVED} are served", request(GET, *WHOLE, *fields), status)
-    if failed:
-        sys.exit(f"refusals: {failed} faults in {count} answers")
-    print(f"refusals: {count} answers are as they should be")
+    return checks.status()
 
 
 if __name__ == "__main__":
-    main()
+    sys.exit(main())

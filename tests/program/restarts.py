@@ -201,7 +201,7 @@ def main():
                 scenario.try_one(each, broker, checks)
             finally:
                 broker.kill()
-    return 1 if checks.failed else 0
+    return checks.status()
 
 
 if __name__ == "__main__":

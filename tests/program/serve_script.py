@@ -33,7 +33,7 @@ import sys
 import tempfile
 import time
 
-from lib.scenario import BUILT, TOP, built_program, free_port, words_of
+from lib.scenario import BUILT, TOP, BriefChecks, built_program, free_port, words_of
 from lib.stomp_client import Client
 
 SERVE = TOP / "bin" / "serve"
@@ -53,20 +53,10 @@ MOMENTS, PAIRS = 40, 20
 FEW_MOMENTS, FEW_PAIRS = 5, 2
 
 
-class Checks:
+class Checks(BriefChecks):
     def __init__(self, program, folder, has_few):
-        self.program, self.folder = program, folder
+        super().__init__(program, folder)
         self.moments, self.pairs = (FEW_MOMENTS, FEW_PAIRS) if has_few else (MOMENTS, PAIRS)
-        self.count = self.failed = 0
-
-    def check(self, what, holds, seen=""):
-        self.count += 1
-        if not holds:
-            self.failed += 1
-            print(f"serve_script: {what}: {seen}", file=sys.stderr)
-
-    def same(self, what, seen, wanted):
-        self.check(what, seen == wanted, f"{seen!r}, and not {wanted!r}")
 
     def stand_in(self, text):
         """A program that begins with these lines of shell, and goes on as the built one."""
@@ -472,8 +462,7 @@ def main():
         checks = Checks(built_program(words), pathlib.Path(folder), words.few)
         for scenario in SCENARIOS:
             try_one(checks, scenario)
-    print(f"serve_script: {checks.count} checked, {checks.failed} failed")
-    return 1 if checks.failed else 0
+    return checks.status()
 
 
 if __name__ == "__main__":

@@ -17,7 +17,7 @@ import sys
 import tempfile
 
 from lib.old_journal import area, journal, open_operation, record, send_operation, subscribe_operation
-from lib.scenario import BUILT, built_program, free_port, words_of
+from lib.scenario import BUILT, BriefChecks, built_program, free_port, words_of
 
 # What may be written: just this text, some text that is not ours to say, or nothing. Of None nothing is looked at.
 SOME = object()
@@ -43,23 +43,13 @@ EMPTY = "messages 0 of 4096\nbytes 0 of 16777216\n"
 SMALLEST = 8_224
 
 
-class Checks:
-    def __init__(self, program):
-        self.program = program
-        self.count = self.failed = 0
-
-    def expect(self, what, holds, seen=""):
-        self.count += 1
-        if not holds:
-            self.failed += 1
-            print(f"statuses: {what}: {seen}", file=sys.stderr)
-
+class Checks(BriefChecks):
     def run(self, words, status, output, errors, given=b"", sink=subprocess.PIPE):
         """Runs the program, and compares its status and its two outputs."""
         done = subprocess.run([self.program, *words], input=given, stdout=sink, stderr=subprocess.PIPE, timeout=60)
         wrote, said = (text.decode(errors="replace") if text else "" for text in (done.stdout, done.stderr))
         fits = all(bool(seen) if wanted is SOME else wanted is None or seen == wanted for seen, wanted in ((wrote, output), (said, errors)))
-        self.expect(f"{words} at {given[-40:]}", fits and done.returncode == status, (done.returncode, wrote, said))
+        self.check(f"{words} at {given[-40:]}", fits and done.returncode == status, (done.returncode, wrote, said))
 
 
 def scripts(checks):
@@ -80,8 +70,8 @@ def formats(checks, folder):
     checks.run(["format", file, str(SMALLEST)], 0, NOTHING, NOTHING)
     made = pathlib.Path(file).read_bytes()
     front = b"STOMPJ02" + struct.pack(">Q", 4_096) + bytes(16) + word(32) + bytes(33)
-    checks.expect("the bytes of an empty journal", made == front + bytes(SMALLEST - len(front)), made[:80])
-    checks.expect("only its owner may read a journal", os.stat(file).st_mode & 0o777 == 0o600, oct(os.stat(file).st_mode))
+    checks.check("the bytes of an empty journal", made == front + bytes(SMALLEST - len(front)), made[:80])
+    checks.check("only its owner may read a journal", os.stat(file).st_mode & 0o777 == 0o600, oct(os.stat(file).st_mode))
     # After -- no word is an option, and a port or size may have leading zeros.
     for again in ([file, str(SMALLEST)], ["--", file, str(SMALLEST)], [file, "--", str(SMALLEST)], [file, str(SMALLEST), "--"], [file, "18446744073709551615"]):
         checks.run(["format", *again], 1, NOTHING, unopened("FILE: it is there already"))
@@ -91,23 +81,23 @@ def formats(checks, folder):
     checks.run(["format", str(folder / "none" / "journal"), str(SMALLEST)], 1, NOTHING, MISSING)
     for number in ("8224x", "+8224", "0x2020", "8 224", "", "18446744073709551616", "99999999999999999999"):
         checks.run(["format", other, number], 2, NOTHING, NUMBERS)
-    checks.expect("refused words make no file", not os.path.exists(other))
-    checks.expect("refused words change no file", pathlib.Path(file).read_bytes() == made)
+    checks.check("refused words make no file", not os.path.exists(other))
+    checks.check("refused words change no file", pathlib.Path(file).read_bytes() == made)
     zeros, odd = str(folder / "zeros"), str(folder / "odd")
     checks.run(["format", zeros, f"000{SMALLEST}"], 0, NOTHING, NOTHING)
-    checks.expect("leading zeros count for nothing", pathlib.Path(zeros).read_bytes() == made)
+    checks.check("leading zeros count for nothing", pathlib.Path(zeros).read_bytes() == made)
     checks.run(["format", odd, str(SMALLEST + 1)], 0, NOTHING, NOTHING)
     sparse, after = str(folder / "sparse"), str(folder / "--sparse")
     checks.run(["format", "--sparse", sparse, str(SMALLEST)], 0, NOTHING, NOTHING)
-    checks.expect("a sparse journal has the same bytes", pathlib.Path(sparse).read_bytes() == made)
+    checks.check("a sparse journal has the same bytes", pathlib.Path(sparse).read_bytes() == made)
     checks.run(["format", "--", after, str(SMALLEST)], 0, NOTHING, NOTHING)
-    checks.expect("after -- a word is a file", pathlib.Path(after).read_bytes() == made)
-    checks.expect("a byte over is there, and no area has it", pathlib.Path(odd).read_bytes() == made + b"\0")
+    checks.check("after -- a word is a file", pathlib.Path(after).read_bytes() == made)
+    checks.check("a byte over is there, and no area has it", pathlib.Path(odd).read_bytes() == made + b"\0")
     for size in (100_000, 100_001):
         path = folder / str(size)
         checks.run(["format", str(path), str(size)], 0, NOTHING, NOTHING)
         data = path.read_bytes()
-        checks.expect(f"{size} bytes have two areas of 49,984", len(data) == size and data[8:16] == struct.pack(">Q", 49_984), data[:16])
+        checks.check(f"{size} bytes have two areas of 49,984", len(data) == size and data[8:16] == struct.pack(">Q", 49_984), data[:16])
 
 
 def broken(folder):
@@ -138,9 +128,9 @@ def shows(checks, folder):
     shown = "version 2\narea 0\nused 41\ncount 0\nheld 0\n"
     before = (folder / "journal").read_bytes()
     checks.run(["show", str(folder / "journal")], 0, shown, NOTHING)
-    checks.expect("show writes nothing into the file", (folder / "journal").read_bytes() == before)
+    checks.check("show writes nothing into the file", (folder / "journal").read_bytes() == before)
     checks.run(["held", str(folder / "journal")], 0, EMPTY, NOTHING)
-    checks.expect("held writes nothing into the file", (folder / "journal").read_bytes() == before)
+    checks.check("held writes nothing into the file", (folder / "journal").read_bytes() == before)
     for further in (["--", str(folder / "journal")], [str(folder / "journal"), "--"]):
         checks.run(["show", *further], 0, shown, NOTHING)
     checks.run(["show", "--", "--no-such-file"], 1, NOTHING, MISSING)
@@ -151,7 +141,7 @@ def shows(checks, folder):
         checks.run([command, str(folder)], 1, NOTHING, SOME)
         for path, data, text in broken(folder):
             checks.run([command, str(path)], 1, NOTHING, text)
-            checks.expect(f"{path.name} is left as it was", path.read_bytes() == data)
+            checks.check(f"{path.name} is left as it was", path.read_bytes() == data)
 
 
 def old_journal(folder):
@@ -173,14 +163,14 @@ def serves(checks, folder):
         in_use = unopened("PORT: another program listens there")
         for name in ("missing", "journal", "old"):
             checks.run(["serve", str(folder / name), port], 1, NOTHING, in_use)
-        checks.expect("a start that fails leaves an old journal as it was", (folder / "old").read_bytes() == before)
+        checks.check("a start that fails leaves an old journal as it was", (folder / "old").read_bytes() == before)
     missing = str(folder / "missing")
     for further in ([missing, port], [missing, f"0{port}"], [missing, "65535"], ["--", missing, port], [missing, "--", port], [missing, port, "--"]):
         checks.run(["serve", *further], 1, NOTHING, MISSING)
     checks.run(["serve", str(folder), port], 1, NOTHING, unopened("FILE: it is a directory"))
     for path, data, text in broken(folder):
         checks.run(["serve", str(path), port], 1, NOTHING, text)
-        checks.expect(f"{path.name} is left as it was", path.read_bytes() == data)
+        checks.check(f"{path.name} is left as it was", path.read_bytes() == data)
     for number in ("0", "65536", "http", "80x", "+80", "", "99999999999999999999"):
         checks.run(["serve", str(folder / "journal"), number], 2, NOTHING, NUMBERS)
     for origin in ("https://chat.example/", "https://chat.example/room", "chat.example", "http://Chat.example", "http://", "://x", "http//x", ""):
@@ -195,10 +185,10 @@ def serves(checks, folder):
     try:
         ready, _, _ = select.select([serving.stdout], [], [], 20)
         line = serving.stdout.readline().decode() if ready else ""
-        checks.expect("serve says where it listens", line == f"listening {port}\n", line)
+        checks.check("serve says where it listens", line == f"listening {port}\n", line)
         with socket.create_connection(("127.0.0.1", int(port)), timeout=5):
             pass
-        checks.expect("a connection that says nothing ends no server", serving.poll() is None)
+        checks.check("a connection that says nothing ends no server", serving.poll() is None)
         locked = unopened("FILE: another server has its lock")
         checks.run(["serve", str(folder / "journal"), str(free_port())], 1, NOTHING, locked)
         # A reader of the journal alone asks for no lock.
@@ -234,7 +224,7 @@ def words(checks, folder):
             given.seek(0)
             subprocess.run([checks.program, *bad], stdin=given, stdout=subprocess.DEVNULL, stderr=subprocess.DEVNULL, timeout=60)
             read = os.lseek(given.fileno(), 0, os.SEEK_CUR)
-        checks.expect(f"{bad} read nothing", read == 0, read)
+        checks.check(f"{bad} read nothing", read == 0, read)
     for bad in ([b"\xff"], ["script", b"\xff"], ["show", b"\xff"], ["format", b"\xff", str(SMALLEST)], ["serve", b"\xff", "80"]):
         checks.run(bad, 2, NOTHING, NOTHING)
 
@@ -248,10 +238,8 @@ def main():
         shows(checks, folder)
         serves(checks, folder)
         words(checks, folder)
-    if checks.failed:
-        sys.exit(f"statuses: {checks.failed} of {checks.count} checks failed")
-    print(f"statuses: ok, {checks.count} checks")
+    return checks.status()
 
 
 if __name__ == "__main__":
-    main()
+    sys.exit(main())

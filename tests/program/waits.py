@@ -127,7 +127,7 @@ def main():
     checks.same(f"no wait is over {LONGEST_WAIT} s", len(over), 0)
     half, most = waits[len(waits) // 2], waits[len(waits) * 99 // 100]
     checks.tell(f"{len(waits)} waits: half within {half * 1000:.1f} ms, 99 of 100 within {most * 1000:.1f}, the longest {waits[-1] * 1000:.1f}")
-    return 1 if checks.failed else 0
+    return checks.status()
 
 
 if __name__ == "__main__":
