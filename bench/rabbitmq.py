@@ -7,7 +7,8 @@ import subprocess
 import sys
 import time
 
-from lib.scenario import free_port, processor_seconds_of
+from lib.scenario import free_port
+from serving import Measured
 
 # Where Debian's package has the server itself. Its /usr/sbin/rabbitmq-server would run it as another user.
 PLACES = "/usr/lib/rabbitmq/bin"
@@ -37,7 +38,7 @@ def programs():
     return found
 
 
-class RabbitMQ:
+class RabbitMQ(Measured):
     """A running RabbitMQ that keeps what it keeps in a new folder, which goes with it. It has its defaults, but for its ports
     at 127.0.0.1 and the plugin for STOMP over WebSocket."""
 
@@ -92,16 +93,6 @@ class RabbitMQ:
         """What it says that it is, and which Erlang carries it."""
         said = "".join(path.read_text(encoding="utf-8") for path in (self.folder / "log").glob("*.log"))
         return re.search("Starting (RabbitMQ .*)", said).group(1)
-
-    def __enter__(self):
-        return self
-
-    def __exit__(self, *_):
-        self.kill()
-
-    def cpu(self):
-        """How many seconds of processor time it has taken."""
-        return processor_seconds_of(self.process.pid)
 
     def kill(self):
         for process in (self.process, self.mapper):

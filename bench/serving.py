@@ -54,7 +54,21 @@ def shown(program, path):
     return {name: int(value) for name, value in (line.split(" ") for line in done.stdout.splitlines())}
 
 
-class Server:
+class Measured:
+    """A running broker, which is killed at the end."""
+
+    def __enter__(self):
+        return self
+
+    def __exit__(self, *_):
+        self.kill()
+
+    def cpu(self):
+        """How many seconds of processor time it has taken."""
+        return processor_seconds_of(self.process.pid)
+
+
+class Server(Measured):
     """A running server. `started` is how many seconds it took until it listened. `before` are the words of a program that
     runs it as its one child."""
 
@@ -68,16 +82,6 @@ class Server:
         self.started = time.perf_counter() - begun
         if line != b"listening %d\n" % self.port:
             sys.exit(f"the server does not listen: {line!r} {self.process.stderr.read().decode(errors='replace')}")
-
-    def __enter__(self):
-        return self
-
-    def __exit__(self, *_):
-        self.kill()
-
-    def cpu(self):
-        """How many seconds of processor time it has taken."""
-        return processor_seconds_of(self.process.pid)
 
     def kill(self):
         os.kill(child_of(self.process.pid) if self.is_child else self.process.pid, signal.SIGKILL)
