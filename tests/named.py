@@ -3,12 +3,13 @@
 
     python3 tests/named.py
 
-It looks too whether the crates of docs/ARCHITECTURE.md are those of crates.txt.
+It looks too whether docs/ARCHITECTURE.md has the groups and crates of crates.txt, in the same order.
 
 A file in backquotes is looked for by the end of its path, since a document names `src/turning.rt` beside its crate. A name of four words or more, joined
 by underscores, is a test, a mutant or a definition: it has to stand in some file of the repository that is no document.
 """
 
+import itertools
 import pathlib
 import re
 import subprocess
@@ -56,30 +57,46 @@ def missing(files):
                 yield document, name
 
 
-def listed_crates():
-    lines = [it.partition("#")[0] for it in (TOP / "crates.txt").read_text(encoding="utf-8").splitlines()]
-    return {it.partition(":")[0].split()[0] for it in lines if ":" in it}
+def listed_groups():
+    """The groups of crates.txt: the name of each, which its comment has before a colon, and its crates."""
+    groups = []
+    for line in (TOP / "crates.txt").read_text(encoding="utf-8").split("\n\n", 1)[1].splitlines():
+        name = line.partition(":")[0].split(" ")
+        if line.startswith("#"):
+            groups.append((" ".join(name[1:]), []))
+        elif line:
+            groups[-1][1].append(name[0])
+    return groups
 
 
-def drawn_crates():
-    """The crates that the tables of docs/ARCHITECTURE.md have a row for."""
-    table = (TOP / "docs" / "ARCHITECTURE.md").read_text(encoding="utf-8").partition("## The crates")[2].partition("## The way of a script")[0]
-    return set(re.findall(r"^\| `(\w+)` \|", table, re.M))
+def drawn_groups():
+    """Those of the table of docs/ARCHITECTURE.md."""
+    groups = []
+    for line in (TOP / "docs" / "ARCHITECTURE.md").read_text(encoding="utf-8").partition("## The crates")[2].partition("\n## ")[0].splitlines():
+        if begins := re.match(r"\| \| \*\*([^*]+)\*\*", line):
+            groups.append((begins[1], []))
+        elif row := re.match(r"\| `(\w+)` \|", line):
+            groups[-1][1].append(row[1])
+    return groups
 
 
 def undrawn():
-    """The crates that stand in one of crates.txt and docs/ARCHITECTURE.md, and not in the other."""
-    listed, drawn = listed_crates(), drawn_crates()
-    yield from (("docs/ARCHITECTURE.md has no row for a crate of crates.txt, and", it) for it in sorted(listed - drawn))
-    yield from (("docs/ARCHITECTURE.md", it) for it in sorted(drawn - listed))
+    """What of crates.txt the table has not, or has elsewhere: the first difference of each group."""
+    for listed, drawn in itertools.zip_longest(listed_groups(), drawn_groups(), fillvalue=("no group", [])):
+        if listed[0] != drawn[0]:
+            yield f"crates.txt has the group {listed[0]} where docs/ARCHITECTURE.md has {drawn[0]}"
+        for it, other in itertools.zip_longest(listed[1], drawn[1], fillvalue="no crate"):
+            if it != other:
+                yield f"crates.txt has {it} in {listed[0]} where docs/ARCHITECTURE.md has {other}"
+                break
 
 
 def main():
     files = tracked()
-    found = [*missing(files), *undrawn()]
-    for document, name in found:
-        print(f"named: {document} names {name}, which is not there", file=sys.stderr)
-    print(f"named: {len(found)} names of the documents are of nothing that is there")
+    found = [*(f"{document} names {name}, which is not there" for document, name in missing(files)), *undrawn()]
+    for fault in found:
+        print(f"named: {fault}", file=sys.stderr)
+    print(f"named: {len(found)} faults")
     return 1 if found else 0
 
 
