@@ -50,7 +50,7 @@ impl error::Error for CopyFault {}
 /// answers that disk. The other one is only read, and may be that of a running server. What the copy's disk held is lost.
 ///
 /// After a refusal the copy's disk may hold anything, and is let go.
-pub fn copy<D: Disk, E: Disk>(
+pub fn copy<D: Disk, E: Disk + Drop>(
     alloc: Global,
     from: &mut D,
     to: E,
@@ -69,7 +69,7 @@ pub fn copy<D: Disk, E: Disk>(
 }
 
 // Makes a disk a journal that stands for the broker's state.
-fn write_journal<E: Disk>(
+fn write_journal<E: Disk + Drop>(
     alloc: Global,
     to: E,
     area_bytes: u64,
@@ -89,7 +89,7 @@ fn write_journal<E: Disk>(
 }
 
 // Has a journal that was just made stand for the broker's state.
-fn fill<E: Disk>(alloc: Global, to: E, broker: &Broker) -> Result<E, CopyFault>
+fn fill<E: Disk + Drop>(alloc: Global, to: E, broker: &Broker) -> Result<E, CopyFault>
     requires whole { broker.now.broken ≡ false }
     ensures { E.honest to → IfOk result (λ made. StandFor (E.images made) broker.now.state) }
 {
