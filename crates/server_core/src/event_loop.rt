@@ -10,7 +10,7 @@ use crate::mailbox::Mailbox;
 use crate::service::{Service, Sweep, client_of};
 use crate::shared::{ServerSeat, Shared};
 use crate::worker_setup::{WorkerSetup, room_for_events};
-use client_schedule::{Clients, Outlook, Watch, told_by};
+use client_schedule::{Clients, Outlook, Watch, reported_by};
 use mio::{Events, Poll};
 use std::alloc::{AllocError, Global};
 use std::marker::Model;
@@ -332,7 +332,7 @@ fn hear_events<R: Wait + Clock + Drop>(
     for event in events.iter() {
         let (desk, client) = client_of(event.token());
         if desk < services.len() {
-            services[desk].hear_of(client, told_by(event), now);
+            services[desk].hear_of(client, reported_by(event), now);
         }
     }
 }

@@ -1,6 +1,6 @@
 use Rattle.std.proofs.Common.{ap}
 use Rattle.client_schedule.proofs.Portions.{gives}
-use Rattle.client_schedule.proofs.read_budget.ReadBudget.read_told.Goals as goal
+use Rattle.client_schedule.proofs.read_budget.ReadBudget.read_reported.Goals as goal
 
 pub returns-else-is_empty-2-clause-bytes : goal.returns-else-is_empty-2-clause-bytes
 returns-else-is_empty-2-clause-bytes g c =
