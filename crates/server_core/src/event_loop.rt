@@ -184,6 +184,7 @@ impl<'a, R: Wait + Clock + Drop> EventLoop<'a, R> {
 }
 
 // What the desks of a worker say before it waits.
+#[derive(Clone, Copy)]
 struct Demand {
     // Whether a client is ready.
     is_ready: bool,

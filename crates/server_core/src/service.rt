@@ -28,6 +28,7 @@ const NEW_CLIENTS: u32 = 64;
 type ClientDesk = Desk<ClientWaker, WsLink<ReadBudget<TcpStream>>>;
 
 /// What a worker has each of its desks do in a round, one after another.
+#[derive(Clone, Copy)]
 pub(crate) enum Sweep<'a> {
     /// A round begins at that moment: a desk finds out which of its clients are ready, and gives a turn to those that the mark lets in. New
     /// clients' sockets are registered there. It says whether the doorbell was rung.
