@@ -6,7 +6,7 @@ use Rattle.std.proofs.lemmas.List.Folds.{sum_by-replicate}
 use Rattle.std.proofs.lemmas.Bool.{cases_lt, lt-ltb, ltb-true}
 use Rattle.std.proofs.lemmas.Bool.Decides.{eqb_tells}
 use Rattle.client_schedule.specs.Lines.{times, IsLine, may_join}
-use Rattle.client_schedule.specs.Kept.{told, IsKept}
+use Rattle.client_schedule.specs.Kept.{reported, IsKept}
 use Rattle.client_schedule.specs.declared.limits.TheConstants.{CLIENTS}
 
 -- one where the numbers are the same
@@ -20,10 +20,10 @@ pub times_push : (m n : ℕ) (line : List ℕ) → times m (line ++ n ∷ []) �
 times_push m n line = sum_by_push (λ other. cond (eqb m other) 1 0) line n
 
 -- what is told of a number once this is told of it, and of any other
-told_same : (n : ℕ) (b : Bool) (stands : List Bool) → n < length stands → told n (set stands n b) ≡ cond b 1 0
+told_same : (n : ℕ) (b : Bool) (stands : List Bool) → n < length stands → reported n (set stands n b) ≡ cond b 1 0
 told_same n b stands h = ap (λ x. cond x 1 0) (get_or-set_same stands n b false h)
 
-told_other : (n m : ℕ) (b : Bool) (stands : List Bool) → m ≢ n → told m (set stands n b) ≡ told m stands
+told_other : (n m : ℕ) (b : Bool) (stands : List Bool) → m ≢ n → reported m (set stands n b) ≡ reported m stands
 told_other n m b stands apart = ap (λ x. cond x 1 0) (get_or-set_other stands n m b false apart)
 
 same-equal : (m n : ℕ) → eqb m n ≡ true → same m n ≡ 1
@@ -34,22 +34,22 @@ same-apart m n e = ap (λ x. cond x 1 0) e
 
 -- how many are told of once this is told of a number
 count_after : (n : ℕ) (b : Bool) (stands : List Bool) → n < length stands
-    → count_by (λ x. x) (set stands n b) + told n stands ≡ count_by (λ x. x) stands + cond b 1 0
+    → count_by (λ x. x) (set stands n b) + reported n stands ≡ count_by (λ x. x) stands + cond b 1 0
 count_after n b stands h = sum_by-set (λ (x : Bool). cond x 1 0) stands n b false h
 
 -- nobody is told of
-told_none : (n : ℕ) (stands : List Bool) → get_or stands n false ≡ false → told n stands ≡ 0
+told_none : (n : ℕ) (stands : List Bool) → get_or stands n false ≡ false → reported n stands ≡ 0
 told_none n stands off = ap (λ x. cond x 1 0) off
 
 -- who is told of is a client
-told_client : (n : ℕ) (stands : List Bool) → told n stands ≡ 1 → n < length stands
+told_client : (n : ℕ) (stands : List Bool) → reported n stands ≡ 1 → n < length stands
 told_client n stands on =
     elim (cases_lt n (length stands)) [
       | inl h ↦ h
-      | inr h ↦ let none : told n stands ≡ 0 = ap (λ x. cond x 1 0) (get_or_past stands n false h) in absurd (omega arith)
+      | inr h ↦ let none : reported n stands ≡ 0 = ap (λ x. cond x 1 0) (get_or_past stands n false h) in absurd (omega arith)
     ]
 
-told_bit : (n : ℕ) (stands : List Bool) → told n stands ≤ 1
+told_bit : (n : ℕ) (stands : List Bool) → reported n stands ≤ 1
 told_bit n stands = elim (get_or stands n false) as (λ b. cond b 1 0 ≤ 1) [ true ↦ omega arith | false ↦ omega arith ]
 
 -- there is room for one that does not stand there
@@ -67,7 +67,7 @@ pub joins : (order longer : List ℕ) (stands : List Bool) (capacity n : ℕ)
 joins order longer stands capacity n kept h off one more = record {
   all = length-set stands n true ∙ kept.all;
   each = λ m. elim (eqb_tells m n) [
-    | inl e ↦ subst (λ (k : ℕ). times k longer ≡ told k (set stands n true)) (sym e.1)
+    | inl e ↦ subst (λ (k : ℕ). times k longer ≡ reported k (set stands n true)) (sym e.1)
         (let self = same-equal n n (eq-eqb n n refl) in omega (arith, more n, kept.each n, told_none n stands off, told_same n true stands h))
     | inr e ↦ omega (arith, more m, kept.each m, same-apart m n e.0, told_other n m true stands e.1)
   ];
@@ -76,7 +76,7 @@ joins order longer stands capacity n kept h off one more = record {
 }
 
 -- the first one leaves
-first_told : (order rest : List ℕ) (stands : List Bool) (capacity n : ℕ) → IsKept order stands capacity → order ≡ n ∷ rest → told n stands ≡ 1
+first_told : (order rest : List ℕ) (stands : List Bool) (capacity n : ℕ) → IsKept order stands capacity → order ≡ n ∷ rest → reported n stands ≡ 1
 first_told order rest stands capacity n kept e =
     let self = same-equal n n (eq-eqb n n refl) in
     omega (arith, kept.each n, ap (times n) e, times-cons n n rest, told_bit n stands)
@@ -102,7 +102,7 @@ leaves order rest stands capacity n kept e =
     record {
       all = length-set stands n false ∙ kept.all;
       each = λ m. elim (eqb_tells m n) [
-        | inl f ↦ subst (λ (k : ℕ). times k rest ≡ told k (set stands n false)) (sym f.1)
+        | inl f ↦ subst (λ (k : ℕ). times k rest ≡ reported k (set stands n false)) (sym f.1)
             (omega (arith, kept.each n, ap (times n) e, times-cons n n rest, on, told_same n false stands h))
         | inr f ↦ omega (arith, kept.each m, ap (times m) e, times-cons m n rest, same-apart m n f.0, told_other n m false stands f.1)
       ];
@@ -129,7 +129,7 @@ off : (b : Bool) → cond {A = ℕ} b 1 0 ≡ 0 → b ≡ false
 off true e = absurd (omega (arith, e))
 off false e = refl
 
-nobody_told : (n : ℕ) (stands : List Bool) → stands ≡ replicate CLIENTS false → told n stands ≡ 0
+nobody_told : (n : ℕ) (stands : List Bool) → stands ≡ replicate CLIENTS false → reported n stands ≡ 0
 nobody_told n stands e =
     elim (cases_lt n CLIENTS) [
       | inl h ↦ told_none n stands (rw e (get_or-replicate CLIENTS n false false h))
@@ -140,7 +140,7 @@ both : (a b : Bool) → (a && b) ≡ true → (a ≡ true) × (b ≡ true)
 both true b e = (refl, e)
 both false b e = cc
 
-told_off : (n : ℕ) (stands : List Bool) → told n stands ≡ 0 → get_or stands n false ≡ false
+told_off : (n : ℕ) (stands : List Bool) → reported n stands ≡ 0 → get_or stands n false ≡ false
 told_off n stands e = off (get_or stands n false) e
 
 -- one that may join is a client that does not stand there

@@ -8,12 +8,12 @@ use Rattle.client_schedule.specs.Deadlines.{IsDue, freed_by, heard_by, held_up_b
 use Rattle.client_schedule.specs.declared.deadlines.Due.{Due}
 use Rattle.client_schedule.specs.declared.deadlines.Due.TheVariants as dues
 use Rattle.client_schedule.specs.declared.deadlines.Deadlines.{Deadlines}
-use Rattle.client_schedule.specs.declared.deadlines.Phase.{Phase}
-use Rattle.client_schedule.specs.declared.deadlines.Phase.TheVariants.{Open}
-use Rattle.client_schedule.specs.declared.supply.Told.{Told}
-use Rattle.client_schedule.specs.declared.supply.Told.TheVariants.{Bytes, End}
-use Rattle.client_schedule.specs.declared.clients.Standing.{Standing}
-use Rattle.client_schedule.specs.declared.clients.Standing.TheVariants.{Greeting, Refused, Seated, Away}
+use Rattle.client_schedule.specs.declared.deadlines.Progress.{Progress}
+use Rattle.client_schedule.specs.declared.deadlines.Progress.TheVariants.{Open}
+use Rattle.client_schedule.specs.declared.supply.Reported.{Reported}
+use Rattle.client_schedule.specs.declared.supply.Reported.TheVariants.{Bytes, End}
+use Rattle.client_schedule.specs.declared.clients.ClientState.{ClientState}
+use Rattle.client_schedule.specs.declared.clients.ClientState.TheVariants.{Greeting, Refused, Seated, Away}
 use Rattle.client_schedule.specs.declared.lines.Lines.{Lines}
 use Rattle.slab.specs.Slab.{get, slab_len, Updates}
 use Rattle.client_schedule.specs.Timers.{with_earlier, with_moment}
@@ -55,29 +55,29 @@ pub record Removes (old new : Clients) (n : ℕ) : Type 0 where
   pub nothing : slab_len new.all ≡ 0 → new.all.slots ≡ []
 
 -- it sits at the desk
-abbrev pub is_seated : Standing → Bool
+abbrev pub is_seated : ClientState → Bool
 is_seated Seated = true
 is_seated (Greeting greeting) = false
 is_seated (Refused farewell) = false
 is_seated Away = false
 
 -- its handshake is under way
-abbrev pub is_greeted : Standing → Bool
+abbrev pub is_greeted : ClientState → Bool
 is_greeted (Greeting greeting) = true
 is_greeted (Refused farewell) = false
 is_greeted Seated = false
 is_greeted Away = false
 
 -- where the client is that has a number
-abbrev pub standing_of : Option Client → Standing
+abbrev pub standing_of : Option Client → ClientState
 standing_of None = Away
-standing_of (Some client) = client.standing
+standing_of (Some client) = client.state
 
-abbrev pub standing_at : ℕ → Clients → Standing
-standing_at n c = standing_of (client_at n c)
+abbrev pub state_at : ℕ → Clients → ClientState
+state_at n c = standing_of (client_at n c)
 
 -- one at the desk stays there while its turn lasts, and a handshake or an end is taken out
-abbrev pub in_turn : Standing → Standing
+abbrev pub in_turn : ClientState → ClientState
 in_turn Seated = Seated
 in_turn (Greeting greeting) = Away
 in_turn (Refused farewell) = Away
@@ -85,7 +85,7 @@ in_turn Away = Away
 
 -- a client whose turn begins
 abbrev pub begun : Client → Client
-begun client = record client { standing = in_turn client.standing; is_short = false }
+begun client = record client { state = in_turn client.state; is_short = false }
 
 -- all other clients stay as they are
 abbrev pub OthersStay : ℕ → Clients → Clients → Type 0
@@ -178,22 +178,22 @@ moment_of dues.Ping now = later now 1
 moment_of (dues.In millis) now = later now millis
 
 -- This is due of a client. Each ping counts, and the client is looked at next when something is due then.
-pub record ComesDue (n : ℕ) (phase : Phase) (now : ℕ) (due : Due) (old new : Clients) (client : Client) : Type 0 where
-  pub is : IsDue phase client.deadlines now due
+pub record ComesDue (n : ℕ) (progress : Progress) (now : ℕ) (due : Due) (old new : Clients) (client : Client) : Type 0 where
+  pub is : IsDue progress client.deadlines now due
   pub done : Updates old.all new.all n (Some (record client { deadlines = done_by due now client.deadlines }))
   pub then : Due
-  pub next : IsDue phase (done_by due now client.deadlines) now then
+  pub next : IsDue progress (done_by due now client.deadlines) now then
   pub timers : new.timers ≡ with_moment n (moment_of then now) old.timers
   pub same : new ≡ record old { all = new.all; timers = new.timers }
 
 -- something comes of a client while its handshake is under way: the poll tells of bytes, or of the end
-abbrev pub heard_in : Told → Standing → ℕ → Deadlines → Deadlines
+abbrev pub heard_in : Reported → ClientState → ℕ → Deadlines → Deadlines
 heard_in Bytes (Greeting greeting) now p = heard_by now p
 heard_in End (Greeting greeting) now p = heard_by now p
 heard_in _ _ now p = p
 
-abbrev pub heard_greeting : Told → ℕ → Client → Client
-heard_greeting told now client = record client { deadlines = heard_in told client.standing now client.deadlines }
+abbrev pub heard_greeting : Reported → ℕ → Client → Client
+heard_greeting reported now client = record client { deadlines = heard_in reported client.state now client.deadlines }
 
 -- memory was refused in the last turn of the client that has a number
 abbrev pub is_short : Option Client → Bool
@@ -202,7 +202,7 @@ is_short (Some client) = client.is_short
 
 -- A client was refused: it goes on by itself, it is waited for as one whose close is, and it is looked at now.
 pub record Parts (n : ℕ) (farewell : Farewell (ReadBudget TcpStream)) (now : ℕ) (old new : Clients) (client : Client) : Type 0 where
-  pub all : Updates old.all new.all n (Some (record client { standing = Refused farewell; deadlines = parting_by now client.deadlines }))
+  pub all : Updates old.all new.all n (Some (record client { state = Refused farewell; deadlines = parting_by now client.deadlines }))
   pub timers : new.timers ≡ with_moment n now old.timers
   pub same : new ≡ record old { all = new.all; timers = new.timers; lines = going_on n old.lines }
 

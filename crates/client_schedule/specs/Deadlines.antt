@@ -4,21 +4,21 @@ use Rattle.client_schedule.specs.declared.deadlines.TheConstants.{LONGEST_PART, 
 use Rattle.client_schedule.specs.declared.deadlines.Due.{Due}
 use Rattle.client_schedule.specs.declared.deadlines.Due.TheVariants.{GivenUp, Write, Ping, In}
 use Rattle.client_schedule.specs.declared.deadlines.Deadlines.{Deadlines}
-use Rattle.client_schedule.specs.declared.deadlines.Phase.{Phase}
-use Rattle.client_schedule.specs.declared.deadlines.Phase.TheVariants.{Greeting, Unopened, Open}
+use Rattle.client_schedule.specs.declared.deadlines.Progress.{Progress}
+use Rattle.client_schedule.specs.declared.deadlines.Progress.TheVariants.{Greeting, Unopened, Open}
 
 -- so long have passed since then
 abbrev pub Passed : ℕ → ℕ → ℕ → Type 0
 Passed span since now = since + span ≤ now
 
 -- it says nothing between two parts of its handshake
-abbrev pub SaysNoPart : Phase → Deadlines → ℕ → Type 0
+abbrev pub SaysNoPart : Progress → Deadlines → ℕ → Type 0
 SaysNoPart Greeting p now = Passed LONGEST_PART p.heard now
 SaysNoPart Unopened p now = ⊥
 SaysNoPart Open p now = ⊥
 
 -- it is connected and opens no session
-abbrev pub OpensNothing : Phase → Deadlines → ℕ → Type 0
+abbrev pub OpensNothing : Progress → Deadlines → ℕ → Type 0
 OpensNothing Greeting p now = Passed LONGEST_GREETING p.connected now
 OpensNothing Unopened p now = Passed LONGEST_GREETING p.connected now
 OpensNothing Open p now = ⊥
@@ -34,7 +34,7 @@ NeverCloses None now = ⊥
 NeverCloses (Some since) now = Passed LONGEST_CLOSE since now
 
 -- Its silence counts: it has its WebSocket, so that it answers pings, nothing waits to be written, and no close is waited for.
-abbrev pub counts : Phase → Option ℕ → Option ℕ → Bool
+abbrev pub counts : Progress → Option ℕ → Option ℕ → Bool
 counts Greeting held_up parting = false
 counts Unopened None None = true
 counts Open None None = true
@@ -57,12 +57,12 @@ abbrev pub IsQuiet : Deadlines → ℕ → Type 0
 IsQuiet p now = Passed (wait_of p) (silent_since p) now × Passed (wait_of p) p.freed now
 
 -- it was sent all pings, and has answered none
-abbrev pub IsSilent : Phase → Deadlines → ℕ → Type 0
-IsSilent phase p now = (counts phase p.held_up p.parting ≡ true) × (PINGS ≤ p.pings) × IsQuiet p now
+abbrev pub IsSilent : Progress → Deadlines → ℕ → Type 0
+IsSilent progress p now = (counts progress p.held_up p.parting ≡ true) × (PINGS ≤ p.pings) × IsQuiet p now
 
 -- It is to be given up.
-abbrev pub IsGivenUp : Phase → Deadlines → ℕ → Type 0
-IsGivenUp phase p now = SaysNoPart phase p now ⊎ OpensNothing phase p now ⊎ TakesNothing p.held_up p ⊎ NeverCloses p.parting now ⊎ IsSilent phase p now
+abbrev pub IsGivenUp : Progress → Deadlines → ℕ → Type 0
+IsGivenUp progress p now = SaysNoPart progress p now ⊎ OpensNothing progress p now ⊎ TakesNothing p.held_up p ⊎ NeverCloses p.parting now ⊎ IsSilent progress p now
 
 -- Something has waited for it, and its socket took nothing, for so long: that is to be offered once more.
 abbrev pub IsWriteDue : Option ℕ → Deadlines → ℕ → Type 0
@@ -70,12 +70,12 @@ IsWriteDue None p now = ⊥
 IsWriteDue (Some since) p now = Passed LONGEST_WRITE since now × Passed LONGEST_WRITE p.took now
 
 -- it has been silent, and not all pings were sent
-abbrev pub IsPingDue : Phase → Deadlines → ℕ → Type 0
-IsPingDue phase p now = (counts phase p.held_up p.parting ≡ true) × (p.pings < PINGS) × IsQuiet p now
+abbrev pub IsPingDue : Progress → Deadlines → ℕ → Type 0
+IsPingDue progress p now = (counts progress p.held_up p.parting ≡ true) × (p.pings < PINGS) × IsQuiet p now
 
 -- something is to be done
-abbrev pub IsSomethingDue : Phase → Deadlines → ℕ → Type 0
-IsSomethingDue phase p now = IsGivenUp phase p now ⊎ IsWriteDue p.held_up p now ⊎ IsPingDue phase p now
+abbrev pub IsSomethingDue : Progress → Deadlines → ℕ → Type 0
+IsSomethingDue progress p now = IsGivenUp progress p now ⊎ IsWriteDue p.held_up p now ⊎ IsPingDue progress p now
 
 -- From now on that is not so for so long, and then it is. If no clock can tell that moment, it need not be.
 pub record Until (Holds : ℕ → Type 0) (now left : ℕ) : Type 0 where
@@ -85,11 +85,11 @@ pub record Until (Holds : ℕ → Type 0) (now left : ℕ) : Type 0 where
 
 -- What is due of a client. It is given up exactly if it is to be. Or else what waits is offered, or a ping is sent, exactly if that is
 -- to be. Or else nothing is due, and for so long nothing will be.
-abbrev pub IsDue : Phase → Deadlines → ℕ → Due → Type 0
-IsDue phase p now GivenUp = IsGivenUp phase p now
-IsDue phase p now Write = IsWriteDue p.held_up p now × (IsGivenUp phase p now → ⊥)
-IsDue phase p now Ping = IsPingDue phase p now × (IsGivenUp phase p now → ⊥) × (IsWriteDue p.held_up p now → ⊥)
-IsDue phase p now (In millis) = (0 < millis) × Until (IsSomethingDue phase p) now millis
+abbrev pub IsDue : Progress → Deadlines → ℕ → Due → Type 0
+IsDue progress p now GivenUp = IsGivenUp progress p now
+IsDue progress p now Write = IsWriteDue p.held_up p now × (IsGivenUp progress p now → ⊥)
+IsDue progress p now Ping = IsPingDue progress p now × (IsGivenUp progress p now → ⊥) × (IsWriteDue p.held_up p now → ⊥)
+IsDue progress p now (In millis) = (0 < millis) × Until (IsSomethingDue progress p) now millis
 
 -- a client was connected just now
 abbrev pub fresh : ℕ → Deadlines

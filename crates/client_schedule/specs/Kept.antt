@@ -4,12 +4,12 @@ use Rattle.client_schedule.specs.Lines.{times}
 use Rattle.client_schedule.specs.declared.limits.TheConstants.{CLIENTS}
 
 -- once if it stands there, else not at all
-abbrev pub told : ℕ → List Bool → ℕ
-told n stands = cond (slice_index_or stands n false) 1 0
+abbrev pub reported : ℕ → List Bool → ℕ
+reported n stands = cond (slice_index_or stands n false) 1 0
 
 -- Each number stands there as often as is told, so there is room for all.
 pub record IsKept (order : List ℕ) (stands : List Bool) (capacity : ℕ) : Type 0 where
   pub all : length stands ≡ CLIENTS
-  pub each : (n : ℕ) → times n order ≡ told n stands
+  pub each : (n : ℕ) → times n order ≡ reported n stands
   pub count : length order ≡ count_by (λ b. b) stands
   pub room : CLIENTS ≤ capacity

@@ -4,11 +4,11 @@ use Rattle.std.specs.IoError.{error_kind}
 use Rattle.std.specs.Io.KnownBytes.{prepend_known}
 use Rattle.std.specs.declared.io.Error.{Error}
 use Rattle.std.specs.declared.io.ErrorKind.TheVariants as kinds
-use Rattle.client_schedule.specs.Supplies.{drained, is_dry, with_told}
+use Rattle.client_schedule.specs.Supplies.{drained, is_dry, with_reported}
 use Rattle.client_schedule.specs.declared.read_budget.Flow.{Flow}
 use Rattle.client_schedule.specs.declared.read_budget.ReadBudget.{ReadBudget}
 use Rattle.client_schedule.specs.declared.read_budget.TheConstants.{READS}
-use Rattle.client_schedule.specs.declared.supply.Told.{Told}
+use Rattle.client_schedule.specs.declared.supply.Reported.{Reported}
 
 module _ {S : Type 0} where
   -- what is left to be given: what was read and not given, and what the socket has
@@ -53,14 +53,14 @@ module _ {S : Type 0} where
     pub supply_is : new.supply ≡ old.supply
 
   -- once the poll had told this
-  abbrev pub told_of : Told → ReadBudget S → ReadBudget S
-  told_of told old = record old { supply = with_told told old.supply; flow = record old.flow { has_rest = false } }
+  abbrev pub told_of : Reported → ReadBudget S → ReadBudget S
+  told_of reported old = record old { supply = with_reported reported old.supply; flow = record old.flow { has_rest = false } }
 
   -- A read that asked for so many bytes, if the poll had told this since the one before. If nothing is kept, and the socket isn't dry, it
   -- asks that. Or it gives of what is kept. At the end of a portion it does neither.
-  pub record Reads (told : Told) (asked : ℕ) (old new : ReadBudget S) (result : Result ℕ Error) : Type 0 where
-    pub dry : old.spare.items ≡ [] → is_dry (with_told told old.supply) ≡ true → Declines false old new result × (new.supply ≡ with_told told old.supply)
-    pub over : (old.spare.items ≡ [] → is_dry (with_told told old.supply) ≡ false) → old.left ≡ 0 → Declines true old new result × (new.supply ≡ with_told told old.supply)
-    pub asks : old.spare.items ≡ [] → is_dry (with_told told old.supply) ≡ false → old.left ≢ 0 → Asks asked (told_of told old) new result
-    pub gives : old.spare.items ≢ [] → old.left ≢ 0 → Gives asked (told_of told old) new result
+  pub record Reads (reported : Reported) (asked : ℕ) (old new : ReadBudget S) (result : Result ℕ Error) : Type 0 where
+    pub dry : old.spare.items ≡ [] → is_dry (with_reported reported old.supply) ≡ true → Declines false old new result × (new.supply ≡ with_reported reported old.supply)
+    pub over : (old.spare.items ≡ [] → is_dry (with_reported reported old.supply) ≡ false) → old.left ≡ 0 → Declines true old new result × (new.supply ≡ with_reported reported old.supply)
+    pub asks : old.spare.items ≡ [] → is_dry (with_reported reported old.supply) ≡ false → old.left ≢ 0 → Asks asked (told_of reported old) new result
+    pub gives : old.spare.items ≢ [] → old.left ≢ 0 → Gives asked (told_of reported old) new result
     pub taken : new.flow.taken ≡ old.flow.taken

@@ -8,19 +8,19 @@ use Rattle.mio.specs.Event.{is_error, is_read_closed, is_readable, is_write_clos
 use Rattle.mio.specs.declared.event.event.Event.{Event}
 use Rattle.client_schedule.specs.declared.supply.Supply.{Supply}
 use Rattle.client_schedule.specs.declared.supply.Supply.TheVariants.{Unknown, Dry, Ending}
-use Rattle.client_schedule.specs.declared.supply.Told.{Told}
-use Rattle.client_schedule.specs.declared.supply.Told.TheVariants.{Nothing, Bytes, End}
+use Rattle.client_schedule.specs.declared.supply.Reported.{Reported}
+use Rattle.client_schedule.specs.declared.supply.Reported.TheVariants.{Nothing, Bytes, End}
 
 -- what the poll tells of a socket that is to be read: its end or a failure, or else bytes
-abbrev pub told_by : Event → Told
-told_by event = cond (is_read_closed event) End (cond (is_write_closed event) End (cond (is_error event) End (cond (is_readable event) Bytes Nothing)))
+abbrev pub reported_by : Event → Reported
+reported_by event = cond (is_read_closed event) End (cond (is_write_closed event) End (cond (is_error event) End (cond (is_readable event) Bytes Nothing)))
 
 -- what it has told since the last read, once it has told this after that: an end stays, and so do bytes unless an end comes
-abbrev pub told_after : Told → Told → Told
-told_after End told = End
-told_after Bytes End = End
-told_after Bytes _ = Bytes
-told_after Nothing told = told
+abbrev pub reported_after : Reported → Reported → Reported
+reported_after End reported = End
+reported_after Bytes End = End
+reported_after Bytes _ = Bytes
+reported_after Nothing reported = reported
 
 -- a read does not ask it
 abbrev pub is_dry : Supply → Bool
@@ -29,12 +29,12 @@ is_dry Dry = true
 is_dry Ending = false
 
 -- what there may be to read once the poll has told this; of an end it tells once
-abbrev pub with_told : Told → Supply → Supply
-with_told Nothing supply = supply
-with_told End supply = Ending
-with_told Bytes Unknown = Unknown
-with_told Bytes Dry = Unknown
-with_told Bytes Ending = Ending
+abbrev pub with_reported : Reported → Supply → Supply
+with_reported Nothing supply = supply
+with_reported End supply = Ending
+with_reported Bytes Unknown = Unknown
+with_reported Bytes Dry = Unknown
+with_reported Bytes Ending = Ending
 
 -- there is nothing to read now
 abbrev pub is_would_block : ErrorKind → Bool

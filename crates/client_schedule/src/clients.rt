@@ -22,7 +22,7 @@ use ws_core::{Farewell, Greeting};
 
 /// Where a client is.
 #[derive(Drop)]
-pub enum Standing {
+pub enum ClientState {
     /// Its handshake is under way.
     Greeting(Greeting<ReadBudget<TcpStream>>),
     /// It was refused, and what comes of it is dropped.
@@ -36,7 +36,7 @@ pub enum Standing {
 /// A client of a worker.
 #[derive(Drop)]
 pub struct Client {
-    pub(crate) standing: Standing,
+    pub(crate) state: ClientState,
     pub(crate) deadlines: Deadlines,
     // Whether memory was refused in its last turn.
     pub(crate) is_short: bool,
@@ -45,33 +45,33 @@ pub struct Client {
 impl Client {
     /// Whether it sits at its desk.
     pub fn is_seated(&self) -> bool
-        ensures { result ≡ is_seated self.now.standing }
+        ensures { result ≡ is_seated self.now.state }
     {
-        match self.standing {
-            Standing::Seated => true,
-            Standing::Greeting(_) | Standing::Refused(_) | Standing::Away => false,
+        match self.state {
+            ClientState::Seated => true,
+            ClientState::Greeting(_) | ClientState::Refused(_) | ClientState::Away => false,
         }
     }
 
     /// Whether its handshake is under way.
     pub fn is_greeted(&self) -> bool
-        ensures { result ≡ is_greeted self.now.standing }
+        ensures { result ≡ is_greeted self.now.state }
     {
-        match self.standing {
-            Standing::Greeting(_) => true,
-            Standing::Refused(_) | Standing::Seated | Standing::Away => false,
+        match self.state {
+            ClientState::Greeting(_) => true,
+            ClientState::Refused(_) | ClientState::Seated | ClientState::Away => false,
         }
     }
 
     // Where the client is whose turn begins. Its handshake, or its end, is taken out, to go on.
-    fn begin_turn(&mut self) -> Standing
-        ensures whose { result ≡ self.old.standing }
+    fn begin_turn(&mut self) -> ClientState
+        ensures whose { result ≡ self.old.state }
         ensures begins { self.new ≡ begun self.old }
     {
         self.is_short = false;
-        match self.standing {
-            Standing::Seated => Standing::Seated,
-            _ => mem::replace(&mut self.standing, Standing::Away),
+        match self.state {
+            ClientState::Seated => ClientState::Seated,
+            _ => mem::replace(&mut self.state, ClientState::Away),
         }
     }
 }
@@ -92,7 +92,7 @@ pub struct Clients {
 }
 
 impl Clients {
-    ghost use Rattle.client_schedule.specs.Clients.{Admits, Begins, IsEmpty, Removes, client_at, standing_at};
+    ghost use Rattle.client_schedule.specs.Clients.{Admits, Begins, IsEmpty, Removes, client_at, state_at};
     ghost use Rattle.slab.specs.Slab.{Updates};
     ghost use Rattle.client_schedule.specs.Turns.{after_let_in, gone_on, let_in, woken};
 
@@ -124,11 +124,11 @@ impl Clients {
         greeting: Greeting<ReadBudget<TcpStream>>,
         now: u64,
     ) -> Result<(), AllocError>
-        ensures ok { OnOk result (Admits now self.old self.new (record { standing = Standing.Greeting greeting; deadlines = fresh now; is_short = false })) }
+        ensures ok { OnOk result (Admits now self.old self.new (record { state = ClientState.Greeting greeting; deadlines = fresh now; is_short = false })) }
         ensures err { OnErr result (self.new ≡ record self.old { all = record self.old.all { capacity = self.new.all.capacity } }) }
     {
         let client = Client {
-            standing: Standing::Greeting(greeting),
+            state: ClientState::Greeting(greeting),
             deadlines: Deadlines::new(now),
             is_short: false,
         };
@@ -208,11 +208,11 @@ impl Clients {
     }
 
     /// The next client that has a turn, and where it is. It stands in line no more.
-    pub fn next(&mut self) -> Option<(usize, Standing)>
+    pub fn next(&mut self) -> Option<(usize, ClientState)>
         ensures none { IsNone result → self.old.lines.ready ≡ [] }
         ensures first { IfSome result (λ turn. self.old.lines.ready ≡ turn.0 ∷ self.new.lines.ready) }
         ensures rest { self.new.lines ≡ record self.old.lines { ready = self.new.lines.ready; let_in = None } }
-        ensures whose { IfSome result (λ turn. turn.1 ≡ standing_at turn.0 self.old) }
+        ensures whose { IfSome result (λ turn. turn.1 ≡ state_at turn.0 self.old) }
         ensures begins { IfSome result (λ turn. Begins turn.0 self.old self.new) }
         ensures nobody { IsNone result → self.new ≡ record self.old { lines = self.new.lines } }
     {
@@ -221,11 +221,11 @@ impl Clients {
     }
 
     /// The next client that goes on by itself, and where it is. It stands in line no more.
-    pub fn next_again(&mut self) -> Option<(usize, Standing)>
+    pub fn next_again(&mut self) -> Option<(usize, ClientState)>
         ensures none { IsNone result → self.old.lines.again ≡ [] }
         ensures first { IfSome result (λ turn. self.old.lines.again ≡ turn.0 ∷ self.new.lines.again) }
         ensures rest { self.new.lines ≡ record self.old.lines { again = self.new.lines.again; let_in = None } }
-        ensures whose { IfSome result (λ turn. turn.1 ≡ standing_at turn.0 self.old) }
+        ensures whose { IfSome result (λ turn. turn.1 ≡ state_at turn.0 self.old) }
         ensures begins { IfSome result (λ turn. Begins turn.0 self.old self.new) }
         ensures nobody { IsNone result → self.new ≡ record self.old { lines = self.new.lines } }
     {
@@ -235,10 +235,10 @@ impl Clients {
 
     /// The client that is let in at this mark, and where it is: the first that waits for room, or else the first whose output waits. It has
     /// a turn before all that stand in line for one, and waits no more.
-    pub fn let_in(&mut self, mark: u64) -> Option<(usize, Standing)>
+    pub fn let_in(&mut self, mark: u64) -> Option<(usize, ClientState)>
         ensures who { option_map (λ turn. turn.0) result ≡ let_in mark self.old.lines }
         ensures after { self.new.lines ≡ after_let_in mark self.old.lines }
-        ensures whose { IfSome result (λ turn. turn.1 ≡ standing_at turn.0 self.old) }
+        ensures whose { IfSome result (λ turn. turn.1 ≡ state_at turn.0 self.old) }
         ensures begins { IfSome result (λ turn. Begins turn.0 self.old self.new) }
         ensures nobody { IsNone result → self.new ≡ record self.old { lines = self.new.lines } }
     {
@@ -247,36 +247,36 @@ impl Clients {
     }
 
     // Where the client is whose turn begins.
-    fn begin_turn(&mut self, number: usize) -> Standing
-        ensures whose { result ≡ standing_at number self.old }
+    fn begin_turn(&mut self, number: usize) -> ClientState
+        ensures whose { result ≡ state_at number self.old }
         ensures begins { Begins number self.old self.new }
         ensures rest { self.new ≡ record self.old { all = self.new.all } }
     {
         match self.all.get_mut(number) {
             Some(client) => client.begin_turn(),
-            None => Standing::Away,
+            None => ClientState::Away,
         }
     }
 
     /// A client is now where it is said to be. It goes on by itself if more of its bytes may be there.
-    pub fn stand(&mut self, number: usize, standing: Standing, has_rest: bool)
-        ensures there { MatchOption (client_at number self.old) (self.new.all ≡ self.old.all) (λ client. Updates self.old.all self.new.all number (Some (record client { standing = standing }))) }
+    pub fn stand(&mut self, number: usize, state: ClientState, has_rest: bool)
+        ensures there { MatchOption (client_at number self.old) (self.new.all ≡ self.old.all) (λ client. Updates self.old.all self.new.all number (Some (record client { state = state }))) }
         ensures rest { self.new ≡ record self.old { all = self.new.all; lines = gone_on has_rest number self.old.lines } }
     {
-        self.place(number, standing);
+        self.place(number, state);
         self.go_on(number, has_rest);
     }
 
     // A client is now where it is said to be.
-    fn place(&mut self, number: usize, standing: Standing)
-        ensures there { MatchOption (client_at number self.old) (self.new.all ≡ self.old.all) (λ client. Updates self.old.all self.new.all number (Some (record client { standing = standing }))) }
+    fn place(&mut self, number: usize, state: ClientState)
+        ensures there { MatchOption (client_at number self.old) (self.new.all ≡ self.old.all) (λ client. Updates self.old.all self.new.all number (Some (record client { state = state }))) }
         ensures rest { self.new ≡ record self.old { all = self.new.all } }
     {
         let Some(client) = self.all.get_mut(number) else {
-            drop(standing);
+            drop(state);
             return;
         };
-        drop(mem::replace(&mut client.standing, standing));
+        drop(mem::replace(&mut client.state, state));
     }
 
     // Has a client go on by itself if its last turn left bytes that may be there.

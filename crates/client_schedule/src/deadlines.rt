@@ -32,7 +32,7 @@ const LONGEST_CLOSE: u64 = 10_000;
 
 /// How far a client has come.
 #[derive(Clone, Copy)]
-pub enum Phase {
+pub enum Progress {
     /// Its handshake is under way.
     Greeting,
     /// It has its WebSocket, and no session.
@@ -162,12 +162,12 @@ impl Deadlines {
     }
 
     /// What is due of a client that has come so far.
-    pub fn due(&self, phase: Phase, now: u64) -> Due
-        ensures { IsDue phase self.now now result }
+    pub fn due(&self, progress: Progress, now: u64) -> Due
+        ensures { IsDue progress self.now now result }
     {
-        let given_up = self.given_up_in(phase, now);
+        let given_up = self.given_up_in(progress, now);
         let write = self.write_in(now);
-        let ping = self.ping_in(phase, now);
+        let ping = self.ping_in(progress, now);
         if given_up == 0 {
             Due::GivenUp
         } else if write == 0 {
@@ -180,32 +180,36 @@ impl Deadlines {
     }
 
     // For how much longer it is waited for.
-    fn given_up_in(&self, phase: Phase, now: u64) -> u64
-        ensures { Until (IsGivenUp phase self.now) now result }
+    fn given_up_in(&self, progress: Progress, now: u64) -> u64
+        ensures { Until (IsGivenUp progress self.now) now result }
     {
-        let part = self.part_in(phase, now);
-        let session = self.session_in(phase, now);
+        let part = self.part_in(progress, now);
+        let session = self.session_in(progress, now);
         let take = self.take_in();
         let close = self.close_in(now);
-        let silence = self.silence_in(phase, now);
+        let silence = self.silence_in(progress, now);
         part.min(session.min(take.min(close.min(silence))))
     }
 
-    fn part_in(&self, phase: Phase, now: u64) -> u64
-        ensures { Until (SaysNoPart phase self.now) now result }
+    fn part_in(&self, progress: Progress, now: u64) -> u64
+        ensures { Until (SaysNoPart progress self.now) now result }
     {
-        match phase {
-            Phase::Greeting => left_of(LONGEST_PART, self.heard, now),
-            Phase::Unopened | Phase::Open => u64::MAX,
+        match progress {
+            Progress::Greeting => left_of(LONGEST_PART, self.heard, now),
+            Progress::Unopened | Progress::Open => u64::MAX,
         }
     }
 
-    fn session_in(&self, phase: Phase, now: u64) -> u64
-        ensures { Until (OpensNothing phase self.now) now result }
+    fn session_in(&self, progress: Progress, now: u64) -> u64
+        ensures { Until (OpensNothing progress self.now) now result }
     {
-        match phase {
-            Phase::Greeting | Phase::Unopened => left_of(LONGEST_GREETING, self.connected, now),
-            Phase::Open => u64::MAX,
+        match progress {
+            Progress::Greeting | Progress::Unopened => left_of(
+                LONGEST_GREETING,
+                self.connected,
+                now,
+            ),
+            Progress::Open => u64::MAX,
         }
     }
 
@@ -228,10 +232,10 @@ impl Deadlines {
         }
     }
 
-    fn silence_in(&self, phase: Phase, now: u64) -> u64
-        ensures { Until (IsSilent phase self.now) now result }
+    fn silence_in(&self, progress: Progress, now: u64) -> u64
+        ensures { Until (IsSilent progress self.now) now result }
     {
-        if self.counts(phase) && self.pings >= PINGS {
+        if self.counts(progress) && self.pings >= PINGS {
             self.quiet_in(now)
         } else {
             u64::MAX
@@ -249,10 +253,10 @@ impl Deadlines {
     }
 
     // After how long it is to be sent a ping.
-    fn ping_in(&self, phase: Phase, now: u64) -> u64
-        ensures { Until (IsPingDue phase self.now) now result }
+    fn ping_in(&self, progress: Progress, now: u64) -> u64
+        ensures { Until (IsPingDue progress self.now) now result }
     {
-        if self.counts(phase) && self.pings < PINGS {
+        if self.counts(progress) && self.pings < PINGS {
             self.quiet_in(now)
         } else {
             u64::MAX
@@ -260,11 +264,11 @@ impl Deadlines {
     }
 
     // Whether its silence counts.
-    fn counts(&self, phase: Phase) -> bool
-        ensures { result ≡ counts phase self.now.held_up self.now.parting }
+    fn counts(&self, progress: Progress) -> bool
+        ensures { result ≡ counts progress self.now.held_up self.now.parting }
     {
-        match (phase, self.held_up, self.parting) {
-            (Phase::Unopened | Phase::Open, None, None) => true,
+        match (progress, self.held_up, self.parting) {
+            (Progress::Unopened | Progress::Open, None, None) => true,
             _ => false,
         }
     }

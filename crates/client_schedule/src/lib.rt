@@ -16,10 +16,10 @@ mod waiting;
 mod waking;
 mod watch;
 
-pub use clients::{Client, Clients, Standing};
-pub use deadlines::{Due, Phase};
+pub use clients::{Client, ClientState, Clients};
+pub use deadlines::{Due, Progress};
 pub use limits::CLIENTS;
 pub use outlook::Outlook;
 pub use read_budget::{Flow, ReadBudget};
-pub use supply::{Told, told_by};
+pub use supply::{Reported, reported_by};
 pub use watch::Watch;

@@ -6,7 +6,7 @@ ghost use Rattle.std.specs.Io.KnownBytes.{Keeps, ReadConsumes, WriteAppends};
 ghost use Rattle.client_schedule.specs.declared.read_budget.TheConstants.{FRAMES, READS};
 
 use crate::frames::{Place, front_of};
-use crate::supply::{Supply, Told, is_dry, supply_behind, supply_with, told_after};
+use crate::supply::{Reported, Supply, is_dry, reported_after, supply_behind, supply_with};
 use mio::net::TcpStream;
 use std::alloc::{AllocError, Global};
 use std::cell::Cell;
@@ -59,7 +59,7 @@ pub struct ReadBudget<S> {
     flow: Flow,
     supply: Supply,
     // What the poll has told since the last read.
-    told: Cell<Told>,
+    reported: Cell<Reported>,
     // How many bytes its socket gave in all.
     given: u64,
     // Whether what comes is frames, how far it has come in one, and what was read and not given.
@@ -86,7 +86,7 @@ impl<S: Drop> ReadBudget<S> {
                 has_rest: false,
             },
             supply: Supply::Unknown,
-            told: Cell::new(Told::Nothing),
+            reported: Cell::new(Reported::Nothing),
             given: 0,
             is_framed: Cell::new(false),
             place: Place::Front,
@@ -107,8 +107,9 @@ impl<S: Drop> ReadBudget<S> {
     }
 
     /// The poll has told this of the socket. The next read knows it. An end that was told stays.
-    pub fn tell(&self, told: Told) {
-        self.told.set(told_after(self.told.get(), told));
+    pub fn tell(&self, reported: Reported) {
+        self.reported
+            .set(reported_after(self.reported.get(), reported));
     }
 }
 
@@ -117,12 +118,17 @@ impl<S: Read> ReadBudget<S> {
     ghost use Rattle.client_schedule.specs.ReadBudget.{Asks, Declines, Reads, left_in};
 
     // Reads, if the poll has told this since the last read.
-    fn read_told(&mut self, told: Told, is_framed: bool, buf: &mut [u8]) -> io::Result<usize>
+    fn read_reported(
+        &mut self,
+        reported: Reported,
+        is_framed: bool,
+        buf: &mut [u8],
+    ) -> io::Result<usize>
         ensures bound { ReadsAtMost result buf.new }
         ensures bytes { ReadConsumes (left_in S.remaining self.old) (left_in S.remaining self.new) result buf.new }
-        ensures reads { Reads told (length buf.old) self.old self.new result }
+        ensures reads { Reads reported (length buf.old) self.old self.new result }
     {
-        self.supply = supply_with(self.supply, told);
+        self.supply = supply_with(self.supply, reported);
         if self.spare.is_empty() && is_dry(self.supply) {
             return self.decline(false);
         }
@@ -273,19 +279,19 @@ impl<S> ReadBudget<S> {
 
 impl<S: Read> Read for ReadBudget<S> {
     ghost use Rattle.client_schedule.specs.ReadBudget.{Reads, left_in};
-    ghost use Rattle.client_schedule.specs.declared.supply.Told.{Told};
+    ghost use Rattle.client_schedule.specs.declared.supply.Reported.{Reported};
 
     ghost remaining = { λ p. left_in S.remaining p };
 
     fn read(&mut self, buf: &mut [u8]) -> io::Result<usize>
         ensures bound { ReadsAtMost result buf.new }
         ensures bytes { ReadConsumes (left_in S.remaining self.old) (left_in S.remaining self.new) result buf.new }
-        ensures reads { (told : Told) × Reads told (length buf.old) self.old self.new result }
+        ensures reads { (reported : Reported) × Reads reported (length buf.old) self.old self.new result }
     {
-        let told = self.told.get();
-        self.told.set(Told::Nothing);
+        let reported = self.reported.get();
+        self.reported.set(Reported::Nothing);
         let is_framed = self.is_framed.get();
-        self.read_told(told, is_framed, buf)
+        self.read_reported(reported, is_framed, buf)
     }
 }
 

@@ -1,7 +1,7 @@
 //! What there may be to read of a socket.
 
 ghost use Rattle.std.specs.Prelude.{◌≡◌};
-ghost use Rattle.client_schedule.specs.Supplies.{drained, is_dry, leaves_nothing, told_after, told_by, with_told};
+ghost use Rattle.client_schedule.specs.Supplies.{drained, is_dry, leaves_nothing, reported_after, reported_by, with_reported};
 
 use mio::event::Event;
 use std::io;
@@ -9,7 +9,7 @@ use std::io::ErrorKind;
 
 /// What the poll has told of a socket since it was read last.
 #[derive(Clone, Copy)]
-pub enum Told {
+pub enum Reported {
     /// Nothing of which a read would tell.
     Nothing,
     /// That there are bytes.
@@ -31,36 +31,36 @@ pub enum Supply {
 
 /// What the poll tells of a socket that is to be read. Each flag that a read may answer to counts, whether or not the poll says that there
 /// are bytes.
-pub fn told_by(event: &Event) -> Told
-    ensures { result ≡ told_by event.now }
+pub fn reported_by(event: &Event) -> Reported
+    ensures { result ≡ reported_by event.now }
 {
     if event.is_read_closed() || event.is_write_closed() || event.is_error() {
-        Told::End
+        Reported::End
     } else if event.is_readable() {
-        Told::Bytes
+        Reported::Bytes
     } else {
-        Told::Nothing
+        Reported::Nothing
     }
 }
 
 /// What the poll has told since the last read, once it has told this after that. An end that was told stays.
-pub(crate) fn told_after(before: Told, told: Told) -> Told
-    ensures { result ≡ told_after before told }
+pub(crate) fn reported_after(before: Reported, reported: Reported) -> Reported
+    ensures { result ≡ reported_after before reported }
 {
-    match (before, told) {
-        (Told::End, _) | (_, Told::Nothing) => before,
-        (_, told) => told,
+    match (before, reported) {
+        (Reported::End, _) | (_, Reported::Nothing) => before,
+        (_, reported) => reported,
     }
 }
 
 /// What there may be to read once the poll has told this.
-pub(crate) fn supply_with(supply: Supply, told: Told) -> Supply
-    ensures { result ≡ with_told told supply }
+pub(crate) fn supply_with(supply: Supply, reported: Reported) -> Supply
+    ensures { result ≡ with_reported reported supply }
 {
-    match (supply, told) {
-        (Supply::Ending, _) | (_, Told::End) => Supply::Ending,
-        (_, Told::Bytes) => Supply::Unknown,
-        (supply, Told::Nothing) => supply,
+    match (supply, reported) {
+        (Supply::Ending, _) | (_, Reported::End) => Supply::Ending,
+        (_, Reported::Bytes) => Supply::Unknown,
+        (supply, Reported::Nothing) => supply,
     }
 }
 

@@ -2,13 +2,13 @@
 
 ghost use Rattle.std.specs.Prelude.{◌≡◌, MatchOption, cond, min, nat_lt, option_map};
 ghost use Rattle.client_schedule.specs.declared.timers.TheConstants.{NEVER};
-ghost use Rattle.client_schedule.specs.Clients.{ComesDue, IsWaitedFor, LooksBy, OthersStay, Parts, client_at, has_more, heard_greeting, is_seated, is_short, moment_of, parts_now, standing_at, waited_by, woken_short};
+ghost use Rattle.client_schedule.specs.Clients.{ComesDue, IsWaitedFor, LooksBy, OthersStay, Parts, client_at, has_more, heard_greeting, is_seated, is_short, moment_of, parts_now, state_at, waited_by, woken_short};
 
-use crate::clients::{Client, Clients, Standing};
-use crate::deadlines::{Due, Phase};
+use crate::clients::{Client, ClientState, Clients};
+use crate::deadlines::{Due, Progress};
 use crate::limits::SHORTAGE;
 use crate::read_budget::{Flow, ReadBudget};
-use crate::supply::Told;
+use crate::supply::Reported;
 use crate::timers::NEVER;
 use desk_core::{Next, Turned};
 use mio::net::TcpStream;
@@ -20,16 +20,16 @@ impl Clients {
 
     /// The poll told this of a client's socket. It stands in line for a turn; its stream hears it if its handshake is under way. Answers
     /// whether it sits at the desk: then its stream is to hear it there.
-    pub fn hear_of(&mut self, number: usize, told: Told, now: u64) -> bool
-        ensures client { client_at number self.new ≡ option_map (heard_greeting told now) (client_at number self.old) }
+    pub fn hear_of(&mut self, number: usize, reported: Reported, now: u64) -> bool
+        ensures client { client_at number self.new ≡ option_map (heard_greeting reported now) (client_at number self.old) }
         ensures others { OthersStay number self.old self.new }
         ensures rest { self.new ≡ record self.old { all = self.new.all; lines = woken number self.old.lines } }
-        ensures seated { result ≡ is_seated (standing_at number self.old) }
+        ensures seated { result ≡ is_seated (state_at number self.old) }
     {
         self.wake(number);
         match self.all.get_mut(number) {
             Some(client) => {
-                client.hear_of(told, now);
+                client.hear_of(reported, now);
                 client.is_seated()
             }
             None => false,
@@ -99,7 +99,7 @@ impl Clients {
             drop(farewell);
             return;
         };
-        drop(mem::replace(&mut client.standing, Standing::Refused(farewell)));
+        drop(mem::replace(&mut client.state, ClientState::Refused(farewell)));
         client.deadlines.parting(now);
         self.timers.set(number, now);
         self.lines.go_on(number);
@@ -137,15 +137,15 @@ impl Clients {
 
     /// What is due of a client whose moment has come and which has come so far, and where it is. Each ping counts as sent, and its next
     /// moment is set, unless it is to be given up.
-    pub fn come_due(&mut self, number: usize, phase: Phase, now: u64) -> Due
+    pub fn come_due(&mut self, number: usize, progress: Progress, now: u64) -> Due
         ensures none { MatchOption (client_at number self.old) ((result ≡ Due.In NEVER) × (self.new ≡ self.old)) (λ _. Unit {0}) }
-        ensures due { MatchOption (client_at number self.old) (Unit {0}) (ComesDue number phase now result self.old self.new) }
+        ensures due { MatchOption (client_at number self.old) (Unit {0}) (ComesDue number progress now result self.old self.new) }
     {
         let Some(client) = self.all.get_mut(number) else {
             return Due::In(NEVER);
         };
-        let due = client.come_due(phase, now);
-        let then = client.deadlines.due(phase, now);
+        let due = client.come_due(progress, now);
+        let then = client.deadlines.due(progress, now);
         self.timers.set(number, moment_of(then, now));
         due
     }
@@ -156,12 +156,12 @@ impl Client {
     ghost use Rattle.client_schedule.specs.Clients.{done_by};
 
     // The poll told this of its socket.
-    fn hear_of(&mut self, told: Told, now: u64)
-        ensures { self.new ≡ heard_greeting told now self.old }
+    fn hear_of(&mut self, reported: Reported, now: u64)
+        ensures { self.new ≡ heard_greeting reported now self.old }
     {
-        if let Standing::Greeting(greeting) = &self.standing {
-            greeting.stream().tell(told);
-            if !matches!(told, Told::Nothing) {
+        if let ClientState::Greeting(greeting) = &self.state {
+            greeting.stream().tell(reported);
+            if !matches!(reported, Reported::Nothing) {
                 self.deadlines.heard(now);
             }
         }
@@ -183,18 +183,18 @@ impl Client {
                 return NEVER;
             }
         }
-        match self.deadlines.due(Phase::Open, now) {
+        match self.deadlines.due(Progress::Open, now) {
             Due::In(millis) => now.saturating_add(millis),
             Due::Write | Due::Ping | Due::GivenUp => now,
         }
     }
 
     // What is due of it. A ping counts as sent.
-    fn come_due(&mut self, phase: Phase, now: u64) -> Due
-        ensures due { IsDue phase self.old.deadlines now result }
+    fn come_due(&mut self, progress: Progress, now: u64) -> Due
+        ensures due { IsDue progress self.old.deadlines now result }
         ensures done { self.new ≡ record self.old { deadlines = done_by result now self.old.deadlines } }
     {
-        let due = self.deadlines.due(phase, now);
+        let due = self.deadlines.due(progress, now);
         if let Due::Ping = due {
             self.deadlines.pinged(now);
         }

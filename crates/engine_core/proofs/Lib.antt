@@ -1,3 +1,7 @@
+pub mod Fronts
+pub mod Going
+pub mod Placing
+pub mod Resting
 pub mod Performing
 pub mod Receiving
 pub mod Telling

@@ -1,3 +1,7 @@
+pub mod Faults
+pub mod Going
+pub mod Journals
+pub mod Placed
 pub mod Queues
 pub mod Running
 pub mod Scripts

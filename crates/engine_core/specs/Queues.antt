@@ -15,9 +15,9 @@ use Rattle.command_core.specs.Outs.{OutValue}
 use Rattle.broker_core.specs.States.{State}
 use Rattle.broker_core.specs.Steps.{state_after, outs_of}
 use Rattle.script_text.specs.PercentTexts.{encoded}
-use Rattle.script_journal.specs.declared.waiting.Waiting.{Waiting}
-use Rattle.script_journal.specs.Journals.{IsFull}
-use Rattle.script_journal.specs.Placed.{commands_of}
+use Rattle.engine_core.specs.declared.waiting.Waiting.{Waiting}
+use Rattle.engine_core.specs.Journals.{IsFull}
+use Rattle.engine_core.specs.Placed.{commands_of}
 use Rattle.session_core.specs.declared.act.Act.{Act}
 use Rattle.session_core.specs.declared.act.Act.TheVariants.{Do, Direct, Close}
 

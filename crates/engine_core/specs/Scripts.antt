@@ -9,8 +9,8 @@ use Rattle.broker_core.specs.Operations.{restarted}
 use Rattle.broker_core.specs.States.{State, held_messages}
 use Rattle.recover_core.specs.Opens.{IsRestartOf}
 use Rattle.recover_core.specs.Standing.{Stands}
-use Rattle.script_journal.specs.Journals.{StandsAfterFront}
-use Rattle.script_journal.specs.Placed.{commands_of}
+use Rattle.engine_core.specs.Journals.{StandsAfterFront}
+use Rattle.engine_core.specs.Placed.{commands_of}
 use Rattle.script_text.specs.PercentTexts.{decoded}
 use Rattle.script_text.specs.ScriptLines.{IsOfNoForm, IsLoss, IsCrash}
 use Rattle.session_core.specs.declared.act.Act.{Act}

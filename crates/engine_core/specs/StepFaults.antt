@@ -5,7 +5,7 @@ use Rattle.recover_core.specs.Told.{IsOpenTold, IsCausedBy as IsOpenCausedBy}
 use Rattle.recover_core.specs.declared.faults.OpenFault.{OpenFault}
 use Rattle.flush_core.specs.declared.faults.FlushFault.{FlushFault}
 use Rattle.flush_core.specs.declared.faults.FlushFault.TheVariants as flush
-use Rattle.script_journal.specs.Faults.{IsCausedBy}
+use Rattle.engine_core.specs.Faults.{IsCausedBy}
 use Rattle.script_text.specs.ScriptLines.{IsCrash}
 use Rattle.engine_core.specs.Queues.{IsAny, LacksRoom}
 use Rattle.engine_core.specs.Scripts.{HasFailed, IsCalm, IsLine, RunsFlush, disk_of}

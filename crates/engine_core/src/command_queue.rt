@@ -7,12 +7,13 @@ ghost use Rattle.command_core.specs.Operations.{IsOp};
 ghost use Rattle.recover_core.specs.Standing.{Stands};
 
 use crate::fault::QueueFault;
+use crate::journal::Journal;
 use crate::printing::print_outs;
+use crate::waiting::Waiting;
 use claim_core::WINDOW;
 use command_core::{Command, HeaderText, Op};
 use disk_core::MemDisk;
 use flush_core::FlushFault;
-use script_journal::{Journal, Waiting};
 use std::alloc::Global;
 use std::collections::BTreeMap;
 use std::marker::Model;

@@ -3,14 +3,19 @@
 
 #![tactic(auto)]
 
+mod appending;
 mod command_queue;
 mod fault;
+mod journal;
 mod laws;
 mod printing;
 mod run;
 mod running_script;
 mod script;
+mod sizes;
 mod so_far;
+mod turning;
+mod waiting;
 mod worked;
 
 pub use desk_core::{Kept, Relayed, relay};

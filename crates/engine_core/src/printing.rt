@@ -5,16 +5,16 @@ ghost use Rattle.std.specs.Fmt.{decimal};
 ghost use Rattle.std.specs.List.{flat_map};
 ghost use Rattle.frame_core.specs.Writable.{Writable};
 ghost use Rattle.script_text.specs.PercentTexts.{encoded};
-ghost use Rattle.script_journal.specs.Placed.{IsReadBy};
+ghost use Rattle.engine_core.specs.Placed.{IsReadBy};
 ghost use Rattle.engine_core.specs.Queues.{line_for, line_of_out, opener_of};
 ghost use Rattle.engine_core.specs.StepFaults.{IsPrintTold};
 
 use crate::fault::QueueFault;
+use crate::journal::Journal;
 use claim_core::Released;
 use command_core::Out;
 use disk_core::MemDisk;
 use frame_core::{Frame, write_frame};
-use script_journal::Journal;
 use script_text::encode_text;
 use std::alloc::{AllocError, Global};
 use std::collections::BTreeMap;

@@ -10,13 +10,13 @@ ghost use Rattle.engine_core.specs.StepFaults.{IsNotOpened};
 ghost use Rattle.engine_core.specs.Runs.{Goes, IsBegun, StopsIn, StopsOver, IsTooLong, Turned, Stopped};
 
 use crate::fault::ScriptFault;
+use crate::journal::Journal;
 use crate::running_script::RunningScript;
 use crate::script::Script;
 use crate::so_far::Run;
 use disk_core::MemDisk;
 use memchr::memchr;
 use recover_core::OpenFault;
-use script_journal::Journal;
 use std::alloc::Global;
 use std::io::{ErrorKind, Read, Write};
 

@@ -13,9 +13,9 @@ ghost use Rattle.engine_core.specs.Running.{ActsOn, HearsSuch};
 
 use crate::command_queue::CommandQueue;
 use crate::fault::QueueFault;
+use crate::journal::Journal;
 use crate::printing::print_frame;
 use disk_core::MemDisk;
-use script_journal::Journal;
 use script_text::decode_text;
 use session_core::{Act, Session};
 use std::alloc::Global;

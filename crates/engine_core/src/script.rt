@@ -1,17 +1,18 @@
 //! A script as far as it has run, line by line.
 
 ghost use Rattle.std.specs.Prelude.{◌≡◌, ◌≤◌, ◌^◌, ◌++◌, List, ℕ, IfErr, IfNone, IfOk, IfSome, MatchOption, OnOk, true, string_bytes};
-ghost use Rattle.script_journal.specs.Journals.{IsFull, StandsAfterFront};
-ghost use Rattle.script_journal.specs.Placed.{commands_of};
+ghost use Rattle.engine_core.specs.Journals.{IsFull, StandsAfterFront};
+ghost use Rattle.engine_core.specs.Placed.{commands_of};
 ghost use Rattle.engine_core.specs.OfQueue.{IsMemory};
 ghost use Rattle.engine_core.specs.Scripts.{HasFailed, IsOpenedAs, StandsAs, disk_of, is_there, open_text};
 ghost use Rattle.engine_core.specs.StepFaults.{IsCrashTold, IsOpeningTold};
 
 use crate::fault::QueueFault;
+use crate::journal::Journal;
 use crate::running_script::RunningScript;
+use crate::waiting::Waiting;
 use disk_core::MemDisk;
 use flush_core::FlushFault;
-use script_journal::{Journal, Waiting};
 use script_text::{ScriptLine, decode_text, read_line};
 use std::alloc::Global;
 use std::mem;

@@ -1,10 +1,9 @@
 -- What waits, place by place.
 use Rattle.std.proofs.Common.{◌≡◌, ◌∙◌, ◌++◌, List, [], ℕ, OnOk, Option, Result, Ok, Err, ap, append_assoc, map, refl, subst}
 use Rattle.std.specs.List.Sorted.{IsPermutation}
-use Rattle.broker_state.specs.States.{State, held_bytes, held_messages}
-use Rattle.broker_state.specs.Waiting.{Shared}
+use Rattle.broker_state.specs.States.{State}
 use Rattle.journal_files.specs.declared.lots.Lot.{Lot}
-use Rattle.journal_files.specs.Held.{AreLotsOf, AreMostFirst, ShowsHeld, ShowsHeldOf, all_waiting, names_waiting, queues_waiting, waits_of}
+use Rattle.journal_files.specs.Held.{AreLotsOf, AreMostFirst, ShowsHeld, ShowsHeldOf, gone_from, held_in, names_waiting, queues_waiting, waits_of}
 
 module _ {A E : Type 0} where
   pub on_ok : (r : Result A E) (P Q : Type 0) → OnOk r P → (P → Q) → OnOk r Q
@@ -13,14 +12,14 @@ module _ {A E : Type 0} where
 
   -- what the journal of some state holds was written
   pub shows_held : (r : Result A E) (s : State) (before after : Option (List ℕ)) → OnOk r (ShowsHeldOf s before after) → OnOk r (ShowsHeld before after)
-  shows_held r s before after shown = on_ok r (ShowsHeldOf s before after) (ShowsHeld before after) shown (λ w. (held_messages s, held_bytes s, w.lots, w.written))
+  shows_held r s before after shown = on_ok r (ShowsHeldOf s before after) (ShowsHeld before after) shown (λ w. (held_in s, gone_from s, w.lots, w.written))
 
 -- all that waits was found, and stands most first
-pub are_lots : (shared : Shared) (old names found lots : List Lot) → old ≡ [] → map waits_of names ≡ map waits_of old ++ names_waiting shared.names
-    → map waits_of found ≡ map waits_of names ++ queues_waiting shared.queues → IsPermutation found lots → AreMostFirst lots → AreLotsOf shared lots
-are_lots shared old names found lots none some all same first = record {
+pub are_lots : (s : State) (old names found lots : List Lot) → old ≡ [] → map waits_of names ≡ map waits_of old ++ names_waiting s.durables s.shared.names
+    → map waits_of found ≡ map waits_of names ++ queues_waiting s.shared.queues → IsPermutation found lots → AreMostFirst lots → AreLotsOf s lots
+are_lots s old names found lots none some all same first = record {
   found = found;
-  all = all ∙ ap (λ waits. waits ++ queues_waiting shared.queues) (some ∙ ap (λ o. map waits_of o ++ names_waiting shared.names) none);
+  all = all ∙ ap (λ waits. waits ++ queues_waiting s.shared.queues) (some ∙ ap (λ o. map waits_of o ++ names_waiting s.durables s.shared.names) none);
   same = same;
   first = first;
 }

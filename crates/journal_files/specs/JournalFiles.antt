@@ -7,7 +7,7 @@ use Rattle.recover_core.specs.Seen.{IsSeen}
 use Rattle.recover_core.specs.Texts.{open_text}
 use Rattle.recover_core.specs.Told.{IsStateRefused}
 use Rattle.journal_files.specs.declared.journal_files.ShowFault.{ShowFault}
-use Rattle.journal_files.specs.declared.journal_files.ShowFault.TheVariants.{Output, Read}
+use Rattle.journal_files.specs.declared.journal_files.ShowFault.TheVariants.{Busy, Output, Read}
 
 -- what a journal shows of itself, in five lines
 abbrev pub text_of : Seen → List ℕ
@@ -27,9 +27,11 @@ ShowsOf content before after = (seen : Seen) × IsSeen seen content × Appends b
 -- content was read.
 abbrev pub IsShowTold : ShowFault → List ℕ → Type 0
 IsShowTold (Read fault) content = IsStateRefused fault content
+IsShowTold Busy content = ⊥
 IsShowTold Output content = (seen : Seen) × IsSeen seen content
 
 -- the text for the user, of a journal of which nothing is shown, or not all
 abbrev pub show_text : ShowFault → List ℕ
 show_text (Read fault) = open_text fault
+show_text Busy = codes "the journal changes faster than it is read"
 show_text Output = codes "input or output failed"

@@ -1,29 +1,30 @@
 //! Which queues and durable names of a journal hold messages.
 
-ghost use Rattle.std.specs.Prelude.{◌≡◌, ◌≢◌, IfErr, IfOk, OnOk, false};
+ghost use Rattle.std.specs.Prelude.{◌≡◌, ◌≢◌, ◌-◌, IfErr, IfOk, OnOk, false};
 ghost use Rattle.std.specs.Io.KnownBytes.{Appends};
 ghost use Rattle.std.specs.List.{flat_map};
 ghost use Rattle.area_core.specs.Reading.{Quiet};
 ghost use Rattle.broker_state.specs.Operations.{restarted};
-ghost use Rattle.journal_files.specs.Held.{AreLotsOf, ShowsHeld, ShowsHeldIn, ShowsHeldOf, held_text, line_of, totals_text};
+ghost use Rattle.journal_files.specs.Held.{AreLotsOf, ShowsHeld, ShowsHeldIn, ShowsHeldOf, gone_from, held_in, held_text, line_of, topics_text, totals_text};
 
 use crate::journal_files::ShowFault;
 use crate::lots::{Lot, lots_of};
+use crate::steady::steady_broker;
 use area_core::ReadFault;
 use broker_core::Broker;
 use broker_state::Held;
 use disk_core::Disk;
-use recover_core::{OpenFault, stored_broker};
+use recover_core::OpenFault;
 use std::alloc::{AllocError, Global};
 use std::io;
 use std::io::Write;
 
-/// Writes what the journal of a disk holds: the totals with their limits, and then a line for each queue and durable name for which
-/// messages wait, most messages first. A line says how many messages, how many bytes, and for which queue or name. The disk is only read.
+/// Writes what the journal of a disk holds: the totals with their limits, and then a line for each durable name, and for each queue for
+/// which messages wait, most messages first. A line says how many messages, how many bytes, and for which queue or name. The last line has
+/// what plain subscriptions of topics hold. The disk is only read, and may be that of a running server.
 ///
-/// The totals are those that count against the limits, with what is still to be sent to listeners of topics. The lines are as they would be
-/// once all sessions had ended: what a client has not acknowledged is in its line again. If the disk cannot be read as a journal, or memory
-/// is refused, nothing is written.
+/// The totals are those that count against the limits. The lines are as they would be once all sessions had ended: what a client has not
+/// acknowledged is in its line again. If the disk cannot be read as a journal, or memory is refused, nothing is written.
 pub fn show_held<D: Disk, W: Write>(
     alloc: Global,
     disk: &mut D,
@@ -34,9 +35,9 @@ pub fn show_held<D: Disk, W: Write>(
     ensures err { IfErr result (λ fault. fault ≢ ShowFault.Output → writer.new ≡ writer.old) }
     ensures quiet { D.honest disk.old → Quiet D.Disk disk.old disk.new }
 {
-    match stored_broker(alloc, disk) {
+    match steady_broker(alloc, disk) {
         Ok(broker) => show_broker(alloc, broker, writer),
-        Err(fault) => Err(ShowFault::Read(fault)),
+        Err(fault) => Err(fault),
     }
 }
 
@@ -51,8 +52,12 @@ fn show_broker<W: Write>(alloc: Global, broker: Broker, writer: &mut W) -> Resul
     let gathered = gather(alloc, &mut broker);
     drop(broker);
     match gathered {
-        Ok(lots) => {
-            let written = write(held, &lots, writer);
+        Ok((kept, lots)) => {
+            let gone = Held {
+                messages: held.messages.saturating_sub(kept.messages),
+                bytes: held.bytes.saturating_sub(kept.bytes),
+            };
+            let written = write(&held, &gone, &lots, writer);
             drop(lots);
             match written {
                 Ok(()) => Ok(()),
@@ -63,27 +68,33 @@ fn show_broker<W: Write>(alloc: Global, broker: Broker, writer: &mut W) -> Resul
     }
 }
 
-// Ends all sessions, and answers what waits then.
-fn gather(alloc: Global, broker: &mut Broker) -> Result<Vec<Lot>, AllocError>
+// Ends all sessions, and answers what is held then, and what waits in each place.
+fn gather(alloc: Global, broker: &mut Broker) -> Result<(Held, Vec<Lot>), AllocError>
     requires { broker.old.broken ≡ false }
-    ensures { IfOk result (λ lots. AreLotsOf (restarted broker.old.state).shared lots.items) }
+    ensures held { IfOk result (λ it. it.0 ≡ held_in (restarted broker.old.state)) }
+    ensures lots { IfOk result (λ it. AreLotsOf (restarted broker.old.state) it.1.items) }
 {
     match broker.restart(alloc) {
-        Ok(()) => lots_of(alloc, broker.shared()),
+        Ok(()) => {
+            let held = broker.held();
+            let lots = lots_of(alloc, broker)?;
+            Ok((held, lots))
+        }
         Err(_) => Err(AllocError),
     }
 }
 
-// Writes the totals and the lots.
-fn write<W: Write>(held: Held, lots: &[Lot], writer: &mut W) -> io::Result<()>
-    ensures { OnOk result (Appends (W.contents writer.old) (W.contents writer.new) (held_text held.messages held.bytes lots.now)) }
+// Writes the totals, the lots, and what goes with the sessions.
+fn write<W: Write>(held: &Held, gone: &Held, lots: &[Lot], writer: &mut W) -> io::Result<()>
+    ensures { OnOk result (Appends (W.contents writer.old) (W.contents writer.new) (held_text held.now gone.now lots.now)) }
 {
     write_totals(held, writer)?;
-    write_lots(lots, writer)
+    write_lots(lots, writer)?;
+    writeln!(writer, "{} {} topics", gone.messages, gone.bytes)
 }
 
-fn write_totals<W: Write>(held: Held, writer: &mut W) -> io::Result<()>
-    ensures { OnOk result (Appends (W.contents writer.old) (W.contents writer.new) (totals_text held.messages held.bytes)) }
+fn write_totals<W: Write>(held: &Held, writer: &mut W) -> io::Result<()>
+    ensures { OnOk result (Appends (W.contents writer.old) (W.contents writer.new) (totals_text held.now.messages held.now.bytes)) }
 {
     writeln!(
         writer,

@@ -22,6 +22,8 @@ const HEADER: u64 = 32;
 pub enum ShowFault {
     /// The disk could not be read as a journal.
     Read(OpenFault),
+    /// Its server compacted it each time that it was read.
+    Busy,
     /// What it shows could not be written.
     Output,
 }
@@ -36,6 +38,7 @@ impl fmt::Display for ShowFault {
     fn fmt<W: fmt::Write>(&self, f: &mut fmt::Formatter<W>) -> fmt::Result {
         match self {
             ShowFault::Read(fault) => write!(f, "{fault}"),
+            ShowFault::Busy => f.write_str("the journal changes faster than it is read"),
             ShowFault::Output => f.write_str("input or output failed"),
         }
     }

@@ -2,12 +2,14 @@
 
 ghost use Rattle.std.specs.Prelude.{◌≡◌, ◌+◌, ◌<◌, ◌^◌, ◌++◌, ◌∷◌, [], IfOk, OnOk, codes, length, map, string_bytes, take};
 ghost use Rattle.std.specs.List.{sum_by};
+ghost use Rattle.broker_state.specs.Names.{name_cmp};
 ghost use Rattle.broker_state.specs.States.{bytes};
+ghost use Rattle.broker_state.specs.Waiting.{line_at};
 ghost use Rattle.script_text.specs.PercentTexts.{encoded};
 ghost use Rattle.journal_files.specs.Held.{AreLotsOf, names_waiting, queues_waiting, waits_at, waits_of, name_text, queue_text};
 
+use broker_core::Broker;
 use broker_state::DurableName;
-use broker_tables::SharedLines;
 use command_core::Dest;
 use line_core::{Line, Message, size};
 use script_text::encode_text;
@@ -25,12 +27,13 @@ pub struct Lot {
     pub place: String,
 }
 
-/// All that waits, place by place, most messages first.
-pub fn lots_of(alloc: Global, shared: &SharedLines) -> Result<Vec<Lot>, AllocError>
-    ensures { IfOk result (λ lots. AreLotsOf shared.now lots.items) }
+/// All that waits in lines that stay, place by place, most messages first. Each durable name is among them, whether anything waits under it
+/// or not.
+pub fn lots_of(alloc: Global, broker: &Broker) -> Result<Vec<Lot>, AllocError>
+    ensures { IfOk result (λ lots. AreLotsOf broker.now.state lots.items) }
 {
     let mut lots = Vec::new(alloc);
-    match gather(alloc, &mut lots, shared) {
+    match gather(alloc, &mut lots, broker) {
         Ok(()) => Ok(lots),
         Err(refused) => {
             drop(lots);
@@ -39,11 +42,12 @@ pub fn lots_of(alloc: Global, shared: &SharedLines) -> Result<Vec<Lot>, AllocErr
     }
 }
 
-fn gather(alloc: Global, lots: &mut Vec<Lot>, shared: &SharedLines) -> Result<(), AllocError>
+fn gather(alloc: Global, lots: &mut Vec<Lot>, broker: &Broker) -> Result<(), AllocError>
     requires { lots.old.items ≡ [] }
-    ensures { OnOk result (AreLotsOf shared.now lots.new.items) }
+    ensures { OnOk result (AreLotsOf broker.now.state lots.new.items) }
 {
-    add_names(alloc, lots, shared.names())?;
+    let shared = broker.shared();
+    add_names(alloc, lots, broker.durables(), shared.names())?;
     add_queues(alloc, lots, shared.queues())?;
     lots.sort_by_key(|lot| usize::MAX - lot.messages)
 }
@@ -51,14 +55,32 @@ fn gather(alloc: Global, lots: &mut Vec<Lot>, shared: &SharedLines) -> Result<()
 fn add_names(
     alloc: Global,
     lots: &mut Vec<Lot>,
+    durables: &BTreeMap<DurableName, Dest>,
     lines: &BTreeMap<DurableName, Line>,
 ) -> Result<(), AllocError>
-    ensures { OnOk result (map waits_of lots.new.items ≡ map waits_of lots.old.items ++ names_waiting lines.now.entries) }
+    ensures { OnOk result (map waits_of lots.new.items ≡ map waits_of lots.old.items ++ names_waiting durables.now.entries lines.now.entries) }
 {
-    for (name, line) in lines {
-        add(lots, text_of_name(alloc, name)?, line)?;
+    for (name, _topic) in durables {
+        add_name(alloc, lots, name, lines)?;
     }
     Ok(())
+}
+
+// Adds what waits under a durable name, perhaps nothing.
+fn add_name(
+    alloc: Global,
+    lots: &mut Vec<Lot>,
+    name: &DurableName,
+    lines: &BTreeMap<DurableName, Line>,
+) -> Result<(), AllocError>
+    ensures { OnOk result (map waits_of lots.new.items
+        ≡ map waits_of lots.old.items ++ (waits_at (name_text name.now) (line_at name_cmp name.now lines.now.entries) ∷ [])) }
+{
+    let place = text_of_name(alloc, name)?;
+    match lines.get(name) {
+        Some(line) => add(lots, place, line),
+        None => add(lots, place, &Line::new(alloc)),
+    }
 }
 
 fn add_queues(

@@ -5,5 +5,5 @@
 mod percent;
 mod script_line;
 
-pub use percent::{decode_text, encode_text};
+pub use percent::{decode_text, encode_text, encoded};
 pub use script_line::{ScriptLine, read_line};

@@ -2,13 +2,13 @@
 use Rattle.std.specs.Prelude.{ℕ}
 use Rattle.std.specs.Arc.{arc_value}
 use Rattle.server_core.specs.declared.mailbox.Mailbox.{Mailbox}
-use Rattle.server_core.specs.declared.mailbox.BellRope.{BellRope}
-use Rattle.server_core.specs.declared.mailbox.Ropes.{Ropes}
+use Rattle.server_core.specs.declared.mailbox.ClientWaker.{ClientWaker}
+use Rattle.server_core.specs.declared.mailbox.ClientWakers.{ClientWakers}
 
--- which worker a rope calls, and for which client
-abbrev pub called_by : BellRope → Mailbox × ℕ
-called_by rope = (arc_value rope.mailbox, rope.client)
+-- which worker a waker wakes, and for which client
+abbrev pub called_by : ClientWaker → Mailbox × ℕ
+called_by waker = (arc_value waker.mailbox, waker.client)
 
--- for which client ropes are made
-abbrev pub called_for : Ropes → Mailbox × ℕ
-called_for ropes = (arc_value ropes.mailbox.now, ropes.client)
+-- for which client wakers are made
+abbrev pub called_for : ClientWakers → Mailbox × ℕ
+called_for wakers = (arc_value wakers.mailbox.now, wakers.client)

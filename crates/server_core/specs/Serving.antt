@@ -15,7 +15,7 @@ use Rattle.hub_core.specs.Closings.{Closes}
 use Rattle.hub_core.specs.declared.closed.Closed.{Closed}
 use Rattle.hub_core.specs.declared.hub.SeatRoom.{SeatRoom}
 use Rattle.event_log.specs.declared.fault.ServeFault.TheVariants.{Output, Flushing}
-use Rattle.server_core.specs.declared.mailbox.BellRope.{BellRope}
+use Rattle.server_core.specs.declared.mailbox.ClientWaker.{ClientWaker}
 use Rattle.server_core.specs.declared.service.Service.{Service}
 use Rattle.server_core.specs.declared.serving.ServeEnd.{ServeEnd}
 use Rattle.server_core.specs.declared.serving.ServeEnd.TheVariants.{Asked, Fault}
@@ -98,7 +98,7 @@ pub record IsStaffed (ring : TableId) (seats : List SessionSeatValue) (setups : 
   pub promised : ArePromised ring workers
 
 -- What a server keeps: for each seat that it has, a desk of a worker that is not started.
-pub record KeepsServer (s : ServerValue) (setups : List WorkerSetup) (room : SeatRoom BellRope) (workers : List (PromisedHandle (Vec SessionSeatValue Global) SeatsBack)) : Type 0 where
+pub record KeepsServer (s : ServerValue) (setups : List WorkerSetup) (room : SeatRoom ClientWaker) (workers : List (PromisedHandle (Vec SessionSeatValue Global) SeatsBack)) : Type 0 where
   pub server_is : IsServer s
   pub desks : count_mailboxes setups ≡ length s.seats
   pub empty : room.seats.items ≡ []

@@ -7,11 +7,11 @@ ghost use Rattle.server_core.specs.Waits.{first_due, is_anybody_let_in, is_anybo
 
 use crate::doorbell::Doorbell;
 use crate::mailbox::Mailbox;
-use crate::service::{Service, client_of};
+use crate::service::{Service, Sweep, client_of};
 use crate::shared::{ServerSeat, Shared};
 use crate::worker_setup::{WorkerSetup, room_for_events};
-use client_schedule::{Clients, Outlook, Watch, told_by};
-use mio::{Events, Poll, Registry};
+use client_schedule::{Clients, Outlook, Watch, reported_by};
+use mio::{Events, Poll};
 use std::alloc::{AllocError, Global};
 use std::marker::Model;
 use std::sync::{Arc, Wait};
@@ -142,12 +142,18 @@ impl<'a, R: Wait + Clock + Drop> EventLoop<'a, R> {
         self.wait();
         let was_rung = self.bell.wakes_up();
         hear_events(&self.events, &mut self.services, self.now);
-        begin_all(&mut self.services, self.poll.registry(), was_rung, self.now);
-        self.serve();
-        end_all(&mut self.services);
+        let (registry, now) = (self.poll.registry(), self.now);
+        let begin = Sweep::Begin {
+            registry,
+            was_rung,
+            now,
+        };
+        sweep_all(&mut self.services, &begin);
+        sweep_all(&mut self.services, &Sweep::Pass);
+        sweep_all(&mut self.services, &Sweep::End);
         if self.parting.is_none() && self.shared.wakeups.has_end_begun() {
             self.parting = Some(self.now);
-            part_with_all(&mut self.services);
+            sweep_all(&mut self.services, &Sweep::Part);
         }
     }
 
@@ -155,11 +161,19 @@ impl<'a, R: Wait + Clock + Drop> EventLoop<'a, R> {
     fn wait(&mut self)
         ensures { self.new ≡ self.old }
     {
-        let awaits = is_mark_awaited(&self.services);
+        let demand = demand_of(&self.services);
+        let awaits = demand.awaits_mark;
         let mark = self.shared.wakeups.begin_to_wait(&self.bell, awaits);
-        let was_rung = !is_anybody_ready(&self.services) && !self.bell.falls_asleep();
+        let was_rung = !demand.is_ready && !self.bell.falls_asleep();
         let looks_soon = self.parting.is_some() || self.shared.memory.is_over();
-        let longest = longest_wait(&self.services, mark, was_rung, looks_soon, self.now);
+        let longest = longest_wait(
+            &self.services,
+            &demand,
+            mark,
+            was_rung,
+            looks_soon,
+            self.now,
+        );
         let _ = self
             .poll
             .poll(&mut self.events, Some(Duration::from_millis(longest)));
@@ -167,48 +181,58 @@ impl<'a, R: Wait + Clock + Drop> EventLoop<'a, R> {
         self.watch.go_on(self.shared.moment(), longest);
         self.now = self.watch.now();
     }
-
-    // Gives those that stand in line their turns, and then those that go on by themselves, at whichever desk they are.
-    fn serve(&mut self)
-        ensures { self.new ≡ self.old }
-    {
-        pass_all(&mut self.services);
-        pass_again_all(&mut self.services);
-    }
 }
 
-// For how many milliseconds the worker of these desks waits at most, at this mark and this moment, by whether its bell was rung and whether
-// it looks again soon.
+// What the desks of a worker say before it waits.
+#[derive(Clone, Copy)]
+struct Demand {
+    // Whether a client is ready.
+    is_ready: bool,
+    // Whether a client waits for the mark.
+    awaits_mark: bool,
+    // A moment before which nothing is due.
+    due: u64,
+}
+
+// What these desks say, by one look at each.
+fn demand_of<R: Wait + Clock + Drop>(services: &[Service<'_, R>]) -> Demand
+    ensures ready { result.is_ready ≡ is_anybody_ready services.now }
+    ensures awaits { result.awaits_mark ≡ is_mark_awaited services.now }
+    ensures due { result.due ≡ first_due services.now }
+{
+    let mut demand = Demand {
+        is_ready: false,
+        awaits_mark: false,
+        due: u64::MAX,
+    };
+    for service in services {
+        demand.is_ready |= service.is_ready();
+        demand.awaits_mark |= service.awaits_mark();
+        demand.due = demand.due.min(service.until());
+    }
+    demand
+}
+
+// For how many milliseconds the worker of these desks, which say this, waits at most, at this mark and this moment, by whether its bell was
+// rung and whether it looks again soon.
 fn longest_wait<R: Wait + Clock + Drop>(
     services: &[Service<'_, R>],
+    demand: &Demand,
     mark: u64,
     was_rung: bool,
     looks_soon: bool,
     now: u64,
 ) -> u64
+    requires ready { demand.now.is_ready ≡ is_anybody_ready services.now }
+    requires due { demand.now.due ≡ first_due services.now }
     ensures { result ≡ wait_of services.now mark was_rung looks_soon now }
 {
-    let is_wanted = was_rung || is_anybody_ready(services) || is_anybody_let_in(services, mark);
     let outlook = Outlook {
-        is_wanted,
+        is_wanted: was_rung || demand.is_ready || is_anybody_let_in(services, mark),
         looks_soon,
-        due: first_due(services),
+        due: demand.due,
     };
     outlook.longest_wait(now)
-}
-
-// Whether a client of one of these desks is ready.
-fn is_anybody_ready<R: Wait + Clock + Drop>(services: &[Service<'_, R>]) -> bool
-    ensures { result ≡ is_anybody_ready services.now }
-{
-    services.iter().any(|service| service.is_ready())
-}
-
-// Whether a client of one of these desks waits for the mark.
-fn is_mark_awaited<R: Wait + Clock + Drop>(services: &[Service<'_, R>]) -> bool
-    ensures { result ≡ is_mark_awaited services.now }
-{
-    services.iter().any(|service| service.awaits_mark())
 }
 
 // Whether this mark lets a client of one of these desks in.
@@ -216,17 +240,6 @@ fn is_anybody_let_in<R: Wait + Clock + Drop>(services: &[Service<'_, R>], mark: 
     ensures { result ≡ is_anybody_let_in mark services.now }
 {
     services.iter().any(|service| service.is_over(mark))
-}
-
-// A moment before which nothing is due at any of these desks.
-fn first_due<R: Wait + Clock + Drop>(services: &[Service<'_, R>]) -> u64
-    ensures { result ≡ first_due services.now }
-{
-    let mut first = u64::MAX;
-    for service in services {
-        first = first.min(service.until());
-    }
-    first
 }
 
 /// The room that a worker needs, which it makes itself: no other thread ever has it.
@@ -320,57 +333,17 @@ fn hear_events<R: Wait + Clock + Drop>(
     for event in events.iter() {
         let (desk, client) = client_of(event.token());
         if desk < services.len() {
-            services[desk].hear_of(client, told_by(event), now);
+            services[desk].hear_of(client, reported_by(event), now);
         }
     }
 }
 
-fn begin_all<R: Wait + Clock + Drop>(
-    services: &mut Vec<Service<'_, R>>,
-    registry: &Registry,
-    was_rung: bool,
-    now: u64,
-)
+// Has each desk do this, one after another.
+fn sweep_all<R: Wait + Clock + Drop>(services: &mut Vec<Service<'_, R>>, sweep: &Sweep<'_>)
     ensures ring { (ring : TableId) → AreServed ring services.old.items → AreServed ring services.new.items }
     ensures count { vec_len services.new ≡ vec_len services.old }
 {
     for desk in 0..services.len() {
-        services[desk].begin(registry, was_rung, now);
-    }
-}
-
-fn pass_all<R: Wait + Clock + Drop>(services: &mut Vec<Service<'_, R>>)
-    ensures ring { (ring : TableId) → AreServed ring services.old.items → AreServed ring services.new.items }
-    ensures count { vec_len services.new ≡ vec_len services.old }
-{
-    for desk in 0..services.len() {
-        services[desk].pass();
-    }
-}
-
-fn pass_again_all<R: Wait + Clock + Drop>(services: &mut Vec<Service<'_, R>>)
-    ensures ring { (ring : TableId) → AreServed ring services.old.items → AreServed ring services.new.items }
-    ensures count { vec_len services.new ≡ vec_len services.old }
-{
-    for desk in 0..services.len() {
-        services[desk].pass_again();
-    }
-}
-
-fn end_all<R: Wait + Clock + Drop>(services: &mut Vec<Service<'_, R>>)
-    ensures ring { (ring : TableId) → AreServed ring services.old.items → AreServed ring services.new.items }
-    ensures count { vec_len services.new ≡ vec_len services.old }
-{
-    for desk in 0..services.len() {
-        services[desk].end();
-    }
-}
-
-fn part_with_all<R: Wait + Clock + Drop>(services: &mut Vec<Service<'_, R>>)
-    ensures ring { (ring : TableId) → AreServed ring services.old.items → AreServed ring services.new.items }
-    ensures count { vec_len services.new ≡ vec_len services.old }
-{
-    for desk in 0..services.len() {
-        services[desk].part_with_all();
+        services[desk].sweep(sweep);
     }
 }

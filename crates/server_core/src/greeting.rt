@@ -3,7 +3,7 @@
 ghost use Rattle.std.specs.Prelude.{◌≡◌};
 
 use crate::service::Service;
-use client_schedule::{ReadBudget, Standing};
+use client_schedule::{ClientState, ReadBudget};
 use event_log::Kind;
 use mio::net::TcpStream;
 use std::sync::Wait;
@@ -23,13 +23,13 @@ impl<'a, R: Wait + Clock + Drop> Service<'a, R> {
             Greeted::Waits(greeting) => {
                 let (has_rest, held) = (greeting.stream().flow().has_rest, greeting.held());
                 self.clients
-                    .stand(number, Standing::Greeting(greeting), has_rest);
+                    .stand(number, ClientState::Greeting(greeting), has_rest);
                 self.count(number, held);
             }
             Greeted::Accepted(link) => {
                 link.stream().count_frames();
                 match self.desk.admit(self.alloc, number, link) {
-                    Ok(()) => self.clients.stand(number, Standing::Seated, true),
+                    Ok(()) => self.clients.stand(number, ClientState::Seated, true),
                     Err(_) => self.leave(number),
                 }
             }
@@ -57,7 +57,7 @@ impl<'a, R: Wait + Clock + Drop> Service<'a, R> {
             }
         };
         self.clients
-            .stand(number, Standing::Refused(farewell), more);
+            .stand(number, ClientState::Refused(farewell), more);
     }
 
     /// Whether a client's handshake is under way.

@@ -25,5 +25,5 @@ mod worker_setup;
 
 pub use entrance::Reception;
 pub use event_log::{ServeFault, Unopened};
-pub use mailbox::BellRope;
+pub use mailbox::ClientWaker;
 pub use serving::{Ender, MOST_CLIENTS, MOST_MEMORY, ServeEnd, Server};

@@ -119,12 +119,12 @@ impl Mailbox {
 
 /// What calls a worker from afar for one of a desk's clients: the outbox of a session has one.
 #[derive(Drop)]
-pub struct BellRope {
+pub struct ClientWaker {
     mailbox: Arc<Mailbox>,
     client: usize,
 }
 
-impl Bell for BellRope {
+impl Bell for ClientWaker {
     // The worker finds all clients of a batch by the first ring.
     fn note(&self) {
         self.mailbox.calls.call(self.client);
@@ -136,9 +136,9 @@ impl Bell for BellRope {
     }
 }
 
-/// Makes the ropes of one client of a desk.
+/// Makes the wakers of one client of a desk.
 #[derive(Drop)]
-pub(crate) struct Ropes<'a> {
+pub(crate) struct ClientWakers<'a> {
     pub(crate) mailbox: &'a Arc<Mailbox>,
     pub(crate) client: usize,
     pub(crate) pace: &'a Pace,
@@ -146,7 +146,7 @@ pub(crate) struct Ropes<'a> {
     pub(crate) mark: u64,
 }
 
-impl Ropes<'_> {
+impl ClientWakers<'_> {
     /// What the turns came to. A client that waits for room does so over the mark when they began: others whose commands it waited for may
     /// have had theirs published since. If it waits for others, it doesn't stand before its neighbours.
     pub(crate) fn since(&self, turned: Turned) -> Turned {
@@ -170,11 +170,11 @@ impl Ropes<'_> {
     }
 }
 
-impl Ringers<BellRope> for Ropes<'_> {
-    fn bell(&self) -> Result<BellRope, AllocError>
-        ensures { IfOk result (λ rope. called_by rope ≡ called_for self.now) }
+impl Ringers<ClientWaker> for ClientWakers<'_> {
+    fn bell(&self) -> Result<ClientWaker, AllocError>
+        ensures { IfOk result (λ waker. called_by waker ≡ called_for self.now) }
     {
-        Ok(BellRope {
+        Ok(ClientWaker {
             mailbox: self.mailbox.clone()?,
             client: self.client,
         })

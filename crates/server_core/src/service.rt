@@ -4,9 +4,9 @@ ghost use Rattle.std.specs.Prelude.{◌≡◌};
 ghost use Rattle.client_schedule.specs.Outlooks.{awaits_mark, due_at, is_ready, lets_in};
 
 use crate::calls::{BITS, Called, WORDS};
-use crate::mailbox::{Arrival, BellRope, Mailbox, Ropes};
+use crate::mailbox::{Arrival, ClientWaker, ClientWakers, Mailbox};
 use crate::shared::{ServerRing, ServerSeat, Shared};
-use client_schedule::{CLIENTS, Clients, Due, Flow, Phase, ReadBudget, Standing, Told};
+use client_schedule::{CLIENTS, ClientState, Clients, Due, Flow, Progress, ReadBudget, Reported};
 use connection_core::Cut;
 use desk_core::{Desk, Next, Turned};
 use event_log::Kind;
@@ -25,7 +25,25 @@ const TURNS: u32 = 8;
 /// How many new clients a desk takes in at most before those that it has are served.
 const NEW_CLIENTS: u32 = 64;
 
-type ClientDesk = Desk<BellRope, WsLink<ReadBudget<TcpStream>>>;
+type ClientDesk = Desk<ClientWaker, WsLink<ReadBudget<TcpStream>>>;
+
+/// What a worker has each of its desks do in a round, one after another.
+#[derive(Clone, Copy)]
+pub(crate) enum Sweep<'a> {
+    /// A round begins at that moment: a desk finds out which of its clients are ready, and gives a turn to those that the mark lets in. New
+    /// clients' sockets are registered there. It says whether the doorbell was rung.
+    Begin {
+        registry: &'a Registry,
+        was_rung: bool,
+        now: u64,
+    },
+    /// Each client that stands in line now has its turns.
+    Pass,
+    /// Each that went on by itself when the round began has its turns, and what is due of clients is done.
+    End,
+    /// A desk begins to part with its clients.
+    Part,
+}
 
 /// A desk of a worker, and its clients.
 #[derive(Drop)]
@@ -140,7 +158,7 @@ impl<'a, R: Wait + Clock + Drop> Service<'a, R> {
     }
 
     /// The poll told this of a client's socket.
-    pub(crate) fn hear_of(&mut self, number: usize, told: Told, now: u64)
+    pub(crate) fn hear_of(&mut self, number: usize, told: Reported, now: u64)
         ensures shared { self.new.shared ≡ self.old.shared }
     {
         if self.clients.hear_of(number, told, now)
@@ -150,9 +168,27 @@ impl<'a, R: Wait + Clock + Drop> Service<'a, R> {
         }
     }
 
-    /// Begins a round at that moment: finds out which of its clients are ready, and gives a turn to those that the mark lets in. New
-    /// clients' sockets are registered there. The caller says whether the doorbell was rung.
-    pub(crate) fn begin(&mut self, registry: &Registry, was_rung: bool, now: u64)
+    /// Does its part of a round.
+    pub(crate) fn sweep(&mut self, sweep: &Sweep<'_>)
+        ensures shared { self.new.shared ≡ self.old.shared }
+    {
+        match sweep {
+            Sweep::Begin {
+                registry,
+                was_rung,
+                now,
+            } => self.begin(registry, *was_rung, *now),
+            Sweep::Pass => self.pass(),
+            Sweep::End => {
+                self.pass_again();
+                self.end();
+            }
+            Sweep::Part => self.part_with_all(),
+        }
+    }
+
+    // Begins a round at that moment.
+    fn begin(&mut self, registry: &Registry, was_rung: bool, now: u64)
         ensures shared { self.new.shared ≡ self.old.shared }
     {
         self.now = now;
@@ -164,8 +200,8 @@ impl<'a, R: Wait + Clock + Drop> Service<'a, R> {
         self.let_in();
     }
 
-    /// Begins to part with all clients: each has a turn in which it hears what may still leave.
-    pub(crate) fn part_with_all(&mut self)
+    // Begins to part with all clients: each has a turn in which it hears what may still leave.
+    fn part_with_all(&mut self)
         ensures shared { self.new.shared ≡ self.old.shared }
     {
         self.parting = true;
@@ -246,9 +282,9 @@ impl<'a, R: Wait + Clock + Drop> Service<'a, R> {
         Ok(())
     }
 
-    /// Ends a round: does what is due of clients, and sees that they keep to their memory. What has come from a client was heard before
-    /// that.
-    pub(crate) fn end(&mut self)
+    // Ends a round: does what is due of clients, and sees that they keep to their memory. What has come from a client was heard before
+    // that.
+    fn end(&mut self)
         ensures shared { self.new.shared ≡ self.old.shared }
     {
         self.look_at_timers();
@@ -283,13 +319,13 @@ impl<'a, R: Wait + Clock + Drop> Service<'a, R> {
             return;
         };
         let is_seated = client.is_seated();
-        let phase = self.phase_of(number, is_seated);
-        match self.clients.come_due(number, phase, self.now) {
+        let progress = self.progress_of(number, is_seated);
+        match self.clients.come_due(number, progress, self.now) {
             Due::Ping if is_seated => self.desk.ping(number),
             // Its turn writes what waits.
             Due::Write if is_seated => self.clients.wake(number),
             Due::GivenUp if is_seated => {
-                let kind = self.why_given_up(phase, number);
+                let kind = self.why_given_up(progress, number);
                 self.shared.wakeups.log().count(kind);
                 self.desk.lose(number);
                 self.clients.wake(number);
@@ -305,32 +341,32 @@ impl<'a, R: Wait + Clock + Drop> Service<'a, R> {
     }
 
     // How far a client has come, by whether it sits at the desk.
-    fn phase_of(&self, number: usize, is_seated: bool) -> Phase {
+    fn progress_of(&self, number: usize, is_seated: bool) -> Progress {
         if !is_seated {
-            Phase::Greeting
+            Progress::Greeting
         } else if self.desk.is_open(number) {
-            Phase::Open
+            Progress::Open
         } else {
-            Phase::Unopened
+            Progress::Unopened
         }
     }
 
     // Why a client at the desk that has come so far is given up.
-    fn why_given_up(&self, phase: Phase, number: usize) -> Kind {
+    fn why_given_up(&self, progress: Progress, number: usize) -> Kind {
         let takes_nothing = match self.desk.link(number) {
             Some(link) => link.waits(),
             None => false,
         };
-        match phase {
-            Phase::Open if takes_nothing => Kind::TakesNothing,
-            Phase::Open => Kind::Silent,
-            Phase::Greeting | Phase::Unopened => Kind::Unopened,
+        match progress {
+            Progress::Open if takes_nothing => Kind::TakesNothing,
+            Progress::Open => Kind::Silent,
+            Progress::Greeting | Progress::Unopened => Kind::Unopened,
         }
     }
 
-    /// Gives each client that stands in line now its turns. After each of them, those that are let in have theirs, so that a client that
-    /// never waits does not fill the window before them.
-    pub(crate) fn pass(&mut self)
+    // Gives each client that stands in line now its turns. After each of them, those that are let in have theirs, so that a client that
+    // never waits does not fill the window before them.
+    fn pass(&mut self)
         ensures shared { self.new.shared ≡ self.old.shared }
     {
         for _client in 0..self.clients.count_ready() {
@@ -342,9 +378,9 @@ impl<'a, R: Wait + Clock + Drop> Service<'a, R> {
         }
     }
 
-    /// The same for each client that went on by itself when the round began. What this round's turns leave to be done is the next round's:
-    /// whom the poll tells of then comes first.
-    pub(crate) fn pass_again(&mut self)
+    // The same for each client that went on by itself when the round began. What this round's turns leave to be done is the next round's:
+    // whom the poll tells of then comes first.
+    fn pass_again(&mut self)
         ensures shared { self.new.shared ≡ self.old.shared }
     {
         for _client in 0..self.going_on {
@@ -380,14 +416,14 @@ impl<'a, R: Wait + Clock + Drop> Service<'a, R> {
     }
 
     // Gives a client a turn, if it is there.
-    fn give_turn(&mut self, number: usize, standing: Standing)
+    fn give_turn(&mut self, number: usize, standing: ClientState)
         ensures shared { self.new.shared ≡ self.old.shared }
     {
         match standing {
-            Standing::Seated => self.turn(number),
-            Standing::Greeting(greeting) => self.greet(number, greeting),
-            Standing::Refused(farewell) => self.drop_some(number, farewell),
-            Standing::Away => {}
+            ClientState::Seated => self.turn(number),
+            ClientState::Greeting(greeting) => self.greet(number, greeting),
+            ClientState::Refused(farewell) => self.drop_some(number, farewell),
+            ClientState::Away => {}
         }
     }
 
@@ -396,17 +432,17 @@ impl<'a, R: Wait + Clock + Drop> Service<'a, R> {
         ensures shared { self.new.shared ≡ self.old.shared }
     {
         let mark = self.desk.look(&self.shared.ring);
-        let ropes = Ropes {
+        let wakers = ClientWakers {
             mailbox: &self.mailbox,
             client: number,
             pace: &self.shared.pace,
             mark,
         };
         let desk = &mut self.desk;
-        let Some(turned) = take_turns(self.alloc, &self.shared.ring, desk, &ropes) else {
+        let Some(turned) = take_turns(self.alloc, &self.shared.ring, desk, &wakers) else {
             return;
         };
-        let turned = ropes.since(turned);
+        let turned = wakers.since(turned);
         if turned.appended {
             self.shared.wakeups.wake_flusher();
         }
@@ -462,25 +498,25 @@ impl<'a, R: Wait + Clock + Drop> Service<'a, R> {
     }
 }
 
-// The turns of the client of those ropes. After each that put a command into the ring and left more to do, it has another, up to `TURNS`.
+// The turns of the client of those wakers. After each that put a command into the ring and left more to do, it has another, up to `TURNS`.
 // So what its link has read already comes into one block. They came to what the last of them did; something was heard or appended if one of
 // them did so. `None` if there is no client.
 fn take_turns(
     alloc: Global,
     ring: &ServerRing,
     desk: &mut ClientDesk,
-    ropes: &Ropes<'_>,
+    wakers: &ClientWakers<'_>,
 ) -> Option<Turned>
     requires { desk.old.seat.ring ≡ ring.now }
     ensures { desk.new.seat.ring ≡ desk.old.seat.ring }
 {
-    let mut last = desk.turn(alloc, ring, ropes.client, ropes)?;
+    let mut last = desk.turn(alloc, ring, wakers.client, wakers)?;
     let (appended, mut heard) = (last.appended, last.heard);
     for _turn in 1..TURNS {
         if !last.appended || !matches!(last.next, Next::Go) {
             break;
         }
-        match desk.turn(alloc, ring, ropes.client, ropes) {
+        match desk.turn(alloc, ring, wakers.client, wakers) {
             Some(turned) => {
                 heard |= turned.heard;
                 last = turned;

@@ -12,7 +12,7 @@ use crate::ending::Ending;
 use crate::entrance::{Entrance, Reception, bells_of, mailboxes_again};
 use crate::last_rounds::LastRounds;
 use crate::log_thread::LogThread;
-use crate::mailbox::{BellRope, Mailbox};
+use crate::mailbox::{ClientWaker, Mailbox};
 use crate::memory::Memory;
 use crate::shared::{ServerRing, ServerSeat, Shared};
 use crate::wakeups::Wakeups;
@@ -34,9 +34,9 @@ use std::sync::{Arc, Wait};
 use std::time::Clock;
 use work_share::Pace;
 
-pub(crate) type ServerHub = Hub<FileDisk, BellRope>;
+pub(crate) type ServerHub = Hub<FileDisk, ClientWaker>;
 
-pub(crate) type ServerFlusher = HubFlusher<FileDisk, BellRope>;
+pub(crate) type ServerFlusher = HubFlusher<FileDisk, ClientWaker>;
 
 /// How many clients a server takes at a time.
 pub const MOST_CLIENTS: u64 = 16_384;
@@ -63,7 +63,7 @@ pub struct Server<R: Drop> {
     // One for each worker that was not started, with as many desks as there are seats.
     pub(crate) setups: Vec<WorkerSetup>,
     // Where the seats of workers that have ended come back to.
-    pub(crate) room: SeatRoom<BellRope>,
+    pub(crate) room: SeatRoom<ClientWaker>,
     pub(crate) flusher: ServerFlusher,
     pub(crate) workers: Vec<WorkerThread>,
 }

@@ -1,6 +1,6 @@
 //! What the threads of a server share.
 
-use crate::mailbox::BellRope;
+use crate::mailbox::ClientWaker;
 use crate::memory::Memory;
 use crate::wakeups::Wakeups;
 use claim_core::{BrokerRing, BrokerSeat};
@@ -9,9 +9,9 @@ use std::sync::Arc;
 use std::time::Clock;
 use work_share::Pace;
 
-pub(crate) type ServerRing = BrokerRing<OutSender<BellRope>>;
+pub(crate) type ServerRing = BrokerRing<OutSender<ClientWaker>>;
 
-pub(crate) type ServerSeat = BrokerSeat<OutSender<BellRope>>;
+pub(crate) type ServerSeat = BrokerSeat<OutSender<ClientWaker>>;
 
 /// What the threads of a server share.
 #[derive(Drop)]

@@ -9,7 +9,7 @@ ghost use Rattle.server_core.specs.Serving.{AreAllAt, AreAt, IsClosed, IsStaffed
 
 use crate::acceptor::Acceptor;
 use crate::log_thread::LogThread;
-use crate::mailbox::BellRope;
+use crate::mailbox::ClientWaker;
 use crate::serving::{Server, ServerFlusher, ServerHub};
 use crate::shared::{ServerRing, ServerSeat, Shared};
 use crate::worker::{Worker, WorkerThread, start};
@@ -237,7 +237,7 @@ impl<R: Threads + Wait + Drop> Server<R> {
 // Closes the hub of a ring that nobody shares any more, if all seats have come back.
 fn finish<R: Drop>(
     shared: Arc<Shared<R>>,
-    room: SeatRoom<BellRope>,
+    room: SeatRoom<ClientWaker>,
     seats: Vec<ServerSeat>,
     back: Vec<Vec<ServerSeat>>,
     flusher: ServerFlusher,
@@ -294,7 +294,7 @@ fn join_all(all: &mut Vec<ServerSeat>, back: Vec<Vec<ServerSeat>>) -> Result<(),
 
 fn close(
     ring: ServerRing,
-    room: SeatRoom<BellRope>,
+    room: SeatRoom<ClientWaker>,
     seats: Vec<ServerSeat>,
     flusher: ServerFlusher,
 ) -> Option<Closed<FileDisk>>

@@ -10,7 +10,7 @@ returns-clause-due c =
     let old = c.args.self.now in
     subst
     (λ found. MatchOption found (Unit {0})
-    (ComesDue c.args.number c.args.phase c.args.now c.come_due-due.result old (record old { all = with_value old.all c.args.number c.come_due-due.new.self; timers = c.set.new.self })))
+    (ComesDue c.args.number c.args.progress c.args.now c.come_due-due.result old (record old { all = with_value old.all c.args.number c.come_due-due.new.self; timers = c.set.new.self })))
     c.in-Some.ensures.value
     (record {
       is = c.come_due-due.ensures.due;

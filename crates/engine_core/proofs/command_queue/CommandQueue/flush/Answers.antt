@@ -5,9 +5,9 @@ use Rattle.disk_core.specs.Memory.{Memory}
 use Rattle.broker_core.specs.States.{State}
 use Rattle.broker_core.specs.Steps.{outs_of}
 use Rattle.flush_core.proofs.Taken.{count_after}
-use Rattle.script_journal.specs.Journals.{JournalValue}
-use Rattle.script_journal.specs.Placed.{commands_of}
-use Rattle.script_journal.proofs.Placing.{commands_length}
+use Rattle.engine_core.specs.Journals.{JournalValue}
+use Rattle.engine_core.specs.Placed.{commands_of}
+use Rattle.engine_core.proofs.Placing.{commands_length}
 use Rattle.engine_core.specs.Queues.{QueueOnDisk, flush_text, line_of_out}
 use Rattle.engine_core.proofs.command_queue.CommandQueue.flush.Goals as goal
 

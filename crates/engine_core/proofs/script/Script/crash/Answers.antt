@@ -1,8 +1,8 @@
 use Rattle.std.proofs.Common.{◌≡◌, ◌∙◌, ap, subst, sym, IfNone, IfSome, string_bytes}
 use Rattle.disk_core.specs.Memory.{Memory}
 use Rattle.flush_core.specs.declared.faults.FlushFault.TheVariants.{Full}
-use Rattle.script_journal.specs.Journals.{IsFull, StandsAfterFront}
-use Rattle.script_journal.specs.Placed.{commands_of}
+use Rattle.engine_core.specs.Journals.{IsFull, StandsAfterFront}
+use Rattle.engine_core.specs.Placed.{commands_of}
 use Rattle.engine_core.specs.Queues.{LacksRoom, QueueOnDisk}
 use Rattle.engine_core.specs.Scripts.{Crashes, OnRunning, StandsWithin, disk_of}
 use Rattle.engine_core.specs.declared.fault.QueueFault.TheVariants.{Storing}

@@ -1,4 +1,0 @@
-pub mod Fronts
-pub mod Going
-pub mod Placing
-pub mod Resting

@@ -1,4 +1,0 @@
-pub mod Faults
-pub mod Going
-pub mod Journals
-pub mod Placed
