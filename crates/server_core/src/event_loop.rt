@@ -7,8 +7,9 @@ ghost use Rattle.server_core.specs.Waits.{first_due, is_anybody_let_in, is_anybo
 
 use crate::doorbell::Doorbell;
 use crate::mailbox::Mailbox;
-use crate::service::{Service, Sweep, client_of};
+use crate::service::{Service, client_of};
 use crate::shared::{ServerSeat, Shared};
+use crate::sweep::Sweep;
 use crate::worker_setup::{WorkerSetup, room_for_events};
 use client_schedule::{Clients, Outlook, Watch, reported_by};
 use mio::{Events, Poll};

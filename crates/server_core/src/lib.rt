@@ -19,6 +19,7 @@ mod service;
 mod serving;
 mod shared;
 mod starting;
+mod sweep;
 mod wakeups;
 mod worker;
 mod worker_setup;

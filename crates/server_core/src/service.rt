@@ -27,24 +27,6 @@ const NEW_CLIENTS: u32 = 64;
 
 type ClientDesk = Desk<ClientWaker, WsLink<ReadBudget<TcpStream>>>;
 
-/// What a worker has each of its desks do in a round, one after another.
-#[derive(Clone, Copy)]
-pub(crate) enum Sweep<'a> {
-    /// A round begins at that moment: a desk finds out which of its clients are ready, and gives a turn to those that the mark lets in. New
-    /// clients' sockets are registered there. It says whether the doorbell was rung.
-    Begin {
-        registry: &'a Registry,
-        was_rung: bool,
-        now: u64,
-    },
-    /// Each client that stands in line now has its turns.
-    Pass,
-    /// Each that went on by itself when the round began has its turns, and what is due of clients is done.
-    End,
-    /// A desk begins to part with its clients.
-    Part,
-}
-
 /// A desk of a worker, and its clients.
 #[derive(Drop)]
 pub(crate) struct Service<'a, R: Drop> {
@@ -168,27 +150,8 @@ impl<'a, R: Wait + Clock + Drop> Service<'a, R> {
         }
     }
 
-    /// Does its part of a round.
-    pub(crate) fn sweep(&mut self, sweep: &Sweep<'_>)
-        ensures shared { self.new.shared ≡ self.old.shared }
-    {
-        match sweep {
-            Sweep::Begin {
-                registry,
-                was_rung,
-                now,
-            } => self.begin(registry, *was_rung, *now),
-            Sweep::Pass => self.pass(),
-            Sweep::End => {
-                self.pass_again();
-                self.end();
-            }
-            Sweep::Part => self.part_with_all(),
-        }
-    }
-
-    // Begins a round at that moment.
-    fn begin(&mut self, registry: &Registry, was_rung: bool, now: u64)
+    /// Begins a round at that moment.
+    pub(crate) fn begin(&mut self, registry: &Registry, was_rung: bool, now: u64)
         ensures shared { self.new.shared ≡ self.old.shared }
     {
         self.now = now;
@@ -200,8 +163,8 @@ impl<'a, R: Wait + Clock + Drop> Service<'a, R> {
         self.let_in();
     }
 
-    // Begins to part with all clients: each has a turn in which it hears what may still leave.
-    fn part_with_all(&mut self)
+    /// Begins to part with all clients: each has a turn in which it hears what may still leave.
+    pub(crate) fn part_with_all(&mut self)
         ensures shared { self.new.shared ≡ self.old.shared }
     {
         self.parting = true;
@@ -282,9 +245,9 @@ impl<'a, R: Wait + Clock + Drop> Service<'a, R> {
         Ok(())
     }
 
-    // Ends a round: does what is due of clients, and sees that they keep to their memory. What has come from a client was heard before
-    // that.
-    fn end(&mut self)
+    /// Ends a round: does what is due of clients, and sees that they keep to their memory. What has come from a client was heard before
+    /// that.
+    pub(crate) fn end(&mut self)
         ensures shared { self.new.shared ≡ self.old.shared }
     {
         self.look_at_timers();
@@ -364,9 +327,9 @@ impl<'a, R: Wait + Clock + Drop> Service<'a, R> {
         }
     }
 
-    // Gives each client that stands in line now its turns. After each of them, those that are let in have theirs, so that a client that
-    // never waits does not fill the window before them.
-    fn pass(&mut self)
+    /// Gives each client that stands in line now its turns. After each of them, those that are let in have theirs, so that a client that
+    /// never waits does not fill the window before them.
+    pub(crate) fn pass(&mut self)
         ensures shared { self.new.shared ≡ self.old.shared }
     {
         for _client in 0..self.clients.count_ready() {
@@ -378,9 +341,9 @@ impl<'a, R: Wait + Clock + Drop> Service<'a, R> {
         }
     }
 
-    // The same for each client that went on by itself when the round began. What this round's turns leave to be done is the next round's:
-    // whom the poll tells of then comes first.
-    fn pass_again(&mut self)
+    /// The same for each client that went on by itself when the round began. What this round's turns leave to be done is the next round's:
+    /// whom the poll tells of then comes first.
+    pub(crate) fn pass_again(&mut self)
         ensures shared { self.new.shared ≡ self.old.shared }
     {
         for _client in 0..self.going_on {
