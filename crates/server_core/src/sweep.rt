@@ -1,0 +1,47 @@
+//! What the desks of a worker do in a round.
+
+ghost use Rattle.std.specs.Prelude.{◌≡◌};
+
+use crate::service::Service;
+use mio::Registry;
+use std::sync::Wait;
+use std::time::Clock;
+
+/// What a worker has each of its desks do in a round, one after another.
+#[derive(Clone, Copy)]
+pub(crate) enum Sweep<'a> {
+    /// A round begins at that moment: a desk finds out which of its clients are ready, and gives a turn to those that the mark lets in. New
+    /// clients' sockets are registered there. It says whether the doorbell was rung.
+    Begin {
+        registry: &'a Registry,
+        was_rung: bool,
+        now: u64,
+    },
+    /// Each client that stands in line now has its turns.
+    Pass,
+    /// Each that went on by itself when the round began has its turns, and what is due of clients is done.
+    End,
+    /// A desk begins to part with its clients.
+    Part,
+}
+
+impl<R: Wait + Clock + Drop> Service<'_, R> {
+    /// Does its part of a round.
+    pub(crate) fn sweep(&mut self, sweep: &Sweep<'_>)
+        ensures shared { self.new.shared ≡ self.old.shared }
+    {
+        match sweep {
+            Sweep::Begin {
+                registry,
+                was_rung,
+                now,
+            } => self.begin(registry, *was_rung, *now),
+            Sweep::Pass => self.pass(),
+            Sweep::End => {
+                self.pass_again();
+                self.end();
+            }
+            Sweep::Part => self.part_with_all(),
+        }
+    }
+}

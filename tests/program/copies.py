@@ -1,0 +1,140 @@
+#!/usr/bin/env python3
+"""What `stompd sessions`, `held` and `copy` say and make of the journal of a server that runs: open sessions and what they subscribe to, durable names
+without messages, what subscriptions of topics hold, and copies of another size that hold the same.
+
+    python3 tests/program/copies.py [PROGRAM]
+"""
+
+import pathlib
+import subprocess
+import sys
+import threading
+
+from lib import scenario
+from lib.scenario import JOURNAL_BYTES, Broker
+from lib.stomp_client import Client
+
+# Enough for some messages, and too small for 300 of 1,000 bytes.
+SMALL, TOO_SMALL = 4_194_336, 262_176
+COPIES = 20
+
+
+def printed(broker, word, *words):
+    """The lines of a command over the broker's journal."""
+    done = subprocess.run([broker.program, word, broker.journal, *words], capture_output=True, text=True, check=True)
+    return done.stdout.splitlines()
+
+
+def place_of_copy(broker, name):
+    return str(pathlib.Path(broker.journal).with_name(name))
+
+
+def names_sessions(broker, checks):
+    """each open session has a line with its client-id, and each subscription one with what is not acknowledged"""
+    client = Client(broker.port).connect("a shop")
+    client.subscribe("0", "/queue/named", ack="client-individual")
+    client.subscribe("1", "/topic/kept", headers=[("activemq.subscriptionName", "news")])
+    client.publish("/queue/named", "one")
+    client.publish("/queue/named", "two")
+    for _ in range(2):
+        client.receive()
+    other = Client(broker.port).connect()
+    lines = printed(broker, "sessions")
+    numbers = [line.split()[1] for line in lines if line.startswith("session ")]
+    checks.same("two sessions", len(numbers), 2)
+    checks.same("the first has a name", lines[0], f"session {numbers[0]} client-id:a shop")
+    checks.same("the other has none", lines[1], f"session {numbers[1]}")
+    checks.check("a queue's subscription, with two unacknowledged",
+                 f"subscription {numbers[0]} id:0 destination:/queue/named ack:client-individual unacknowledged:2" in lines, lines)
+    checks.check("a durable one, with its name",
+                 f"subscription {numbers[0]} id:1 destination:/topic/kept ack:auto activemq.subscriptionName:news unacknowledged:0" in lines, lines)
+    checks.same("and no more lines", len(lines), 4)
+    client.close()
+    other.disconnect()
+
+
+def says_what_is_held(broker, checks):
+    """a durable name that holds nothing is named, and what a subscription of a topic holds stands at the end"""
+    reader = Client(broker.port).connect()
+    reader.subscribe("t", "/topic/held", ack="client")
+    sender = Client(broker.port).connect()
+    sender.publish("/topic/held", "12345")
+    reader.receive()
+    lines = printed(broker, "held")
+    checks.check("the name", "0 0 durable client-id:a shop activemq.subscriptionName:news" in lines, lines)
+    messages, count, what = lines[-1].split()
+    checks.same("one message of the topic", (messages, what), ("1", "topics"))
+    checks.check("of at least its body", int(count) >= 5, lines[-1])
+    reader.close()
+    sender.disconnect()
+
+
+def copies_a_running_journal(broker, checks):
+    """copies into larger and smaller files hold what the journal holds, and a server over one hands it out"""
+    sender = Client(broker.port).connect()
+    for at in range(300):
+        sender.publish("/queue/copied", f"{at:04}" + 996 * "x")
+    held = printed(broker, "held")
+    for name, size in (("large", 2 * JOURNAL_BYTES), ("small", SMALL)):
+        copy = place_of_copy(broker, name)
+        printed(broker, "copy", copy, str(size))
+        done = subprocess.run([broker.program, "held", copy], capture_output=True, text=True, check=True)
+        checks.same(f"the {name} one holds the same", done.stdout.splitlines(), held)
+    other = Broker(broker.program, place_of_copy(broker, "small"))
+    try:
+        reader = Client(other.port).connect()
+        reader.subscribe("q", "/queue/copied")
+        bodies = [reader.receive().body[:4] for _ in range(300)]
+        checks.same("all messages in order", bodies, [f"{at:04}" for at in range(300)])
+        reader.disconnect()
+    finally:
+        other.kill()
+    checks.same("the journal still holds all", printed(broker, "held"), held)
+    sender.disconnect()
+
+
+def refuses_a_copy(broker, checks):
+    """a copy that is too small is not left there, and a file that is there stays"""
+    for name, size, status, text in (("tiny", TOO_SMALL, 1, "too small"), ("small", SMALL, 1, "small")):
+        copy = pathlib.Path(place_of_copy(broker, name))
+        before = copy.stat().st_mtime_ns if copy.exists() else None
+        done = subprocess.run([broker.program, "copy", broker.journal, copy, str(size)], capture_output=True, text=True)
+        checks.same(f"status of {name}", done.returncode, status)
+        checks.check("one line says why", done.stderr.count("\n") == 1 and text in done.stderr, done.stderr)
+        after = copy.stat().st_mtime_ns if copy.exists() else None
+        checks.same("the file is as it was", after, before)
+
+
+def copies_beside_load(broker, checks):
+    """copies beside a sender that never stops each hold a beginning of what it sent"""
+    sender, sent, goes_on = Client(broker.port).connect(), [0], threading.Event()
+
+    def send():
+        while not goes_on.is_set():
+            sender.publish("/topic/loaded", f"{sent[0]}")
+            sent[0] += 1
+
+    keeper = Client(broker.port).connect("keeper")
+    keeper.subscribe("k", "/topic/loaded", headers=[("activemq.subscriptionName", "all")])
+    keeper.close()
+    thread = threading.Thread(target=send)
+    thread.start()
+    counts = []
+    for at in range(COPIES):
+        before, copy = sent[0], place_of_copy(broker, f"load-{at}")
+        printed(broker, "copy", copy, str(JOURNAL_BYTES))
+        after = sent[0]
+        done = subprocess.run([broker.program, "held", copy], capture_output=True, text=True, check=True)
+        line = next(it for it in done.stdout.splitlines() if it.endswith("client-id:keeper activemq.subscriptionName:all"))
+        counts.append((before, int(line.split()[0]), after + 1))
+        pathlib.Path(copy).unlink()
+        if sent[0] > 3_000:
+            break
+    goes_on.set()
+    thread.join()
+    checks.check("each has what had its receipt before, and nothing that was sent later", all(a <= b <= c for a, b, c in counts), counts)
+    sender.disconnect()
+
+
+if __name__ == "__main__":
+    sys.exit(scenario.run(__doc__, [names_sessions, says_what_is_held, copies_a_running_journal, refuses_a_copy, copies_beside_load]))
