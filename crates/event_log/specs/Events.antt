@@ -1,12 +1,13 @@
 -- What is reported to an operator.
-use Rattle.std.specs.Prelude.{ℕ, List, [], ◌∷◌, ◌++◌, codes}
+use Rattle.std.specs.Prelude.{ℕ, List, [], ◌∷◌, ◌++◌, codes, cond, nat_lt, string_bytes}
 use Rattle.std.specs.Fmt.{decimal}
+use Rattle.event_log.specs.declared.event.Crowd.{Crowd}
 use Rattle.event_log.specs.declared.event.Event.{Event}
 use Rattle.event_log.specs.declared.event.Event.TheVariants as events
 use Rattle.event_log.specs.declared.event.Figures.{Figures}
 use Rattle.event_log.specs.declared.event.Start.{Start}
 use Rattle.event_log.specs.declared.kind.Kind.{Kind}
-use Rattle.event_log.specs.declared.kind.Kind.TheVariants.{Malformed, OtherProtocol, Foreign, Method, NoUpgrade, Version, TooLarge, Full, Silent, TakesNothing, Unopened, TookMost, LongNames, NoRoom, NotAccepted, LeftOut}
+use Rattle.event_log.specs.declared.kind.Kind.TheVariants.{Malformed, OtherProtocol, Foreign, Method, NoUpgrade, Version, TooLarge, Full, Silent, TakesNothing, Unopened, TookMost, LongNames, NotAccepted, LeftOut}
 
 -- the place of a kind among all
 abbrev pub place_of : Kind → ℕ
@@ -23,9 +24,8 @@ place_of TakesNothing = 9
 place_of Unopened = 10
 place_of TookMost = 11
 place_of LongNames = 12
-place_of NoRoom = 13
-place_of NotAccepted = 14
-place_of LeftOut = 15
+place_of NotAccepted = 13
+place_of LeftOut = 14
 
 -- the words before a count, and after it
 abbrev pub before_count : Kind → List ℕ
@@ -42,7 +42,6 @@ before_count TakesNothing = codes "gave up "
 before_count Unopened = codes "gave up "
 before_count TookMost = codes "gave up "
 before_count LongNames = codes "gave up "
-before_count NoRoom = codes "refused "
 before_count NotAccepted = codes "failed to accept "
 before_count LeftOut = codes "left out "
 
@@ -60,7 +59,6 @@ behind_count TakesNothing = codes " clients that took nothing for 10 s"
 behind_count Unopened = codes " clients that opened no session in time"
 behind_count TookMost = codes " clients that took the most memory"
 behind_count LongNames = codes " clients whose names have no room beside the others'"
-behind_count NoRoom = codes " SENDs for which there is no room (E12)"
 behind_count NotAccepted = codes " clients: out of descriptors or memory"
 behind_count LeftOut = codes " lines that nobody read in time"
 
@@ -70,16 +68,29 @@ start_text s = codes "started: journal of version 2, areas of " ++ (decimal s.ar
 
 -- how it does
 abbrev pub figures_text : Figures → List ℕ
-figures_text f = codes "doing: " ++ (decimal f.connections ++ (codes " connections, " ++ (decimal f.commands ++ (codes " commands, " ++ (decimal f.frames ++ (codes " frames out, " ++ (decimal f.held ++ (codes " bytes held, " ++ (decimal f.used ++ codes " bytes used")))))))))
+figures_text f =
+    codes "doing: " ++ (decimal f.connections ++ (codes " connections, " ++ (decimal f.memory ++ (codes " bytes of memory for them, "
+    ++ (decimal f.commands ++ (codes " commands, " ++ (decimal f.frames ++ (codes " frames out, " ++ (decimal f.refused ++ (codes " ERRORs, "
+    ++ (decimal f.messages ++ (codes " messages held, " ++ (decimal f.held ++ (codes " bytes held, " ++ (decimal f.dead ++ (codes " dead letters, "
+    ++ (decimal f.used ++ (codes " bytes used, " ++ (decimal f.to_repeat ++ codes " commands to repeat")))))))))))))))))))
+
+-- that nearly all is held that may be, and where most of it waits
+abbrev pub crowd_text : Crowd → List ℕ
+crowd_text c =
+    codes "nearly full: " ++ (decimal c.messages ++ (codes " of 4096 messages held, " ++ (decimal c.held ++ (codes " of 16777216 bytes, "
+    ++ (decimal c.most ++ (codes " of them in " ++ (string_bytes c.place ++ codes " (E12 is near)")))))))
 
 -- the words of an event
 abbrev pub event_text : Event → List ℕ
 event_text (events.Started start) = start_text start
 event_text (events.Small area needed) = codes "journal small: areas of " ++ (decimal area ++ (codes " bytes, " ++ (decimal needed ++ codes " are wanted (J4 is possible)")))
-event_text (events.Compacted won millis) = codes "compacted: " ++ (decimal won ++ (codes " bytes won in " ++ (decimal millis ++ codes " ms")))
+event_text (events.Compacted won millis) =
+    cond (nat_lt millis 100) (codes "compacted: ") (codes "compacted slowly: ") ++ (decimal won ++ (codes " bytes won in " ++ (decimal millis ++ codes " ms")))
+event_text (events.Crowded crowd) = crowd_text crowd
 event_text (events.NearlyFull used area) = codes "journal nearly full: " ++ (decimal used ++ (codes " of " ++ (decimal area ++ codes " bytes are used after a compaction (J4 is near)")))
 event_text (events.Doing figures) = figures_text figures
 event_text (events.Counted kind count) = before_count kind ++ (decimal count ++ behind_count kind)
+event_text (events.Errors code count) = codes "sent " ++ (decimal count ++ (codes " ERRORs (E" ++ (decimal code ++ codes ")")))
 event_text events.Ending = codes "ending: asked to"
 
 -- the line of an event that came at that moment

@@ -21,18 +21,44 @@ pub struct Start {
 pub struct Figures {
     /// How many clients are there.
     pub connections: u64,
+    /// How many bytes of memory these hold.
+    pub memory: u64,
     /// How many commands the journal counts.
     pub commands: u64,
     /// How many frames were published since the server started.
     pub frames: u64,
-    /// How many bytes of messages are held.
+    /// How many of these are ERRORs.
+    pub refused: u64,
+    /// How many messages are held.
+    pub messages: u64,
+    /// How many bytes these count for.
     pub held: u64,
+    /// How many messages wait in `/queue/dead`.
+    pub dead: u64,
     /// How many bytes of the live area are used.
     pub used: u64,
+    /// How many commands a start would repeat.
+    pub to_repeat: u64,
 }
 
+/// That nine tenths of the messages or bytes are held that may be held.
+#[derive(Drop)]
+pub struct Crowd {
+    /// How many messages are held, of 4,096.
+    pub messages: u64,
+    /// How many bytes these count for, of 16,777,216.
+    pub held: u64,
+    /// How many of the messages wait in the place that has most.
+    pub most: u64,
+    /// What that place is called, as `stompd held` calls it.
+    pub place: String,
+}
+
+/// From how many milliseconds on a compaction is slow.
+const SLOW: u64 = 100;
+
 /// What happens that is reported to an operator.
-#[derive(Clone, Copy)]
+#[derive(Drop)]
 pub enum Event {
     /// The server listens.
     Started(Start),
@@ -43,10 +69,14 @@ pub enum Event {
     Compacted { won: u64, millis: u64 },
     /// More than three quarters of the area are used by what is held, once the journal is compacted: it will be full.
     NearlyFull { used: u64, area: u64 },
+    /// Nearly all is held that may be: SENDs will be refused.
+    Crowded(Crowd),
     /// How the server does, once in each minute in which it did something.
     Doing(Figures),
     /// This came so often since it was last reported.
     Counted { kind: Kind, count: u64 },
+    /// So many ERRORs of this code were sent since it was last reported.
+    Errors { code: u64, count: u64 },
     /// The server was asked to end.
     Ending,
 }
@@ -65,17 +95,22 @@ impl fmt::Display for Event {
                 f,
                 "journal small: areas of {area} bytes, {needed} are wanted (J4 is possible)"
             ),
-            Event::Compacted { won, millis } => {
+            Event::Compacted { won, millis } if *millis < SLOW => {
                 write!(f, "compacted: {won} bytes won in {millis} ms")
+            }
+            Event::Compacted { won, millis } => {
+                write!(f, "compacted slowly: {won} bytes won in {millis} ms")
             }
             Event::NearlyFull { used, area } => write!(
                 f,
                 "journal nearly full: {used} of {area} bytes are used after a compaction (J4 is near)"
             ),
+            Event::Crowded(crowd) => write!(f, "{crowd}"),
             Event::Doing(figures) => write!(f, "{figures}"),
             Event::Counted { kind, count } => {
                 write!(f, "{}{count}{}", kind.before(), kind.behind())
             }
+            Event::Errors { code, count } => write!(f, "sent {count} ERRORs (E{code})"),
             Event::Ending => f.write_str("ending: asked to"),
         }
     }
@@ -105,8 +140,32 @@ impl fmt::Display for Figures {
     fn fmt<W: fmt::Write>(&self, f: &mut fmt::Formatter<W>) -> fmt::Result {
         write!(
             f,
-            "doing: {} connections, {} commands, {} frames out, {} bytes held, {} bytes used",
-            self.connections, self.commands, self.frames, self.held, self.used
+            "doing: {} connections, {} bytes of memory for them, {} commands, {} frames out, {} ERRORs, {} messages held, {} bytes held, {} dead letters, {} bytes used, {} commands to repeat",
+            self.connections,
+            self.memory,
+            self.commands,
+            self.frames,
+            self.refused,
+            self.messages,
+            self.held,
+            self.dead,
+            self.used,
+            self.to_repeat
+        )
+    }
+}
+
+impl fmt::Display for Crowd {
+    ghost use Rattle.std.specs.Prelude.{Some};
+    ghost use Rattle.event_log.specs.Events.{crowd_text};
+
+    ghost output = { λ crowd. Some (crowd_text crowd) };
+
+    fn fmt<W: fmt::Write>(&self, f: &mut fmt::Formatter<W>) -> fmt::Result {
+        write!(
+            f,
+            "nearly full: {} of 4096 messages held, {} of 16777216 bytes, {} of them in {} (E12 is near)",
+            self.messages, self.held, self.most, self.place
         )
     }
 }

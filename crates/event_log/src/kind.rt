@@ -5,7 +5,7 @@ ghost use Rattle.event_log.specs.Events.{before_count, behind_count, place_of};
 ghost use Rattle.event_log.specs.declared.kind.TheConstants.{KINDS};
 
 /// How many kinds there are.
-pub const KINDS: usize = 16;
+pub const KINDS: usize = 15;
 
 /// What may come many times in a second: it is counted, and reported with how often it came.
 #[derive(Clone, Copy)]
@@ -36,8 +36,6 @@ pub enum Kind {
     TookMost,
     /// A client was given up whose names, with those of the others at its desk, would have taken more of the journal than they may.
     LongNames,
-    /// A SEND was refused with E12.
-    NoRoom,
     /// The system refused to accept a client: there are no descriptors or no memory for it.
     NotAccepted,
     /// A line was left out, since nobody read those before it.
@@ -72,9 +70,8 @@ impl Kind {
             10 => Some(Kind::Unopened),
             11 => Some(Kind::TookMost),
             12 => Some(Kind::LongNames),
-            13 => Some(Kind::NoRoom),
-            14 => Some(Kind::NotAccepted),
-            15 => Some(Kind::LeftOut),
+            13 => Some(Kind::NotAccepted),
+            14 => Some(Kind::LeftOut),
             _ => None,
         }
     }
@@ -109,7 +106,6 @@ impl Kind {
             Kind::Unopened => " clients that opened no session in time",
             Kind::TookMost => " clients that took the most memory",
             Kind::LongNames => " clients whose names have no room beside the others'",
-            Kind::NoRoom => " SENDs for which there is no room (E12)",
             Kind::NotAccepted => " clients: out of descriptors or memory",
             Kind::LeftOut => " lines that nobody read in time",
         }

@@ -9,7 +9,7 @@ mod line;
 mod rhythm;
 mod unopened;
 
-pub use event::{Event, Figures, Start};
+pub use event::{Crowd, Event, Figures, Start};
 pub use fault::ServeFault;
 pub use kind::{KINDS, Kind};
 pub use line::write_line;

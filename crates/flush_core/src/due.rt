@@ -1,6 +1,6 @@
 //! Compacting the journal for what a start would have to repeat.
 
-ghost use Rattle.std.specs.Prelude.{◌≡◌, ◌≤◌, OnOk, false, true};
+ghost use Rattle.std.specs.Prelude.{◌≡◌, ◌≤◌, ◌-◌, OnOk, false, true};
 ghost use Rattle.disk_core.specs.Calls.{Lasts};
 ghost use Rattle.recover_core.specs.Compactions.{HasNoRoomFor};
 ghost use Rattle.recover_core.specs.Standing.{Stands};
@@ -68,6 +68,13 @@ impl<D: Disk, B: Bell, W: Width> Flusher<D, B, W> {
             return Ok(());
         }
         self.compact_what_fits(alloc, ring)
+    }
+
+    /// How many commands a start would repeat: those that are stored and not in the last snapshot.
+    pub fn to_repeat(&self) -> u64
+        ensures { result ≡ self.now.stored - self.now.last.since }
+    {
+        self.stored.saturating_sub(self.since)
     }
 
     // Whether a start has to repeat as much as it may, or more.

@@ -22,5 +22,5 @@ mod width;
 
 pub use faults::FlushFault;
 pub use flusher::Flusher;
-pub use tally::Tally;
+pub use tally::{ERRORS, Tally, code_of};
 pub use width::Width;
