@@ -14,7 +14,7 @@ import subprocess
 import sys
 
 TOP = pathlib.Path(__file__).resolve().parent.parent
-MOST_WORDS, CLAUSES, CHARACTERS, FUNCTION_LINES, FILE_LINES = 22_000, 8, 600, 40, 500
+MOST_WORDS, CLAUSES, CHARACTERS, FUNCTION_LINES, FILE_LINES = 20_000, 8, 600, 40, 500
 
 CLAUSE = re.compile(r"^\s*(requires|ensures)\b[^{]*\{")
 FUNCTION = re.compile(r"^\s*(?:pub(?:\(\w+\))? )?(?:const )?fn (\w+)")
