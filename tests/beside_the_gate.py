@@ -52,6 +52,8 @@ SCRIPTS = [
     Script("tests/program/closed_streams.py", light=""),
     Script("tests/program/ending.py", light="--few"),
     Script("tests/program/telling.py", light=""),
+    Script("tests/program/figures.py", light="", waits=True),
+    Script("tests/program/copies.py", light=""),
     Script("tests/program/serve_script.py", light="--few"),
     Script("tests/program/logins.py", light=""),
     Script("tests/program/picture.py", light=""),

@@ -138,11 +138,36 @@ def names(program, checks):
                 if number % 16 == 15:
                     client.receive()
             client.to_the_end()
-        checks.check("E12 is told", server.told("(E12)", 20), server.lines)
+        checks.check("E12 is told", any(line.endswith(" ERRORs (E12)") for line in server.told("sent ", 20)), server.lines)
+        near = server.told("nearly full", 5)
+        checks.same("once that nearly all is held", len(near), 1)
+        form = r"nearly full: (\d+) of 4096 messages held, (\d+) of 16777216 bytes, (\d+) of them in queue /queue/full-secret \(E12 is near\)"
+        found = re.fullmatch(form, near[0]) if near else None
+        checks.check("as soon as nine tenths are, and where", found and 3_686 <= int(found[1]) <= 4_096 and found[3] == found[1], near)
         checks.check("each line is one of ours", all(LINE.fullmatch(line) for _, line in server.lines), server.lines)
         late = [by_the_clock(when) - moment_of(line) for when, line in server.lines if LINE.fullmatch(line)]
         checks.check("and its moment is the clock's", all(0 <= it <= 2 for it in late), (late, server.lines))
-        checks.check("and has no byte of a client", not any("secret" in line or "forged" in line for _, line in server.lines), server.lines)
+        plain = [line for _, line in server.lines if "nearly full" not in line]
+        checks.check("and has no byte of a client, except the name of what is full", not any("secret" in line for line in plain), server.lines)
+        checks.check("and nothing is forged", not any("forged" in line for _, line in server.lines), server.lines)
+
+
+def errors(program, checks):
+    """ERRORs by their codes, at most a line a second for each"""
+    with serving(program) as server:
+        start, sent = time.monotonic(), 0
+        while time.monotonic() - start < 3.5:
+            client = Client(server.port).connect()
+            client.subscribe("twice", "/topic/t")
+            # An id of its session that is taken.
+            client.send("SUBSCRIBE", [("id", "twice"), ("destination", "/topic/t")])
+            checks.check("E9", "E9" in client.receive().headers["message"]) if sent == 0 else client.receive()
+            client.close()
+            sent += 1
+        time.sleep(1.5)
+        lines = server.told("(E9)")
+        checks.same("all are counted", sum(int(re.fullmatch(r"sent (\d+) ERRORs \(E9\)", line)[1]) for line in lines), sent)
+        checks.check("at most once a second", 2 <= len(lines) <= 6, lines)
 
 
 def descriptors(program, checks):
@@ -187,7 +212,7 @@ def lawful(program, checks):
 def main():
     program = scenario.words_of(__doc__).parse_args().program
     checks = scenario.Checks()
-    for part in (starts, counts, names, descriptors, lawful):
+    for part in (starts, counts, names, errors, descriptors, lawful):
         try:
             part(program, checks)
         except Exception as error:

@@ -4,6 +4,7 @@
 
 mod acceptor;
 mod calls;
+mod counts;
 mod descriptors;
 mod doorbell;
 mod ending;
@@ -15,6 +16,7 @@ mod last_rounds;
 mod log_thread;
 mod mailbox;
 mod memory;
+mod reporter;
 mod service;
 mod serving;
 mod shared;

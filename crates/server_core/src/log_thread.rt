@@ -1,9 +1,10 @@
 //! What takes lines for the operator, and writes them in a thread of its own.
 
 use crate::acceptor::Acceptor;
+use crate::counts::Counts;
 use crossbeam_queue::ArrayQueue;
 use event_log::{Event, Figures, KINDS, Kind, Rhythm, write_line};
-use flush_core::Tally;
+use flush_core::{ERRORS, Tally};
 use std::alloc::{AllocError, Global};
 use std::io::Write;
 use std::sync::Wait;
@@ -25,6 +26,64 @@ const LOOKS: u32 = 100;
 
 const LOOK: u64 = 5;
 
+/// How the server did when its flusher said so last.
+#[derive(Drop)]
+struct Gauges {
+    commands: AtomicU64,
+    frames: AtomicU64,
+    refused: AtomicU64,
+    memory: AtomicU64,
+    messages: AtomicU64,
+    held: AtomicU64,
+    dead: AtomicU64,
+    used: AtomicU64,
+    to_repeat: AtomicU64,
+}
+
+impl Gauges {
+    fn new() -> Gauges {
+        Gauges {
+            commands: AtomicU64::new(0),
+            frames: AtomicU64::new(0),
+            refused: AtomicU64::new(0),
+            memory: AtomicU64::new(0),
+            messages: AtomicU64::new(0),
+            held: AtomicU64::new(0),
+            dead: AtomicU64::new(0),
+            used: AtomicU64::new(0),
+            to_repeat: AtomicU64::new(0),
+        }
+    }
+
+    fn set(&self, figures: Figures) {
+        self.commands.store(figures.commands, Ordering::SeqCst);
+        self.frames.store(figures.frames, Ordering::SeqCst);
+        self.refused.store(figures.refused, Ordering::SeqCst);
+        self.memory.store(figures.memory, Ordering::SeqCst);
+        self.messages.store(figures.messages, Ordering::SeqCst);
+        self.held.store(figures.held, Ordering::SeqCst);
+        self.dead.store(figures.dead, Ordering::SeqCst);
+        self.used.store(figures.used, Ordering::SeqCst);
+        self.to_repeat.store(figures.to_repeat, Ordering::SeqCst);
+    }
+
+    // The same, with how many clients there are.
+    fn with(&self, connections: u64) -> Figures {
+        Figures {
+            connections,
+            commands: self.commands.load(Ordering::SeqCst),
+            frames: self.frames.load(Ordering::SeqCst),
+            refused: self.refused.load(Ordering::SeqCst),
+            memory: self.memory.load(Ordering::SeqCst),
+            messages: self.messages.load(Ordering::SeqCst),
+            held: self.held.load(Ordering::SeqCst),
+            dead: self.dead.load(Ordering::SeqCst),
+            used: self.used.load(Ordering::SeqCst),
+            to_repeat: self.to_repeat.load(Ordering::SeqCst),
+        }
+    }
+}
+
 /// Takes what happens from the other threads, which never wait for it, and tells it in a thread of its own. It tells events at once,
 /// counts once a second at most, and how the server does once a minute at most, if it did something.
 #[derive(Drop)]
@@ -33,14 +92,11 @@ pub(crate) struct LogThread {
     // How many events were taken to be told, and how many of them were told.
     taken: AtomicU64,
     told: AtomicU64,
-    counts: [AtomicU64; KINDS],
-    // What the flusher said last: how many commands the journal counts, and how many bytes are held and used. Also how many frames were
-    // published, and how many of these say that there is no room.
-    commands: AtomicU64,
-    frames: AtomicU64,
-    no_room: AtomicU64,
-    held: AtomicU64,
-    used: AtomicU64,
+    kinds: Counts<KINDS>,
+    // ERRORs by code that were not told yet, and those of the broker that its flusher has counted.
+    errors: Counts<ERRORS>,
+    published: Counts<ERRORS>,
+    gauges: Gauges,
     thread: Parker,
     // The sleep of what ends the server, until all is told.
     ender: Parker,
@@ -52,29 +108,10 @@ impl LogThread {
             untold: ArrayQueue::new(alloc, UNTOLD)?,
             taken: AtomicU64::new(0),
             told: AtomicU64::new(0),
-            counts: [
-                AtomicU64::new(0),
-                AtomicU64::new(0),
-                AtomicU64::new(0),
-                AtomicU64::new(0),
-                AtomicU64::new(0),
-                AtomicU64::new(0),
-                AtomicU64::new(0),
-                AtomicU64::new(0),
-                AtomicU64::new(0),
-                AtomicU64::new(0),
-                AtomicU64::new(0),
-                AtomicU64::new(0),
-                AtomicU64::new(0),
-                AtomicU64::new(0),
-                AtomicU64::new(0),
-                AtomicU64::new(0),
-            ],
-            commands: AtomicU64::new(0),
-            frames: AtomicU64::new(0),
-            no_room: AtomicU64::new(0),
-            held: AtomicU64::new(0),
-            used: AtomicU64::new(0),
+            kinds: Counts::new(),
+            errors: Counts::new(),
+            published: Counts::new(),
+            gauges: Gauges::new(),
             thread: Parker::new(),
             ender: Parker::new(),
         })
@@ -103,24 +140,31 @@ impl LogThread {
 
     /// Counts something.
     pub(crate) fn count(&self, kind: Kind) {
-        self.count_more(kind, 1);
-    }
-
-    fn count_more(&self, kind: Kind, more: u64) {
-        if more > 0 && self.counts[kind.place()].fetch_add(more, Ordering::SeqCst) == 0 {
+        if self.kinds.add(kind.place(), 1) {
             self.thread.unpark();
         }
     }
 
-    /// Says how many commands the journal counts, what was published so far, how many bytes of messages are held, and how many bytes of
-    /// its area are used.
-    pub(crate) fn figures(&self, commands: u64, tally: Tally, held: u64, used: u64) {
-        self.commands.store(commands, Ordering::SeqCst);
-        self.frames.store(tally.frames, Ordering::SeqCst);
-        self.held.store(held, Ordering::SeqCst);
-        self.used.store(used, Ordering::SeqCst);
-        let before = self.no_room.swap(tally.no_room, Ordering::SeqCst);
-        self.count_more(Kind::NoRoom, tally.no_room.saturating_sub(before));
+    /// Counts an ERROR of that code that a session has made.
+    pub(crate) fn count_error(&self, code: usize) {
+        self.count_errors(code, 1);
+    }
+
+    fn count_errors(&self, code: usize, more: u64) {
+        if self.errors.add(code, more) {
+            self.thread.unpark();
+        }
+    }
+
+    /// Says how the server does, and what was published so far.
+    pub(crate) fn figures(&self, figures: Figures, tally: &Tally) {
+        if self.gauges.refused.load(Ordering::SeqCst) != tally.refused {
+            for code in 0..ERRORS {
+                let more = self.published.raise(code, tally.errors[code]);
+                self.count_errors(code, more);
+            }
+        }
+        self.gauges.set(figures);
     }
 
     /// Tells what comes. It does not return. A line that can't be written is left out.
@@ -161,21 +205,23 @@ impl LogThread {
     }
 
     fn has_counts(&self) -> bool {
-        for count in &self.counts {
-            if count.load(Ordering::SeqCst) > 0 {
-                return true;
-            }
-        }
-        false
+        self.kinds.are_any() || self.errors.are_any()
     }
 
     fn tell_counts<R: Clock, W: Write>(&self, alloc: Global, rt: &R, writer: &mut W) {
         for place in 0..KINDS {
-            let count = self.counts[place].swap(0, Ordering::SeqCst);
+            let count = self.kinds.take(place);
             if count > 0
                 && let Some(kind) = Kind::at(place)
             {
                 tell(alloc, rt, Event::Counted { kind, count }, writer);
+            }
+        }
+        for code in 0..ERRORS {
+            let count = self.errors.take(code);
+            if count > 0 {
+                let code = code as u64;
+                tell(alloc, rt, Event::Errors { code, count }, writer);
             }
         }
     }
@@ -189,18 +235,11 @@ impl LogThread {
         told: u64,
         writer: &mut W,
     ) -> u64 {
-        let commands = self.commands.load(Ordering::SeqCst);
-        if commands != told {
-            let figures = Figures {
-                connections,
-                commands,
-                frames: self.frames.load(Ordering::SeqCst),
-                held: self.held.load(Ordering::SeqCst),
-                used: self.used.load(Ordering::SeqCst),
-            };
+        let figures = self.gauges.with(connections);
+        if figures.commands != told {
             tell(alloc, rt, Event::Doing(figures), writer);
         }
-        commands
+        figures.commands
     }
 }
 

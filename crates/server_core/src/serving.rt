@@ -14,6 +14,7 @@ use crate::last_rounds::LastRounds;
 use crate::log_thread::LogThread;
 use crate::mailbox::{ClientWaker, Mailbox};
 use crate::memory::Memory;
+use crate::reporter::Reporter;
 use crate::shared::{ServerRing, ServerSeat, Shared};
 use crate::wakeups::Wakeups;
 use crate::worker::WorkerThread;
@@ -353,17 +354,6 @@ fn share<R: Wait + Clone + Drop>(
     Ok((shared, acceptor, setups))
 }
 
-// Says how the server does, and whether a compaction has left little room.
-fn tell_figures<R: Wait>(shared: &Shared<R>, flusher: &ServerFlusher, commands: u64) {
-    let (used, area) = (flusher.used(), flusher.size());
-    let held = flusher.broker().held().bytes;
-    let log = shared.wakeups.log();
-    log.figures(commands, flusher.tally(), held, used);
-    if shared.wakeups.has_compacted() && used / 3 > area / 4 {
-        log.note(&shared.rt, Event::NearlyFull { used, area });
-    }
-}
-
 // The flusher counts from now on how many listen to each topic.
 fn count_audiences<R>(shared: &Shared<R>, flusher: &mut ServerFlusher) -> Result<(), ServeFault>
     ensures { flusher.new ≡ flusher.old }
@@ -395,6 +385,7 @@ fn flush<R: Wait + Clock + Drop>(
     ensures fails { IfErr result (λ _. flusher.new.broken ≡ true) }
 {
     let mut last = LastRounds::new();
+    let mut reporter = Reporter::new(alloc);
     for _round in shared.rt.forever() {
         match flush_loop(alloc, &shared.ring, flusher, &shared.wakeups, 1) {
             Ok(mark) if is_last(shared, &mut last, mark) => {
@@ -403,7 +394,7 @@ fn flush<R: Wait + Clock + Drop>(
                 flusher.stop(&shared.ring);
                 return compacted;
             }
-            Ok(mark) => tell_figures(shared, flusher, mark),
+            Ok(mark) => reporter.report(alloc, shared, flusher, mark),
             Err(fault) => return Err(fault),
         }
     }

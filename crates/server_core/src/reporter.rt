@@ -1,0 +1,104 @@
+//! How a server does, as its flusher sees it.
+
+ghost use Rattle.std.specs.Prelude.{◌≡◌};
+
+use crate::serving::ServerFlusher;
+use crate::shared::Shared;
+use broker_core::Broker;
+use broker_state::{Held, MOST_BYTES, MOST_MESSAGES};
+use command_core::Dest;
+use event_log::{Crowd, Event, Figures};
+use journal_files::lots_of;
+use std::alloc::{AllocError, Global};
+use std::sync::Wait;
+
+/// What the flusher's thread keeps for its reports.
+#[derive(Drop)]
+pub(crate) struct Reporter {
+    // The queue of dead letters, if there was memory for its name.
+    dead_queue: Option<Dest>,
+    // Whether it was reported that nearly all is held that may be.
+    is_crowded: bool,
+}
+
+impl Reporter {
+    /// Nothing was reported yet.
+    pub(crate) fn new(alloc: Global) -> Reporter {
+        Reporter {
+            dead_queue: Dest::read(alloc, "/queue/dead").ok(),
+            is_crowded: false,
+        }
+    }
+
+    /// Says how the server does after so many commands, whether a compaction has left little room, and, once, whether nearly all is held that
+    /// may be.
+    pub(crate) fn report<R: Wait>(
+        &mut self,
+        alloc: Global,
+        shared: &Shared<R>,
+        flusher: &ServerFlusher,
+        commands: u64,
+    ) {
+        let (used, area, tally) = (flusher.used(), flusher.size(), flusher.tally());
+        let held = flusher.broker().held();
+        let figures = Figures {
+            connections: 0,
+            memory: shared.memory.total().bytes(),
+            commands,
+            frames: tally.frames,
+            refused: tally.refused,
+            messages: held.messages,
+            held: held.bytes,
+            dead: self.count_dead(flusher.broker()),
+            used,
+            to_repeat: flusher.to_repeat(),
+        };
+        let log = shared.wakeups.log();
+        log.figures(figures, &tally);
+        if shared.wakeups.has_compacted() && used / 3 > area / 4 {
+            log.note(&shared.rt, Event::NearlyFull { used, area });
+        }
+        let was_crowded = self.is_crowded;
+        self.is_crowded = is_crowded(&held);
+        if self.is_crowded
+            && !was_crowded
+            && let Ok(crowd) = crowd_of(alloc, flusher.broker(), &held)
+        {
+            log.note(&shared.rt, Event::Crowded(crowd));
+        }
+    }
+
+    // How many dead letters there are.
+    fn count_dead(&self, broker: &Broker) -> u64 {
+        let Some(queue) = &self.dead_queue else {
+            return 0;
+        };
+        match broker.shared().queues().get(queue) {
+            Some(line) => line.len() as u64,
+            None => 0,
+        }
+    }
+}
+
+// Whether nine tenths are held of what may be.
+fn is_crowded(held: &Held) -> bool {
+    held.messages >= MOST_MESSAGES * 9 / 10 || held.bytes >= MOST_BYTES * 9 / 10
+}
+
+// What is held, and in which place most messages wait.
+fn crowd_of(alloc: Global, broker: &Broker, held: &Held) -> Result<Crowd, AllocError> {
+    let mut lots = lots_of(alloc, broker)?;
+    let (most, place) = if lots.is_empty() {
+        (0, String::from_str(alloc, "topics")?)
+    } else {
+        let first = lots.swap_remove(0);
+        (first.messages as u64, first.place)
+    };
+    drop(lots);
+    Ok(Crowd {
+        messages: held.messages,
+        held: held.bytes,
+        most,
+        place,
+    })
+}

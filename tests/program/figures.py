@@ -1,0 +1,98 @@
+#!/usr/bin/env python3
+"""Looks at the line in which a server says once a minute how it does: each of its figures against what clients did. Needs Python 3 alone, and waits for
+that minute.
+
+    python3 tests/program/figures.py [PROGRAM]
+"""
+
+import pathlib
+import re
+import subprocess
+import sys
+import tempfile
+import threading
+
+from lib import scenario
+from lib.stomp_client import Client
+
+# Two areas of 32 MiB.
+JOURNAL_BYTES = 67_108_896
+# The line comes within the first minute in which there is something to say, and then the next.
+LONGEST = 130
+LINE = re.compile(
+    r"stompd: \S+ doing: (\d+) connections, (\d+) bytes of memory for them, (\d+) commands, (\d+) frames out, (\d+) ERRORs, (\d+) messages held,"
+    r" (\d+) bytes held, (\d+) dead letters, (\d+) bytes used, (\d+) commands to repeat\n"
+)
+
+
+def do_something(port):
+    """Leaves two connections, five messages of which one is dead, and one ERROR; answers the clients, and the count of commands and of frames."""
+    one, other = Client(port).connect(), Client(port).connect()
+    one.subscribe("q", "/queue/work", ack="client-individual")
+    for at in range(5):
+        other.publish("/queue/work", f"{at}")
+    delivered = [one.receive() for _ in range(5)]
+    one.send("NACK", [("id", delivered[0].headers["ack"]), ("receipt", "dead")])
+    one.receipt("dead")
+    wrong = Client(port).connect()
+    wrong.send("UNSUBSCRIBE", [("id", "unknown")])
+    assert "E10" in wrong.receive().headers["message"]
+    wrong.close()
+    # CONNECTs, a SUBSCRIBE, SENDs, a NACK and a wrong UNSUBSCRIBE; and CONNECTED, RECEIPTs, MESSAGEs and an ERROR.
+    return (one, other), 3 + 1 + 5 + 1 + 1, 3 + 1 + 5 + 5 + 1 + 1
+
+
+def line_of(process, found):
+    for line in process.stderr:
+        match = LINE.fullmatch(line)
+        if match:
+            found.append([int(it) for it in match.groups()])
+            return
+
+
+def figures(program, checks):
+    with tempfile.TemporaryDirectory(prefix="figures-") as folder:
+        journal, port = pathlib.Path(folder) / "journal", scenario.free_port()
+        subprocess.run([program, "format", "--sparse", journal, str(JOURNAL_BYTES)], check=True)
+        process = subprocess.Popen([program, "serve", journal, str(port)], stdout=subprocess.PIPE, stderr=subprocess.PIPE, text=True)
+        try:
+            assert process.stdout.readline() == f"listening {port}\n"
+            found = []
+            reader = threading.Thread(target=line_of, args=(process, found))
+            reader.start()
+            clients, commands, frames = do_something(port)
+            reader.join(LONGEST)
+            checks.check("the line comes", found)
+            if found:
+                compare(found[0], commands, frames, checks)
+            for client in clients:
+                client.close()
+        finally:
+            process.kill()
+            process.wait()
+
+
+def compare(found, commands, frames, checks):
+    connections, memory, counted, published, refused, messages, held, dead, used, to_repeat = found
+    checks.same("connections", connections, 2)
+    checks.check("their memory", 0 < memory < 1 << 20, memory)
+    # The session of a connection that has ended may end by one more command.
+    checks.check("commands", commands <= counted <= commands + 1, (counted, commands))
+    checks.same("frames", published, frames)
+    checks.same("ERRORs", refused, 1)
+    checks.same("messages", messages, 5)
+    checks.check("their bytes", 5 < held < 5_000, held)
+    checks.same("dead letters", dead, 1)
+    checks.check("bytes used", 0 < used < 100_000, used)
+    checks.same("all commands would be repeated", to_repeat, counted)
+
+
+def main():
+    program = scenario.words_of(__doc__).parse_args().program
+    checks = scenario.Checks()
+    figures(program, checks)
+    return checks.status()
+
+
+if __name__ == "__main__":
+    sys.exit(main())
