@@ -49,6 +49,7 @@ SCRIPTS = [
     Script("tests/scripts.py", "--everywhere"),
     Script("tests/program/statuses.py", light=""),
     Script("tests/program/ping.py", light=""),
+    Script("tests/program/client.py", light=""),
     Script("tests/program/closed_streams.py", light=""),
     Script("tests/program/ending.py", light="--few"),
     Script("tests/program/telling.py", light=""),

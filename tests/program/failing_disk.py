@@ -81,7 +81,7 @@ def formatting(checks):
     for option, further in (((), [("pwrite64", 3, DEVICE_FAILED)]), (("--sparse",), [])):
         for call, number, text in cases + further:
             what, path = f"format {option} without {call} {number}", checks.path("made")
-            checks.same(what, run(checks.words(call, number, "format", *option, path, SMALLEST)), (1, "", text))
+            checks.same(what, run(checks.words(call, number, "format", *option, path, SMALLEST)), (1, "", text.replace("FILE", path)))
             checks.was_injected(what)
             checks.same(f"{what}: the file is there", os.path.exists(path), False)
 
@@ -151,7 +151,7 @@ def limiting(checks):
             words = [checks.program, "format", *option, path, SMALLEST]
             limited = lambda: (signal.signal(signal.SIGXFSZ, handler), limit())
             done = subprocess.run(words, capture_output=True, timeout=60, preexec_fn=limited, restore_signals=False, check=False)
-            checks.same(what, (done.returncode, done.stdout.decode(), done.stderr.decode()), (1, "", TOO_LARGE))
+            checks.same(what, (done.returncode, done.stdout.decode(), done.stderr.decode()), (1, "", TOO_LARGE.replace("FILE", str(path))))
             checks.same(f"{what}: the file is there", os.path.exists(path), False)
 
 
@@ -162,9 +162,9 @@ def what_is_no_file(checks):
     os.mkdir(folder)
     for subcommand in ("show", "held"):
         for path, text in ((fifo, NO_FILE), (folder, DIRECTORY), ("/dev/null", NO_FILE)):
-            checks.same(f"{subcommand} of {path}", run([checks.program, subcommand, path]), (1, "", text))
+            checks.same(f"{subcommand} of {path}", run([checks.program, subcommand, path]), (1, "", text.replace("FILE", path)))
     for path, text in ((fifo, NO_FILE), (folder, DIRECTORY)):
-        checks.same(f"serve over {path}", run([checks.program, "serve", path, str(free_port())]), (1, "", text))
+        checks.same(f"serve over {path}", run([checks.program, "serve", path, str(free_port())]), (1, "", text.replace("FILE", path)))
 
 
 def make(checks, name):
@@ -196,7 +196,7 @@ def showing(checks):
 def locking(checks):
     what, path = "serve without its lock", make(checks, "not-locked")
     before = pathlib.Path(path).read_bytes()
-    checks.same(what, run(checks.words("flock", 1, "serve", path, str(free_port()))), (1, "", CANNOT_OPEN))
+    checks.same(what, run(checks.words("flock", 1, "serve", path, str(free_port()))), (1, "", CANNOT_OPEN.replace("FILE", path)))
     checks.was_injected(what)
     checks.same(f"{what}: the file is as it was", pathlib.Path(path).read_bytes() == before, True)
 

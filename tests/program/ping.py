@@ -8,10 +8,8 @@ Needs Python 3 alone; the gate does not run it.
 PROGRAM is the built program; without it, the one that bin/stompd leaves in crates/stompd/out.
 """
 
-import base64
 import concurrent.futures
 import contextlib
-import hashlib
 import http.server
 import os
 import re
@@ -23,16 +21,17 @@ import sys
 import threading
 import time
 
+from lib.fake_peer import CONNECTED, Peer, close, receipt_of
 from lib.scenario import BUILT, Broker, Checks, built_program, free_port, serving, words_of
 from lib.stomp_client import Client, Closed, Refused
-from lib.wire import BINARY, CLOSE, PING, PONG, TEXT, message_bytes, take_frame
+from lib.wire import BINARY, CLOSE, PING, TEXT
 
 # A step may take five seconds. What a busy machine may add to that.
 STEP, BUSY = 5, 4
 # How many places a full server keeps for pings.
 KEPT = 8
 ANSWERED = re.compile(r"receipt after \d+\.\d{3} ms\n")
-NUMBERS = "stompd: BYTES is a decimal number under 2^64, and PORT one from 1 to 65535\n"
+NO_ADDRESS = "stompd: '{}': PORT is a number from 1 to 65535, or ws://HOST:PORT/PATH in small letters; there is no TLS\n"
 
 
 def ping(program, port):
@@ -50,80 +49,7 @@ def untold(line, status=1):
     return status, "", f"stompd: {line}\n"
 
 
-class Peer:
-    """One that listens, and does with its first client what it is given."""
-
-    def __init__(self, act):
-        self.listener = socket.create_server(("127.0.0.1", 0))
-        self.port, self.act, self.heard, self.fault = self.listener.getsockname()[1], act, [], None
-        self.thread = threading.Thread(target=self.serve)
-        self.thread.start()
-
-    def serve(self):
-        try:
-            self.socket, _ = self.listener.accept()
-            self.socket.settimeout(30)
-            self.stream, self.buffer = self.socket.makefile("rb"), bytearray()
-            self.act(self)
-        except (BrokenPipeError, ConnectionResetError):
-            # It is the ping that has gone.
-            pass
-        except Exception as fault:
-            self.fault = fault
-        finally:
-            self.stream.close()
-            self.socket.close()
-            self.listener.close()
-
-    def shake(self):
-        """Accepts the handshake (RFC 6455, section 4.2.2); answers the lines of its head."""
-        lines = []
-        while line := self.stream.readline().decode().rstrip("\r\n"):
-            lines.append(line)
-        fields = {name.lower(): value.strip() for name, _, value in (line.partition(":") for line in lines[1:])}
-        sum_ = hashlib.sha1((fields["sec-websocket-key"] + "258EAFA5-E914-47DA-95CA-C5AB0DC85B11").encode()).digest()
-        answer = ["HTTP/1.1 101 Switching Protocols", "Upgrade: websocket", "Connection: Upgrade"]
-        answer += [f"Sec-WebSocket-Accept: {base64.b64encode(sum_).decode()}", "Sec-WebSocket-Protocol: v12.stomp"]
-        self.socket.sendall(("\r\n".join(answer) + "\r\n\r\n").encode())
-        return lines
-
-    def hear(self):
-        """The next frame of the WebSocket that is no pong: its opcode and its payload."""
-        kind = PONG
-        while kind == PONG:
-            while (frame := take_frame(self.buffer, is_masked=True)) is None:
-                more = self.stream.read1(65_536)
-                if not more:
-                    raise EOFError("the ping has ended within its talk")
-                self.buffer += more
-            _, kind, payload = frame
-        self.heard.append((kind, payload))
-        return self.heard[-1]
-
-    def say(self, payload, kind=TEXT, is_last=True):
-        self.socket.sendall(message_bytes(kind, payload, is_masked=False, is_last=is_last))
-
-    def wait(self):
-        """Waits for the end of the ping."""
-        while self.socket.recv(4_096):
-            pass
-
-    def end(self):
-        self.thread.join()
-
-
-CONNECTED = b"CONNECTED\nversion:1.2\n\n\0"
 CONNECT_TEXT = b"CONNECT\naccept-version:1.2\nhost:127.0.0.1\n\n\0"
-
-
-def receipt_of(frame):
-    """The RECEIPT that a frame asks for."""
-    name = re.search(rb"^receipt:(.*)$", frame, re.M)[1]
-    return b"RECEIPT\nreceipt-id:" + name + b"\n\n\0"
-
-
-def close(peer, code=1000):
-    peer.say(code.to_bytes(2, "big"), CLOSE)
 
 
 def converse(peer, say=Peer.say):
@@ -320,9 +246,9 @@ def what_is_said(program, checks):
 
 def ports(program, checks):
     """Words that name no port."""
-    for word in ("0", "65536", "x", "+8080", "", "18446744073709551616"):
+    for word in ("0", "65536", "x", "+8080", "", "18446744073709551616", "wss://localhost:1/", "ws://", "ws:///x", "ws://a b:1/", "http://localhost:1/", "ws://localhost:1/a b", "ws://localhost:1/#a"):
         done = subprocess.run([program, "ping", word], capture_output=True, text=True)
-        checks.same(f"no port: {word!r}", (done.returncode, done.stdout, done.stderr), (2, "", NUMBERS))
+        checks.same(f"no port: {word!r}", (done.returncode, done.stdout, done.stderr), (2, "", NO_ADDRESS.format(word)))
     for words in (["ping"], ["ping", "1", "2"], ["ping", "1", "--origin", "null"]):
         done = subprocess.run([program, *words], capture_output=True, text=True)
         checks.check(f"no such words: {words}", done.returncode == 2 and done.stdout == "" and done.stderr, done)
@@ -348,6 +274,10 @@ def running(program, checks):
         checks.check("and that within the step", STEP <= seconds <= STEP + BUSY, seconds)
         seen, _ = ping(program, broker.port)
         checks.check("and one that goes on", is_answered(seen), seen)
+        for url in (f"ws://127.0.0.1:{broker.port}", f"ws://localhost:{broker.port}/", f"ws://localhost:{broker.port}/some/path?a=b"):
+            seen, _ = ping(program, url)
+            checks.check(f"a running server at {url}", is_answered(seen), seen)
+        checks.same("a host that is none", ping(program, f"ws://no.such.host.invalid:{broker.port}/")[0], untold("no connection: there is no such host"))
         broker.process.send_signal(signal.SIGTERM)
         broker.process.wait()
         checks.same("a server that has ended", ping(program, broker.port)[0], untold("no connection: nobody listens there"))

@@ -38,7 +38,7 @@ from lib.stomp_client import Client
 
 SERVE = TOP / "bin" / "serve"
 STATUSES = {signal.SIGTERM: 143, signal.SIGINT: 130, signal.SIGHUP: 129}
-LOCKED = "stompd: cannot open: FILE: another server has its lock\n"
+LOCKED = "another server has its lock\n"
 SMALL_JOURNAL = "131104"
 # What a running server tells has its moment in front.
 EVENT = re.compile(r"stompd: \d{4}-\d\d-\d\dT")
@@ -254,7 +254,7 @@ def a_slow_first_start(checks):
     inode = file.stat().st_ino
     publish(ports[1], "of the quick one")
     go.touch()
-    checks.same("the slow one finds it locked", slow.end(), (1, LOCKED))
+    checks.same("the slow one finds it locked", slow.end(), (1, f"stompd: cannot open: {file}: {LOCKED}"))
     checks.same("and has replaced nothing", (file.stat().st_ino, beside(file)), (inode, []))
     publish(ports[1], "and one more")
     checks.same("the quick one ends", quick.end(signal.SIGTERM)[0], 143)

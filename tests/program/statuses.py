@@ -28,15 +28,27 @@ def told(text):
     return f"stompd: {text}\n"
 
 
-def unopened(why):
-    return told(f"cannot open: {why}")
+def unopened(name, why):
+    return told(f"cannot open: {name}: {why}")
 
 
-MISSING = unopened("FILE: there is no such file")
-NUMBERS = told("BYTES is a decimal number under 2^64, and PORT one from 1 to 65535")
-THREADS = told("the N of --threads is a decimal number from 1 to 64")
-MEMORY = told("the BYTES of --memory are a decimal number from 16777216 on, and under 2^64")
-ORIGINS = told("an ORIGIN is what a browser sends: SCHEME://HOST or SCHEME://HOST:PORT in small letters, with nothing after it")
+def missing(name):
+    return unopened(name, "there is no such file")
+
+
+def unserved(name):
+    return unopened(name, f"there is no such file; stompd format {name} 512M makes a journal")
+
+
+def bad(word, why):
+    return told(f"'{word}': {why}")
+
+
+SIZES = "a size is a number of bytes under 2^64, or of K, M or G (1,024 of each)"
+PORTS = "PORT is a number from 1 to 65535"
+THREADS = "--threads takes a number from 1 to 64"
+MEMORY = "--memory takes a number of bytes from 16777216 (16M) on, and under 2^64"
+ORIGINS = "an origin is what a browser sends: SCHEME://HOST or SCHEME://HOST:PORT in small letters, with nothing after it"
 VERSION = "stompd 0.2.0\n"
 EMPTY = "messages 0 of 4096\nbytes 0 of 16777216\n"
 # Areas of 4,096 bytes.
@@ -74,15 +86,23 @@ def formats(checks, folder):
     checks.check("only its owner may read a journal", os.stat(file).st_mode & 0o777 == 0o600, oct(os.stat(file).st_mode))
     # After -- no word is an option, and a port or size may have leading zeros.
     for again in ([file, str(SMALLEST)], ["--", file, str(SMALLEST)], [file, "--", str(SMALLEST)], [file, str(SMALLEST), "--"], [file, "18446744073709551615"]):
-        checks.run(["format", *again], 1, NOTHING, unopened("FILE: it is there already"))
+        checks.run(["format", *again], 1, NOTHING, unopened(file, "it is there already"))
     for few in (str(SMALLEST - 1), "31", "0"):
         checks.run(["format", other, few], 1, NOTHING, told("J8 disk too small"))
         checks.run(["format", file, few], 1, NOTHING, told("J8 disk too small"))
-    checks.run(["format", str(folder / "none" / "journal"), str(SMALLEST)], 1, NOTHING, MISSING)
-    for number in ("8224x", "+8224", "0x2020", "8 224", "", "18446744073709551616", "99999999999999999999"):
-        checks.run(["format", other, number], 2, NOTHING, NUMBERS)
+    deep = str(folder / "none" / "journal")
+    checks.run(["format", deep, str(SMALLEST)], 1, NOTHING, unopened(deep, "there is no such folder"))
+    for number in ("8224x", "+8224", "0x2020", "8 224", "", "18446744073709551616", "99999999999999999999", "K", "8 K", "8k", "1T", "16777216T", "17179869184G", "1KK", "+9K"):
+        checks.run(["format", other, number], 2, NOTHING, bad(number, SIZES))
     checks.check("refused words make no file", not os.path.exists(other))
     checks.check("refused words change no file", pathlib.Path(file).read_bytes() == made)
+    for text, size in (("9K", 9 * 1_024), ("1M", 1_048_576), ("009K", 9 * 1_024)):
+        path = folder / text
+        checks.run(["format", "--sparse", str(path), text], 0, NOTHING, NOTHING)
+        checks.check(f"{text} are {size} bytes", path.stat().st_size == size, path.stat().st_size)
+    huge = folder / "1G"
+    checks.run(["format", str(huge), "--sparse", "1G"], 0, NOTHING, NOTHING)
+    checks.check("1G are 2^30 bytes", huge.stat().st_size == 1 << 30)
     zeros, odd = str(folder / "zeros"), str(folder / "odd")
     checks.run(["format", zeros, f"000{SMALLEST}"], 0, NOTHING, NOTHING)
     checks.check("leading zeros count for nothing", pathlib.Path(zeros).read_bytes() == made)
@@ -133,11 +153,11 @@ def shows(checks, folder):
     checks.check("held writes nothing into the file", (folder / "journal").read_bytes() == before)
     for further in (["--", str(folder / "journal")], [str(folder / "journal"), "--"]):
         checks.run(["show", *further], 0, shown, NOTHING)
-    checks.run(["show", "--", "--no-such-file"], 1, NOTHING, MISSING)
+    checks.run(["show", "--", "--no-such-file"], 1, NOTHING, missing("--no-such-file"))
     for command in ("show", "held"):
         with open("/dev/full", "wb") as full:
             checks.run([command, str(folder / "journal")], 1, NOTHING, told("input or output failed"), sink=full)
-        checks.run([command, str(folder / "missing")], 1, NOTHING, MISSING)
+        checks.run([command, str(folder / "missing")], 1, NOTHING, missing(folder / "missing"))
         checks.run([command, str(folder)], 1, NOTHING, SOME)
         for path, data, text in broken(folder):
             checks.run([command, str(path)], 1, NOTHING, text)
@@ -160,28 +180,30 @@ def serves(checks, folder):
         before = old_journal(folder).read_bytes()
         # Used are a snapshot of 32 bytes and a block of 109, each with its length before it and its gate after it.
         checks.run(["show", str(folder / "old")], 0, "version 1\narea 0\nused 159\ncount 4\nheld 2\n", NOTHING)
-        in_use = unopened("PORT: another program listens there")
+        in_use = unopened(f"port {port}", "another program listens there")
         for name in ("missing", "journal", "old"):
             checks.run(["serve", str(folder / name), port], 1, NOTHING, in_use)
         checks.check("a start that fails leaves an old journal as it was", (folder / "old").read_bytes() == before)
-    missing = str(folder / "missing")
-    for further in ([missing, port], [missing, f"0{port}"], [missing, "65535"], ["--", missing, port], [missing, "--", port], [missing, port, "--"]):
-        checks.run(["serve", *further], 1, NOTHING, MISSING)
-    checks.run(["serve", str(folder), port], 1, NOTHING, unopened("FILE: it is a directory"))
+    none = str(folder / "missing")
+    for further in ([none, port], [none, f"0{port}"], [none, "65535"], ["--", none, port], [none, "--", port], [none, port, "--"]):
+        checks.run(["serve", *further], 1, NOTHING, unserved(none))
+    for further in ([none, "--port", port], [none, f"--port={port}"]):
+        checks.run(["serve", *further], 2, NOTHING, bad("--port", "there is no such option: the port stands by itself, as in stompd serve FILE 8080"))
+    checks.run(["serve", str(folder), port], 1, NOTHING, unopened(folder, "it is a directory"))
     for path, data, text in broken(folder):
         checks.run(["serve", str(path), port], 1, NOTHING, text)
         checks.check(f"{path.name} is left as it was", path.read_bytes() == data)
     for number in ("0", "65536", "http", "80x", "+80", "", "99999999999999999999"):
-        checks.run(["serve", str(folder / "journal"), number], 2, NOTHING, NUMBERS)
+        checks.run(["serve", str(folder / "journal"), number], 2, NOTHING, bad(number, PORTS))
     for origin in ("https://chat.example/", "https://chat.example/room", "chat.example", "http://Chat.example", "http://", "://x", "http//x", ""):
-        checks.run(["serve", str(folder / "journal"), port, "--origin", origin], 2, NOTHING, ORIGINS)
+        checks.run(["serve", str(folder / "journal"), port, "--origin", "null", "--origin", origin], 2, NOTHING, bad(origin, ORIGINS))
     for number in ("0", "65", "18446744073709551616", "x", "+3", ""):
         for threads in (["--threads", number], [f"--threads={number}"]):
-            checks.run(["serve", str(folder / "journal"), port, *threads], 2, NOTHING, THREADS)
-    for number in ("0", "16777215", "18446744073709551616", "1G", "+16777216", ""):
+            checks.run(["serve", str(folder / "journal"), port, *threads], 2, NOTHING, bad(number, THREADS))
+    for number in ("0", "16777215", "18446744073709551616", "15M", "16T", "+16777216", ""):
         for memory in (["--memory", number], [f"--memory={number}"]):
-            checks.run(["serve", str(folder / "journal"), port, *memory], 2, NOTHING, MEMORY)
-    serving = subprocess.Popen([checks.program, "serve", str(folder / "journal"), port], stdout=subprocess.PIPE, stderr=subprocess.PIPE)
+            checks.run(["serve", str(folder / "journal"), port, *memory], 2, NOTHING, bad(number, MEMORY))
+    serving = subprocess.Popen([checks.program, "serve", str(folder / "journal"), port, "--memory", "16M"], stdout=subprocess.PIPE, stderr=subprocess.PIPE)
     try:
         ready, _, _ = select.select([serving.stdout], [], [], 20)
         line = serving.stdout.readline().decode() if ready else ""
@@ -189,7 +211,7 @@ def serves(checks, folder):
         with socket.create_connection(("127.0.0.1", int(port)), timeout=5):
             pass
         checks.check("a connection that says nothing ends no server", serving.poll() is None)
-        locked = unopened("FILE: another server has its lock")
+        locked = unopened(folder / "journal", "another server has its lock")
         checks.run(["serve", str(folder / "journal"), str(free_port())], 1, NOTHING, locked)
         # A reader of the journal alone asks for no lock.
         checks.run(["held", str(folder / "journal")], 0, EMPTY, NOTHING)

@@ -2,14 +2,19 @@ use Rattle.std.specs.Prelude.{◌≡◌, ◌≢◌, ◌≤◌, ◌⊎◌, List, 
 use Rattle.std.specs.Io.KnownBytes.{Appends, Consumes, IsAtEnd}
 use Rattle.clap.specs.Values.{kind_of}
 use Rattle.clap.specs.declared.error.Error.{Error}
-use Rattle.clap.specs.declared.error.kind.ErrorKind.TheVariants.{OutOfMemory}
+use Rattle.clap.specs.declared.error.kind.ErrorKind.TheVariants.{OutOfMemory, UnknownArgument}
 use Rattle.engine_core.specs.Scripts.{IsScript}
 use Rattle.area_core.specs.declared.faults.FormatFault.TheVariants as formats
 use Rattle.area_core.specs.Texts.{format_text}
-use Rattle.event_log.specs.Unopened.{file_text as unopened_text}
+use Rattle.event_log.specs.Unopened.{reason_text, unopened}
+use Rattle.event_log.specs.declared.unopened.Unopened.{Unopened}
+use Rattle.event_log.specs.declared.unopened.Unopened.TheVariants.{Missing}
+use Rattle.event_log.specs.declared.fault.ServeFault.{ServeFault}
+use Rattle.event_log.specs.declared.fault.ServeFault.TheVariants as serves
+use Rattle.std.specs.Fmt.{decimal}
 use Rattle.engine_core.specs.FaultTexts.{fault_text}
 use Rattle.journal_files.specs.JournalFiles.{Shows, show_text}
-use Rattle.ping_core.specs.Texts.{ping_text}
+use Rattle.client_core.specs.Texts.{client_text}
 use Rattle.event_log.specs.Faults.{serve_text}
 use Rattle.broker_core.specs.States.{empty_state}
 use Rattle.engine_core.specs.Runs.{Stops}
@@ -22,10 +27,14 @@ use Rattle.journal_files.specs.declared.journal_files.ShowFault.TheVariants as s
 use Rattle.command_line.specs.CommandLines.{AskFor, AsksForScript}
 use Rattle.command_line.specs.declared.parsing.Subcommand.{Subcommand}
 use Rattle.command_line.specs.declared.parsing.Subcommand.TheVariants as asks
+use Rattle.command_line.specs.Words.{word_text}
+use Rattle.command_line.specs.declared.words.WordKind.TheVariants as words
+use Rattle.command_line.specs.declared.program.BodyFault.{BodyFault}
+use Rattle.command_line.specs.declared.program.BodyFault.TheVariants as bodies
 use Rattle.command_line.specs.declared.program.FileFault.{FileFault}
 use Rattle.command_line.specs.declared.program.FileFault.TheVariants as files
 use Rattle.command_line.specs.declared.program.Failure.{Failure}
-use Rattle.command_line.specs.declared.program.Failure.TheVariants.{CommandLine, Number, ThreadNumber, MemoryNumber, Origin, Script, Format, File, Server, Ping}
+use Rattle.command_line.specs.declared.program.Failure.TheVariants.{CommandLine, Word, Script, Format, File, Server, Client, Input, Output}
 
 -- a script was read to its end, and what was written is what it prints from an empty journal on, on some disk
 pub record RunsToEnd (unread left before after : Option (List ℕ)) : Type 0 where
@@ -66,13 +75,12 @@ abbrev pub status_of : Failure → ℕ
 status_of (CommandLine error) = 2
 status_of (Script fault) = 1
 status_of (Format fault) = 1
-status_of (File fault) = 1
-status_of (Server fault) = 1
-status_of (Ping fault) = 1
-status_of Number = 2
-status_of ThreadNumber = 2
-status_of MemoryNumber = 2
-status_of Origin = 2
+status_of (File file fault) = 1
+status_of (Server file port fault) = 1
+status_of (Client fault) = 1
+status_of (Input fault) = 1
+status_of Output = 1
+status_of (Word kind word) = 2
 
 -- memory was refused, or the disk was not opened, before the script was read
 abbrev pub IsAtOnce : ScriptFault → Type 0
@@ -82,30 +90,16 @@ IsAtOnce _ = ⊥
 
 -- the failure comes before a script is read: memory was refused, or its disk was not formatted
 abbrev pub IsBeforehand : Failure → Type 0
-IsBeforehand (CommandLine error) = ⊥
 IsBeforehand (Script (scripts.Memory refused)) = Unit {0}
 IsBeforehand (Script _) = ⊥
 IsBeforehand (Format fault) = Unit {0}
-IsBeforehand (File fault) = ⊥
-IsBeforehand (Server fault) = ⊥
-IsBeforehand (Ping fault) = ⊥
-IsBeforehand Number = ⊥
-IsBeforehand ThreadNumber = ⊥
-IsBeforehand MemoryNumber = ⊥
-IsBeforehand Origin = ⊥
+IsBeforehand _ = ⊥
 
 -- the failure is that of a script, or its disk was not formatted
 abbrev pub IsOfScript : Failure → Type 0
-IsOfScript (CommandLine error) = ⊥
 IsOfScript (Script fault) = Unit {0}
 IsOfScript (Format fault) = Unit {0}
-IsOfScript (File fault) = ⊥
-IsOfScript (Server fault) = ⊥
-IsOfScript (Ping fault) = ⊥
-IsOfScript Number = ⊥
-IsOfScript ThreadNumber = ⊥
-IsOfScript MemoryNumber = ⊥
-IsOfScript Origin = ⊥
+IsOfScript _ = ⊥
 
 -- a fault stops a script that began with an empty journal, on some disk
 pub record StopsOnDisk (fault : ScriptFault) (unread left before after : Option (List ℕ)) : Type 0 where
@@ -119,13 +113,12 @@ abbrev pub StopsBy : Failure → Option (List ℕ) → Option (List ℕ) → Opt
 StopsBy (CommandLine error) unread left before after = Untouched unread left before after
 StopsBy (Script fault) unread left before after = (IsAtOnce fault × Untouched unread left before after) ⊎ StopsOnDisk fault unread left before after
 StopsBy (Format fault) unread left before after = Untouched unread left before after
-StopsBy (File fault) unread left before after = (left ≡ unread) × (fault ≢ files.Show shows.Output → after ≡ before)
-StopsBy (Server fault) unread left before after = Untouched unread left before after
-StopsBy (Ping fault) unread left before after = Untouched unread left before after
-StopsBy Number unread left before after = Untouched unread left before after
-StopsBy ThreadNumber unread left before after = Untouched unread left before after
-StopsBy MemoryNumber unread left before after = Untouched unread left before after
-StopsBy Origin unread left before after = Untouched unread left before after
+StopsBy (File file fault) unread left before after = (left ≡ unread) × (fault ≢ files.Show shows.Output → after ≡ before)
+StopsBy Output unread left before after = left ≡ unread
+StopsBy (Word kind word) unread left before after = Untouched unread left before after
+StopsBy (Server file port fault) unread left before after = Untouched unread left before after
+StopsBy (Client fault) unread left before after = Untouched unread left before after
+StopsBy (Input fault) unread left before after = Untouched unread left before after
 
 -- the program ends with what the words ask for: it is done, and a script was read to its end
 pub record Finishes (words : List (List ℕ)) (unread left before after : Option (List ℕ)) : Type 0 where
@@ -142,42 +135,50 @@ abbrev pub IsTooShort : {T : Type 0} → Result T FileFault → Type 0
 IsTooShort (Err (files.Format formats.TooSmall)) = Unit {0}
 IsTooShort _ = ⊥
 
+-- what is told of what can't be opened
+abbrev pub open_text : List ℕ → List ℕ → List ℕ
+open_text name why = codes "cannot open: " ++ name ++ codes ": " ++ why
+
 -- what is told of a journal file that was not made, or not shown
-abbrev pub file_text : FileFault → List ℕ
-file_text (files.Open error) = unopened_text error
-file_text files.NoSpace = codes "no space left for the file"
-file_text (files.Format fault) = format_text fault
-file_text (files.Show fault) = show_text fault
+abbrev pub file_text : List ℕ → FileFault → List ℕ
+file_text file (files.Open error) = open_text file (reason_text (unopened error))
+file_text file files.NoFolder = open_text file (codes "there is no such folder")
+file_text file files.NoSpace = codes "no space left for the file"
+file_text file (files.Format fault) = format_text fault
+file_text file (files.Show fault) = show_text fault
+
+-- what is told of a server's file; if it is missing, that names the command that makes one
+abbrev pub unserved_text : List ℕ → Unopened → List ℕ
+unserved_text file Missing = open_text file (codes "there is no such file; stompd format " ++ file ++ codes " 512M makes a journal")
+unserved_text file why = open_text file (reason_text why)
+
+-- what is told of a server that was not started, or has ended
+abbrev pub server_text : List ℕ → ℕ → ServeFault → List ℕ
+server_text file port (serves.File error) = unserved_text file (unopened error)
+server_text file port (serves.Port why) = open_text (codes "port " ++ decimal port) (reason_text why)
+server_text file port fault = serve_text fault
+
+-- what is told if there is nothing to send
+abbrev pub body_text : BodyFault → List ℕ
+body_text bodies.NoBody = codes "no BODY is given, and standard input has none; '' sends an empty one"
+body_text bodies.TooLong = codes "a body has at most 65536 bytes"
+body_text bodies.Input = codes "input or output failed"
 
 -- the one line of a fault
 abbrev pub line_of : List ℕ → List ℕ
 line_of text = codes "stompd: " ++ text ++ 10 ∷ []
 
--- what is told of a number that is invalid, and of an origin that no browser sends
-abbrev pub number_text : List ℕ
-number_text = codes "BYTES is a decimal number under 2^64, and PORT one from 1 to 65535"
-
-abbrev pub threads_text : List ℕ
-threads_text = codes "the N of --threads is a decimal number from 1 to 64"
-
-abbrev pub memory_text : List ℕ
-memory_text = codes "the BYTES of --memory are a decimal number from 16777216 on, and under 2^64"
-
-abbrev pub origin_text : List ℕ
-origin_text = codes "an ORIGIN is what a browser sends: SCHEME://HOST or SCHEME://HOST:PORT in small letters, with nothing after it"
-
 -- a fault is told in one line; the text of a command line is clap's
 abbrev pub IsTold : Failure → Option (List ℕ) → Option (List ℕ) → Type 0
 IsTold (CommandLine error) before after = Unit {0}
-IsTold Number before after = Appends before after (line_of number_text)
-IsTold ThreadNumber before after = Appends before after (line_of threads_text)
-IsTold MemoryNumber before after = Appends before after (line_of memory_text)
-IsTold Origin before after = Appends before after (line_of origin_text)
+IsTold (Word kind word) before after = Appends before after (line_of (word_text kind word.now))
 IsTold (Script fault) before after = Appends before after (line_of (fault_text fault))
 IsTold (Format fault) before after = Appends before after (line_of (format_text fault))
-IsTold (File fault) before after = Appends before after (line_of (file_text fault))
-IsTold (Server fault) before after = Appends before after (line_of (serve_text fault))
-IsTold (Ping fault) before after = Appends before after (line_of (ping_text fault))
+IsTold (File file fault) before after = Appends before after (line_of (file_text file.now fault))
+IsTold (Server file port fault) before after = Appends before after (line_of (server_text file.now port fault))
+IsTold (Client fault) before after = Appends before after (line_of (client_text fault))
+IsTold (Input fault) before after = Appends before after (line_of (body_text fault))
+IsTold Output before after = Appends before after (line_of (codes "input or output failed"))
 
 -- The program ends with a failure that is no bad command line, and tells it, if that can be written.
 pub record EndsByFault {T E : Type 0} (words : List (List ℕ)) (unread left before after untold all : Option (List ℕ)) (told : Result T E) : Type 0 where
@@ -186,16 +187,9 @@ pub record EndsByFault {T E : Type 0} (words : List (List ℕ)) (unread left bef
   pub fails : FailsBy words unread left before after failure
   pub is_told : OnOk told (IsTold failure untold all)
 
--- the failure tells of a refused command line, or that memory was refused there
+-- The failure tells of a refused command line, or that memory was refused there. A port after `--port` is told in its own words.
 abbrev pub Tells : Error → Failure → Type 0
 Tells error (CommandLine other) = (other ≡ error) × (kind_of error ≢ OutOfMemory)
+Tells error (Word words.PortOption word) = kind_of error ≡ UnknownArgument
 Tells error (Script (scripts.Memory refused)) = kind_of error ≡ OutOfMemory
-Tells error (Script _) = ⊥
-Tells error (Format fault) = ⊥
-Tells error (File fault) = ⊥
-Tells error (Server fault) = ⊥
-Tells error (Ping fault) = ⊥
-Tells error Number = ⊥
-Tells error ThreadNumber = ⊥
-Tells error MemoryNumber = ⊥
-Tells error Origin = ⊥
+Tells error _ = ⊥

@@ -3,3 +3,4 @@ pub mod Failures
 pub mod Origins
 pub mod Pings
 pub mod Views
+pub mod Words

@@ -2,8 +2,12 @@
 
 #![tactic(auto)]
 
+mod addresses;
+mod called;
+mod calling;
 mod given;
 mod making;
+mod misreading;
 mod origins;
 mod parsing;
 mod pinged;
@@ -11,9 +15,15 @@ mod program;
 mod telling;
 mod usage;
 mod viewing;
+mod words;
 
 pub use parsing::{Refused, Subcommand, subcommand_of};
+pub use called::{end_call, tell_taken};
+pub use calling::{Call, Uncalled, call_of, is_call};
 pub use pinged::end_ping;
-pub use program::{BAD_COMMAND_LINE, DONE, Ended, FAILED, Failure, FileFault, run, tool};
+pub use program::{
+    BAD_COMMAND_LINE, BodyFault, DONE, Ended, FAILED, Failure, FileFault, refusal, run, tool,
+};
 pub use telling::end_by;
 pub use viewing::FileView;
+pub use words::WordKind;

@@ -49,7 +49,7 @@ pub fn make_journal<R: Files<File = File> + Clock, P: Write>(
     }
     let mut disk = match FileDisk::create(rt, path, bytes) {
         Ok(disk) => disk,
-        Err(error) => return Err(FileFault::Open(error)),
+        Err(error) => return Err(unmade(error)),
     };
     let filled = if is_sparse {
         Ok(())
@@ -64,6 +64,18 @@ pub fn make_journal<R: Files<File = File> + Clock, P: Write>(
         let _removed = std::fs::remove_file(rt, path);
     }
     made
+}
+
+// Why a file was not made: if something is missing, it is its folder.
+fn unmade(error: OpenError) -> FileFault {
+    match error {
+        OpenError::System(error) if is_missing(&error) => FileFault::NoFolder,
+        error => FileFault::Open(error),
+    }
+}
+
+fn is_missing(error: &io::Error) -> bool {
+    matches!(error.kind(), ErrorKind::NotFound)
 }
 
 // How many bytes a file of this process may have, if the system tells a limit. One more would end the process by a signal, for which it can

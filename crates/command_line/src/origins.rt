@@ -39,7 +39,8 @@ fn names_host(rest: &[u8]) -> bool
     rest.starts_with(b"://") && rest.len() > 3 && are_host_bytes(&rest[3..])
 }
 
-fn are_host_bytes(text: &[u8]) -> bool
+/// Whether these may stand in a host and its port.
+pub fn are_host_bytes(text: &[u8]) -> bool
     ensures { result ≡ list_all is_host_byte text.now }
 {
     text.iter().all(|byte| is_host_byte(*byte))

@@ -6,10 +6,12 @@ ghost use Rattle.std.specs.List.{list_all};
 ghost use Rattle.command_line.specs.Origins.{is_origin};
 ghost use Rattle.command_line.specs.declared.parsing.Subcommand.TheVariants.{Script, Version};
 
+use crate::addresses::address_of;
 use crate::given::{Given, given_by};
 use crate::origins::is_origin;
 use crate::usage::matches_of;
 use clap::Error;
+use client_core::Address;
 use std::alloc::Global;
 use std::convert::AsStr;
 
@@ -26,9 +28,9 @@ pub enum Subcommand<'a> {
     Script,
     /// Says which version the program is of.
     Version,
-    /// Finds out whether the server at a port answers.
+    /// Finds out whether the server at an address answers.
     Ping {
-        port: u16,
+        address: Address<'a>,
     },
     /// Makes a file of so many bytes with an empty journal. Its room is taken on the device, unless it is to be sparse.
     Format {
@@ -194,13 +196,13 @@ fn asked_alone<'a>(given: &Given<'_>, asked: Subcommand<'a>) -> Option<Subcomman
     }
 }
 
-fn ping_asked<'a>(given: &Given<'_>) -> Option<Subcommand<'a>>
+fn ping_asked<'a>(given: &Given<'a>) -> Option<Subcommand<'a>>
     ensures some { IfSome result (AskWith (codes "ping") (words_of given.now)) }
     ensures none { IsNone result → AskNothingWith (codes "ping") (words_of given.now) }
 {
     let text = one_in(&given.arguments)?;
-    let port = port_of(text)?;
-    Some(Subcommand::Ping { port })
+    let address = address_of(text)?;
+    Some(Subcommand::Ping { address })
 }
 
 fn format_asked<'a>(given: &Given<'a>) -> Option<Subcommand<'a>>
@@ -208,7 +210,7 @@ fn format_asked<'a>(given: &Given<'a>) -> Option<Subcommand<'a>>
     ensures none { IsNone result → AskNothingWith (codes "format") (words_of given.now) }
 {
     let (file, text) = two_in(&given.arguments)?;
-    let bytes = number_of(text)?;
+    let bytes = size_of(text)?;
     Some(Subcommand::Format {
         file,
         bytes,
@@ -365,7 +367,7 @@ fn two_in<'a>(arguments: &[&'a str]) -> Option<(&'a str, &'a str)>
 }
 
 /// The port that a text of decimal digits means: from 1 to 65,535.
-fn port_of(text: &str) -> Option<u16>
+pub fn port_of(text: &str) -> Option<u16>
     ensures some { IfSome result (λ port. IsNumber text.now port × (0 < port) × (port < 2 ^ 16)) }
     ensures none { IfNone result ((port : ℕ) → IsNumber text.now port → 0 < port → 2 ^ 16 ≤ port) }
 {
@@ -391,14 +393,14 @@ fn memory_number_of(text: &str) -> Option<u64>
     ensures some { IfSome result (λ number. IsNumber text.now number × (16777216 ≤ number) × (number < 2 ^ 64)) }
     ensures none { IfNone result ((number : ℕ) → IsNumber text.now number → 16777216 ≤ number → 2 ^ 64 ≤ number) }
 {
-    match number_of(text) {
+    match size_of(text) {
         Some(number) if number >= LEAST_MEMORY => Some(number),
         _ => None,
     }
 }
 
 /// The number that a text of decimal digits means.
-fn number_of(text: &str) -> Option<u64>
+pub fn number_of(text: &str) -> Option<u64>
     ensures some { IfSome result (λ number. IsNumber text.now number × (number < 2 ^ 64)) }
     ensures none { IfNone result ((number : ℕ) → IsNumber text.now number → 2 ^ 64 ≤ number) }
 {
@@ -406,4 +408,18 @@ fn number_of(text: &str) -> Option<u64>
         [b'+', ..] => None,
         _ => text.parse::<u64>().ok(),
     }
+}
+
+/// The number of bytes that a text means: decimal digits, perhaps with a K, M or G at their end, which stand for 1,024 of each other.
+fn size_of(text: &str) -> Option<u64> {
+    match text.as_bytes() {
+        [digits @ .., b'K'] => scaled(digits, 1_024),
+        [digits @ .., b'M'] => scaled(digits, 1_048_576),
+        [digits @ .., b'G'] => scaled(digits, 1_073_741_824),
+        _ => number_of(text),
+    }
+}
+
+fn scaled(digits: &[u8], unit: u64) -> Option<u64> {
+    number_of(str::from_utf8(digits).ok()?)?.checked_mul(unit)
 }

@@ -12,21 +12,23 @@ ghost use Rattle.command_line.specs.Failures.{EndsByFault, FailsBy, Finishes, Ru
 use crate::making::make_journal;
 use crate::parsing::{Refused, Subcommand, subcommand_of};
 use crate::telling::end_by;
+use crate::misreading::{Misread, misread};
 use crate::viewing::FileView;
+use crate::words::WordKind;
 use area_core::{FormatFault, format};
 use clap::error::ErrorKind;
 use disk_core::{MemDisk, OpenError};
 use engine_core::{ScriptFault, run_script};
-use event_log::{ServeFault, Unopened};
+use event_log::ServeFault;
 use journal_files::{ShowFault, show, show_held};
-use ping_core::{Cause, PingFault, Step};
+use client_core::{Cause, ClientFault, Step};
 use std::alloc::{AllocError, Global};
 use std::convert::AsStr;
 use std::fs::File;
 use std::io::{Read, Write};
 use std::rt::Files;
 use std::time::Clock;
-use std::{fmt, io};
+use std::io;
 
 /// The status if the program did what it was asked for.
 pub const DONE: u8 = 0;
@@ -51,6 +53,8 @@ const HEADER: u64 = 32;
 pub enum FileFault {
     /// The file could not be made or opened, or it is there already and was to be made.
     Open(OpenError),
+    /// The folder is missing in which it was to be made.
+    NoFolder,
     /// The file system has no room for all of the file. It is not there.
     NoSpace,
     /// It would be too small for a journal, or no journal was written into it.
@@ -59,63 +63,66 @@ pub enum FileFault {
     Show(ShowFault),
 }
 
-/// The text for the user.
-impl fmt::Display for FileFault {
-    ghost use Rattle.std.specs.Prelude.{Some};
-    ghost use Rattle.command_line.specs.Failures.{file_text};
+/// Why there is no body to send.
+#[derive(Clone, Copy)]
+pub enum BodyFault {
+    /// None is given, and standard input is empty or closed.
+    NoBody,
+    /// It has more than 65,536 bytes.
+    TooLong,
+    /// A read failed.
+    Input,
+}
 
-    ghost output = { λ fault. Some (file_text fault) };
+impl BodyFault {
+    ghost use Rattle.std.specs.Prelude.{◌≡◌};
+    ghost use Rattle.command_line.specs.Failures.{body_text};
 
-    fn fmt<W: fmt::Write>(&self, f: &mut fmt::Formatter<W>) -> fmt::Result {
+    /// The text for the user.
+    pub fn text(self) -> &'static str
+        ensures { result.now ≡ body_text self }
+    {
         match self {
-            FileFault::Open(error) => write!(
-                f,
-                "cannot open: FILE: {}",
-                Unopened::of(error).text()
-            ),
-            FileFault::NoSpace => f.write_str("no space left for the file"),
-            FileFault::Format(fault) => write!(f, "{fault}"),
-            FileFault::Show(fault) => write!(f, "{fault}"),
+            BodyFault::NoBody => "no BODY is given, and standard input has none; '' sends an empty one",
+            BodyFault::TooLong => "a body has at most 65536 bytes",
+            BodyFault::Input => "input or output failed",
         }
     }
 }
 
 /// Why the program did not do what it was asked for.
 #[derive(Drop)]
-pub enum Failure {
+pub enum Failure<'a> {
     /// The words ask for nothing that the program does, or for help. The error holds the text for the user.
     CommandLine(clap::Error),
-    /// A number of a file's bytes, or of a port, is invalid.
-    Number,
-    /// A number of threads is invalid.
-    ThreadNumber,
-    /// A number of bytes for clients is invalid.
-    MemoryNumber,
-    /// No browser sends an origin that is in the words.
-    Origin,
+    /// This word is not what stands there.
+    Word(WordKind, &'a str),
     /// The script did not run to its end, or memory was refused before it began.
     Script(ScriptFault),
     /// The script's disk was not formatted.
     Format(FormatFault),
-    /// A journal file was not made, or not shown.
-    File(FileFault),
-    /// A server was not started, or has ended.
-    Server(ServeFault),
-    /// A ping was not answered.
-    Ping(PingFault),
+    /// The journal in this file was not made, or not shown.
+    File(&'a str, FileFault),
+    /// The server of the journal in this file, at this port, was not started, or has ended.
+    Server(&'a str, u16, ServeFault),
+    /// A conversation was not finished.
+    Client(ClientFault),
+    /// What a client was to send was not read.
+    Input(BodyFault),
+    /// Standard output failed.
+    Output,
 }
 
-impl Failure {
+impl Failure<'_> {
     /// The status that the program ends with.
     pub fn status(&self) -> u8
         ensures { result ≡ status_of self.now }
     {
         match self {
-            Failure::CommandLine(_) | Failure::Number | Failure::Origin => BAD_COMMAND_LINE,
-            Failure::ThreadNumber | Failure::MemoryNumber => BAD_COMMAND_LINE,
-            Failure::Script(_) | Failure::Format(_) | Failure::File(_) | Failure::Server(_) =>
-                FAILED,
-            Failure::Ping(_) => FAILED,
+            Failure::CommandLine(_) | Failure::Word(_, _) => BAD_COMMAND_LINE,
+            Failure::Script(_) | Failure::Format(_) | Failure::File(_, _) => FAILED,
+            Failure::Server(_, _, _) | Failure::Client(_) => FAILED,
+            Failure::Input(_) | Failure::Output => FAILED,
         }
     }
 }
@@ -164,14 +171,14 @@ pub fn tool<T: Files<File = File> + Clock, S: AsStr, R: Read, W: Write, E: Write
 ///
 /// On a bad command line nothing is read or written. If the script stops, what was written is what the lines before the fault print,
 /// unless it is the writer that failed.
-pub fn run<T: Files<File = File> + Clock, S: AsStr, R: Read, W: Write, P: Write>(
+pub fn run<'a, T: Files<File = File> + Clock, S: AsStr, R: Read, W: Write, P: Write>(
     rt: &T,
     alloc: Global,
-    words: &[S],
+    words: &'a [S],
     reader: &mut R,
     writer: &mut W,
     progress: &mut P,
-) -> Result<(), Failure>
+) -> Result<(), Failure<'a>>
     ensures finishes { OnOk result (Finishes (map S.text words.now) (R.remaining reader.old) (R.remaining reader.new) (W.contents writer.old) (W.contents writer.new)) }
     ensures command_line { IfErr result (λ failure. status_of failure ≡ 2
         → (AsksForScript (map S.text words.now) → ⊥) × (reader.new ≡ reader.old) × (writer.new ≡ writer.old)) }
@@ -188,39 +195,40 @@ pub fn run<T: Files<File = File> + Clock, S: AsStr, R: Read, W: Write, P: Write>
             },
         ) => match make_journal(alloc, rt, file, bytes, is_sparse, progress) {
             Ok(()) => Ok(()),
-            Err(fault) => Err(Failure::File(fault)),
+            Err(fault) => Err(Failure::File(file, fault)),
         },
         Ok(Subcommand::Show { file }) => match show_file(alloc, rt, file, writer) {
             Ok(()) => Ok(()),
-            Err(fault) => Err(Failure::File(fault)),
+            Err(fault) => Err(Failure::File(file, fault)),
         },
         Ok(Subcommand::Held { file }) => match held_file(alloc, rt, file, writer) {
             Ok(()) => Ok(()),
-            Err(fault) => Err(Failure::File(fault)),
+            Err(fault) => Err(Failure::File(file, fault)),
         },
         // Only `main` may open sockets.
-        Ok(Subcommand::Ping { .. }) => Err(Failure::Ping(PingFault {
+        Ok(Subcommand::Ping { .. }) => Err(Failure::Client(ClientFault {
             step: Step::Connection,
             cause: Cause::System,
         })),
         // A server has threads, which only `main` starts.
-        Ok(Subcommand::Serve { .. }) => Err(Failure::Server(ServeFault::Threads)),
-        Err(Refused::Words(error)) => Err(refusal(error)),
-        Err(Refused::Number) => Err(Failure::Number),
-        Err(Refused::Threads) => Err(Failure::ThreadNumber),
-        Err(Refused::Memory) => Err(Failure::MemoryNumber),
-        Err(Refused::Origin) => Err(Failure::Origin),
+        Ok(Subcommand::Serve { file, port, .. }) =>
+            Err(Failure::Server(file, port, ServeFault::Threads)),
+        Err(Refused::Words(error)) => Err(refusal(words, error)),
+        Err(Refused::Number) => Err(misread(alloc, words, Misread::Number)),
+        Err(Refused::Threads) => Err(misread(alloc, words, Misread::Threads)),
+        Err(Refused::Memory) => Err(misread(alloc, words, Misread::Memory)),
+        Err(Refused::Origin) => Err(misread(alloc, words, Misread::Origin)),
     }
 }
 
 // Writes the program's version.
-fn version<W: Write>(writer: &mut W) -> Result<(), Failure>
+fn version<'a, W: Write>(writer: &mut W) -> Result<(), Failure<'a>>
     ensures ok { OnOk result (Appends (W.contents writer.old) (W.contents writer.new) version_line) }
-    ensures err { IfErr result (λ failure. failure ≡ Failure.File (FileFault.Show ShowFault.Output)) }
+    ensures err { IfErr result (λ failure. failure ≡ Failure.Output) }
 {
     match writer.write_all(b"stompd 0.2.0\n") {
         Ok(()) => Ok(()),
-        Err(_) => Err(Failure::File(FileFault::Show(ShowFault::Output))),
+        Err(_) => Err(Failure::Output),
     }
 }
 
@@ -265,7 +273,11 @@ fn held_file<R: Files<File = File>, W: Write>(
 }
 
 /// Runs a script over a disk in memory, with an empty journal.
-fn script<R: Read, W: Write>(alloc: Global, reader: &mut R, writer: &mut W) -> Result<(), Failure>
+fn script<'a, R: Read, W: Write>(
+    alloc: Global,
+    reader: &mut R,
+    writer: &mut W,
+) -> Result<(), Failure<'a>>
     ensures ok { OnOk result (RunsToEnd (R.remaining reader.old) (R.remaining reader.new) (W.contents writer.old) (W.contents writer.new)) }
     ensures status { IfErr result (λ failure. status_of failure ≡ 1) }
     ensures of_script { IfErr result IsOfScript }
@@ -285,7 +297,7 @@ fn script<R: Read, W: Write>(alloc: Global, reader: &mut R, writer: &mut W) -> R
 }
 
 /// A disk in memory of so many bytes, with an empty journal.
-fn empty_journal(alloc: Global, size: u64) -> Result<MemDisk, Failure>
+fn empty_journal<'a>(alloc: Global, size: u64) -> Result<MemDisk, Failure<'a>>
     requires { 32 ≤ size }
     ensures empty { IfOk result (λ disk. Stands disk.content empty_state) }
     ensures err { IfErr result IsBeforehand }
@@ -300,12 +312,22 @@ fn empty_journal(alloc: Global, size: u64) -> Result<MemDisk, Failure>
     }
 }
 
-/// Why the words were refused. If memory was refused, that is reported as a script's failure.
-fn refusal(error: clap::Error) -> Failure
+/// Why the words were refused. If memory was refused, that is reported as a script's failure. A port after `--port` has a text of its own.
+pub fn refusal<'a, S: AsStr>(words: &'a [S], error: clap::Error) -> Failure<'a>
     ensures { Tells error result }
 {
     match error.kind() {
         ErrorKind::OutOfMemory => Failure::Script(ScriptFault::Memory(AllocError)),
+        ErrorKind::UnknownArgument if has_port_option(words) => {
+            drop(error);
+            Failure::Word(WordKind::PortOption, "--port")
+        }
         _ => Failure::CommandLine(error),
     }
+}
+
+fn has_port_option<S: AsStr>(words: &[S]) -> bool {
+    words
+        .iter()
+        .any(|word| word.as_str() == "--port" || word.as_str().starts_with("--port="))
 }

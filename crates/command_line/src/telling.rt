@@ -1,15 +1,17 @@
 //! Telling the user why the program did not do what it was asked for, and how it ends by that.
 
 ghost use Rattle.std.specs.Prelude.{◌≡◌, OnOk};
-ghost use Rattle.command_line.specs.Failures.{IsTold, status_of};
+ghost use Rattle.std.specs.Io.KnownBytes.{Appends};
+ghost use Rattle.command_line.specs.Failures.{IsTold, file_text, line_of, server_text, status_of};
 
-use crate::program::{Ended, Failure};
+use crate::program::{Ended, Failure, FileFault};
+use event_log::{ServeFault, Unopened};
 use std::io;
 use std::io::Write;
 
 /// Tells a failure, and how the program ends by it. The text about the command line, or one line with the fault, is written to
 /// `errors`.
-pub fn end_by<E: Write>(failure: &Failure, errors: &mut E) -> Ended
+pub fn end_by<E: Write>(failure: &Failure<'_>, errors: &mut E) -> Ended
     ensures status { result.status ≡ status_of failure.now }
     ensures told { OnOk result.told (IsTold failure.now (E.contents errors.old) (E.contents errors.new)) }
 {
@@ -21,31 +23,60 @@ pub fn end_by<E: Write>(failure: &Failure, errors: &mut E) -> Ended
 }
 
 // Tells the user. The error is the writer's.
-fn tell<E: Write>(failure: &Failure, errors: &mut E) -> io::Result<()>
+fn tell<E: Write>(failure: &Failure<'_>, errors: &mut E) -> io::Result<()>
     ensures { OnOk result (IsTold failure.now (E.contents errors.old) (E.contents errors.new)) }
 {
     match failure {
         Failure::CommandLine(error) => write!(errors, "{error}"),
-        Failure::Number => writeln!(
-            errors,
-            "stompd: BYTES is a decimal number under 2^64, and PORT one from 1 to 65535"
-        ),
-        Failure::ThreadNumber => writeln!(
-            errors,
-            "stompd: the N of --threads is a decimal number from 1 to 64"
-        ),
-        Failure::MemoryNumber => writeln!(
-            errors,
-            "stompd: the BYTES of --memory are a decimal number from 16777216 on, and under 2^64"
-        ),
-        Failure::Origin => writeln!(
-            errors,
-            "stompd: an ORIGIN is what a browser sends: SCHEME://HOST or SCHEME://HOST:PORT in small letters, with nothing after it"
-        ),
+        Failure::Word(kind, word) => writeln!(errors, "stompd: '{word}': {}", kind.text()),
         Failure::Script(fault) => writeln!(errors, "stompd: {fault}"),
         Failure::Format(fault) => writeln!(errors, "stompd: {fault}"),
-        Failure::File(fault) => writeln!(errors, "stompd: {fault}"),
-        Failure::Server(fault) => writeln!(errors, "stompd: {fault}"),
-        Failure::Ping(fault) => writeln!(errors, "stompd: {fault}"),
+        Failure::File(file, fault) => tell_file(file, fault, errors),
+        Failure::Server(file, port, fault) => tell_server(file, *port, fault, errors),
+        Failure::Client(fault) => writeln!(errors, "stompd: {fault}"),
+        Failure::Input(fault) => writeln!(errors, "stompd: {}", fault.text()),
+        Failure::Output => writeln!(errors, "stompd: input or output failed"),
+    }
+}
+
+// Tells why a journal file was not made, or not shown.
+fn tell_file<E: Write>(file: &str, fault: &FileFault, errors: &mut E) -> io::Result<()>
+    ensures { OnOk result (Appends (E.contents errors.old) (E.contents errors.new) (line_of (file_text file.now fault.now))) }
+{
+    match fault {
+        FileFault::Open(error) => writeln!(
+            errors,
+            "stompd: cannot open: {file}: {}",
+            Unopened::of(error).text()
+        ),
+        FileFault::NoFolder => writeln!(
+            errors,
+            "stompd: cannot open: {file}: there is no such folder"
+        ),
+        FileFault::NoSpace => writeln!(errors, "stompd: no space left for the file"),
+        FileFault::Format(fault) => writeln!(errors, "stompd: {fault}"),
+        FileFault::Show(fault) => writeln!(errors, "stompd: {fault}"),
+    }
+}
+
+// Tells why a server was not started, or has ended. If there is no journal, it names the command that makes one.
+fn tell_server<E: Write>(
+    file: &str,
+    port: u16,
+    fault: &ServeFault,
+    errors: &mut E,
+) -> io::Result<()>
+    ensures { OnOk result (Appends (E.contents errors.old) (E.contents errors.new) (line_of (server_text file.now port fault.now))) }
+{
+    match fault {
+        ServeFault::File(error) => match Unopened::of(error) {
+            Unopened::Missing => writeln!(
+                errors,
+                "stompd: cannot open: {file}: there is no such file; stompd format {file} 512M makes a journal"
+            ),
+            why => writeln!(errors, "stompd: cannot open: {file}: {}", why.text()),
+        },
+        ServeFault::Port(why) => writeln!(errors, "stompd: cannot open: port {port}: {}", why.text()),
+        _ => writeln!(errors, "stompd: {fault}"),
     }
 }

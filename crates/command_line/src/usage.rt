@@ -25,6 +25,9 @@ pub(crate) fn matches_of<'a, S: AsStr>(
             "Shows which queues and durable subscriptions hold messages, most first",
         )?)?
         .subcommand(ping_command(alloc)?)?
+        .subcommand(send_command(alloc)?)?
+        .subcommand(listen_command(alloc)?)?
+        .subcommand(forget_command(alloc)?)?
         .subcommand(serve_command(alloc)?)?
         .subcommand(Command::new(alloc, "script").about(
             "Reads what connections say from standard input, prints what they hear",
@@ -57,21 +60,102 @@ fn file_command<'a>(
         .arg(file_argument(alloc))
 }
 
-fn ping_command<'a>(alloc: Global) -> Result<Command<'a>, AllocError> {
-    let port = Arg::new(alloc, "PORT")
+// An argument that has to be given.
+fn argument<'a>(alloc: Global, name: &'a str, help: &'a str) -> Arg<'a> {
+    Arg::new(alloc, name)
         .required(true)
-        .help("From 1 to 65535")
-        .action(ArgAction::Set);
+        .help(help)
+        .action(ArgAction::Set)
+}
+
+// An option without a value.
+fn flag<'a>(alloc: Global, name: &'a str, help: &'a str) -> Arg<'a> {
+    Arg::new(alloc, name)
+        .long(name)
+        .help(help)
+        .action(ArgAction::SetTrue)
+}
+
+// The server that a client talks to.
+fn server_argument<'a>(alloc: Global) -> Arg<'a> {
+    argument(
+        alloc,
+        "PORT",
+        "From 1 to 65535, for ws://127.0.0.1:PORT; or ws://HOST:PORT/PATH",
+    )
+}
+
+fn ping_command<'a>(alloc: Global) -> Result<Command<'a>, AllocError> {
     Command::new(alloc, "ping")
-        .about("Says how long a RECEIPT of the server at ws://127.0.0.1:PORT takes")
-        .arg(port)
+        .about("Says how long a RECEIPT of the server at PORT takes")
+        .arg(server_argument(alloc))
+}
+
+fn send_command<'a>(alloc: Global) -> Result<Command<'a>, AllocError> {
+    let body = Arg::new(alloc, "BODY")
+        .help("What is sent; standard input if it is not given")
+        .action(ArgAction::Set);
+    let header = Arg::new(alloc, "header")
+        .long("header")
+        .value_name("NAME:VALUE")
+        .help("A header that the message keeps; may be repeated")
+        .action(ArgAction::Append);
+    Command::new(alloc, "send")
+        .about("Sends a message, and ends once its RECEIPT has come: it is on disk")
+        .arg(server_argument(alloc))?
+        .arg(argument(alloc, "DESTINATION", "/queue/NAME or /topic/NAME"))?
+        .arg(body)?
+        .arg(header)?
+        .arg(flag(
+            alloc,
+            "lines",
+            "Sends each line of standard input as a message",
+        ))
+}
+
+fn listen_command<'a>(alloc: Global) -> Result<Command<'a>, AllocError> {
+    let count = Arg::new(alloc, "N")
+        .long("count")
+        .help("Ends after so many messages")
+        .action(ArgAction::Set);
+    let durable = Arg::new(alloc, "durable")
+        .long("durable")
+        .num_args(2)
+        .value_names(&["CLIENT", "NAME"])
+        .help("Under this durable name of this client-id: a topic keeps messages for it")
+        .action(ArgAction::Set);
+    Command::new(alloc, "listen")
+        .about("Prints the bodies of messages, each with an end of line")
+        .arg(server_argument(alloc))?
+        .arg(argument(alloc, "DESTINATION", "/queue/NAME or /topic/NAME"))?
+        .arg(count)?
+        .arg(flag(
+            alloc,
+            "settle",
+            "Takes each message once it is printed; without it a queue or durable name shows 16 at most, and keeps them",
+        ))?
+        .arg(durable)?
+        .arg(flag(
+            alloc,
+            "headers",
+            "Prints the headers and an empty line before each body",
+        ))
+}
+
+fn forget_command<'a>(alloc: Global) -> Result<Command<'a>, AllocError> {
+    Command::new(alloc, "forget")
+        .about("Gives up a durable name, with all messages that wait under it")
+        .arg(server_argument(alloc))?
+        .arg(argument(alloc, "CLIENT", "The client-id that it belongs to"))?
+        .arg(argument(alloc, "NAME", "Its activemq.subscriptionName"))
 }
 
 fn format_command<'a>(alloc: Global) -> Result<Command<'a>, AllocError> {
-    let bytes = Arg::new(alloc, "BYTES")
-        .required(true)
-        .help("Its size, 8224 at least; each of its two areas has half of it")
-        .action(ArgAction::Set);
+    let bytes = argument(
+        alloc,
+        "BYTES",
+        "Its size, 8224 at least, as 512M; each of its two areas has half of it",
+    );
     let sparse = Arg::new(alloc, "sparse")
         .long("sparse")
         .help("Takes no room on the disk yet: the file takes it as it fills")
@@ -84,10 +168,7 @@ fn format_command<'a>(alloc: Global) -> Result<Command<'a>, AllocError> {
 }
 
 fn serve_command<'a>(alloc: Global) -> Result<Command<'a>, AllocError> {
-    let port = Arg::new(alloc, "PORT")
-        .required(true)
-        .help("From 1 to 65535")
-        .action(ArgAction::Set);
+    let port = argument(alloc, "PORT", "From 1 to 65535");
     let origin = Arg::new(alloc, "ORIGIN")
         .long("origin")
         .help(
@@ -103,7 +184,7 @@ fn serve_command<'a>(alloc: Global) -> Result<Command<'a>, AllocError> {
     let memory = Arg::new(alloc, "BYTES")
         .long("memory")
         .help(
-            "Lets clients hold so many bytes together, 16777216 at least, 1073741824 if it is not given; beyond that whoever holds most is given up",
+            "Lets clients hold so many bytes together, 16M at least, 1G if it is not given; beyond that whoever holds most is given up",
         )
         .action(ArgAction::Set);
     let until_eof = Arg::new(alloc, "until-eof")

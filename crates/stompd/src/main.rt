@@ -2,11 +2,16 @@
 
 #![tactic(auto)]
 
+mod calls;
+
+use calls::run_call;
+use client_core::Address;
 use command_line::{
-    BAD_COMMAND_LINE, DONE, FAILED, Failure, Subcommand, end_by, end_ping, subcommand_of, tool,
+    BAD_COMMAND_LINE, DONE, FAILED, Failure, Subcommand, end_by, end_ping, is_call, subcommand_of,
+    tool,
 };
 use engine_core::ScriptFault;
-use ping_client::ping;
+use client_socket::ping;
 use server_core::{Ender, Reception, ServeEnd, ServeFault, Server, Unopened};
 use std::alloc::{AllocError, Global};
 use std::fs::{File, Files, OpenOptions};
@@ -30,6 +35,7 @@ fn main(rt: HostRuntime) -> ExitCode {
     };
     let status = match served(rt.alloc(), words.as_slice()) {
         Some(asked) => {
+            let (file, port) = (asked.file, asked.port);
             let input = rt.stdin().lock();
             let errors = rt.stderr().lock();
             let mut writer = rt.stdout().lock();
@@ -37,7 +43,7 @@ fn main(rt: HostRuntime) -> ExitCode {
                 Ok(is_open) => serve(&rt, rt.alloc(), asked, &is_open, input, errors, &mut writer),
                 Err(fault) => ServeEnd::Fault(fault),
             };
-            status_of(&rt, rt.alloc(), end, rt.stderr())
+            status_of(&rt, rt.alloc(), (file, port), end, rt.stderr())
         }
         None => run_other(&rt, words.as_slice()),
     };
@@ -54,7 +60,7 @@ fn hold_standard_streams(rt: &HostRuntime) -> Result<(), u8> {
             Ok(()) => {}
             Err(error) => {
                 let fault = ServeFault::Streams(Unopened::by(error.kind()));
-                return Err(told(rt, &Failure::Server(fault)));
+                return Err(told(rt, &Failure::Server("", 0, fault)));
             }
         }
     }
@@ -76,7 +82,13 @@ const PATIENCE: u64 = 500;
 
 /// The status of a server that has ended so. A fault is reported, by a thread that is not waited for longer than half a second: if nobody
 /// reads standard error and it is full, the program ends all the same, and its port is free.
-fn status_of<R, E>(rt: &R, alloc: Global, end: ServeEnd, errors: E) -> u8
+fn status_of<R, E>(
+    rt: &R,
+    alloc: Global,
+    (file, port): (&str, u16),
+    end: ServeEnd,
+    errors: E,
+) -> u8
 where
     R: Threads + Wait,
     E: Write + Drop + Send + 'static,
@@ -88,14 +100,16 @@ where
         }
         ServeEnd::Fault(fault) => fault,
     };
-    if let Ok(reported) = report(rt, alloc, Failure::Server(fault), errors) {
+    let mut text = Vec::new(alloc);
+    drop(end_by(&Failure::Server(file, port, fault), &mut text));
+    if let Ok(reported) = report(rt, alloc, text, errors) {
         reported.park_timeout(rt, Duration::from_millis(PATIENCE));
     }
     FAILED
 }
 
-/// Starts a thread that reports a failure, and then wakes anyone who waits for that.
-fn report<R, E>(rt: &R, alloc: Global, failure: Failure, errors: E) -> io::Result<Arc<Parker>>
+/// Starts a thread that reports a failure by this text, and then wakes anyone who waits for that.
+fn report<R, E>(rt: &R, alloc: Global, text: Vec<u8>, errors: E) -> io::Result<Arc<Parker>>
 where
     R: Threads,
     E: Write + Drop + Send + 'static,
@@ -104,7 +118,7 @@ where
     let wakes = reported.clone()?;
     let mut errors = errors;
     let reports = move || {
-        drop(end_by(&failure, &mut errors));
+        drop(errors.write_all(text.as_slice()));
         wakes.unpark();
     };
     thread::spawn(rt, reports)?;
@@ -271,25 +285,28 @@ fn served(alloc: Global, words: &[String]) -> Option<Asked<'_>> {
 
 /// What the words ask for, if that is no server, and the status.
 fn run_other(rt: &HostRuntime, words: &[String]) -> u8 {
+    if is_call(words) {
+        return run_call(rt, words);
+    }
     match pinged(rt.alloc(), words) {
-        Some(port) => run_ping(rt, port),
+        Some(address) => run_ping(rt, address),
         None => run_tool(rt, words),
     }
 }
 
-/// The port of the server that is to be pinged, if the words ask for that.
-fn pinged(alloc: Global, words: &[String]) -> Option<u16> {
+/// The address of the server that is to be pinged, if the words ask for that.
+fn pinged(alloc: Global, words: &[String]) -> Option<Address<'_>> {
     match subcommand_of(alloc, words) {
-        Ok(Subcommand::Ping { port }) => Some(port),
+        Ok(Subcommand::Ping { address }) => Some(address),
         _ => None,
     }
 }
 
-/// Pings the server at that port, tells what that came to, and answers the status.
-fn run_ping(rt: &HostRuntime, port: u16) -> u8 {
+/// Pings the server at that address, tells what that came to, and answers the status.
+fn run_ping(rt: &HostRuntime, address: Address<'_>) -> u8 {
     let mut writer = rt.stdout().lock();
     let mut errors = rt.stderr().lock();
-    let pinged = ping(rt, rt.alloc(), port);
+    let pinged = ping(rt, rt.alloc(), address);
     end_ping(pinged, &mut writer, &mut errors).status
 }
 

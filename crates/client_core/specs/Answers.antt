@@ -1,0 +1,82 @@
+-- What a ping says, and what answers it.
+use Rattle.std.specs.Prelude.{◌≡◌, ◌≢◌, ◌⊎◌, List, [], ◌∷◌, ◌++◌, ℕ, Bool, true, false, Option, None, Some, codes, unwrap_or}
+use Rattle.frame_core.specs.declared.fault.FrameFault.{FrameFault}
+use Rattle.frame_core.specs.declared.frame.Frame.{Frame}
+use Rattle.frame_core.specs.declared.frame.Verb.TheVariants as verbs
+use Rattle.frame_core.specs.Streams.{Fails, Reads}
+use Rattle.frame_core.specs.Writable.{first_of}
+use Rattle.script_text.specs.PercentTexts.{encoded}
+use Rattle.client_core.specs.declared.fault.Cause.{Cause}
+use Rattle.client_core.specs.declared.fault.Cause.TheVariants.{Error, Other, NotStomp}
+use Rattle.client_core.specs.declared.fault.Step.{Step}
+use Rattle.client_core.specs.declared.fault.Step.TheVariants.{Connected, Receipt, Farewell}
+use Rattle.client_core.specs.declared.stage.Stage.{Stage}
+use Rattle.client_core.specs.declared.stage.Stage.TheVariants.{Connect, Send, Disconnect}
+
+-- the frame that is said (STOMP 1.2, "CONNECT or STOMP Frame", "SEND", "DISCONNECT"), up to its NUL
+abbrev pub said : Stage → List ℕ
+said Connect = codes "CONNECT\naccept-version:1.2\nhost:127.0.0.1\n\n" ++ 0 ∷ []
+said Send = codes "SEND\ndestination:/topic/stompd-ping\nreceipt:sent\n\nping" ++ 0 ∷ []
+said Disconnect = codes "DISCONNECT\nreceipt:left\n\n" ++ 0 ∷ []
+
+-- the step that goes wrong if no answer comes
+abbrev pub step_of : Stage → Step
+step_of Connect = Connected
+step_of Send = Receipt
+step_of Disconnect = Farewell
+
+-- its first `receipt-id` is that one
+abbrev pub HasId : List ℕ → Frame → Type 0
+HasId id frame = first_of (codes "receipt-id") frame.headers ≡ Some id
+
+-- the frame is the RECEIPT with that id (STOMP 1.2, "RECEIPT")
+abbrev pub IsReceiptOf : List ℕ → Frame → Type 0
+IsReceiptOf id frame = (frame.verb ≡ verbs.Receipt) × HasId id frame
+
+-- the frame answers what was said (STOMP 1.2, "CONNECTED Frame", "RECEIPT")
+abbrev pub IsAnswer : Stage → Frame → Type 0
+IsAnswer Connect frame = frame.verb ≡ verbs.Connected
+IsAnswer Send frame = IsReceiptOf (codes "sent") frame
+IsAnswer Disconnect frame = IsReceiptOf (codes "left") frame
+
+-- what came is no frame yet, or the answer alone
+abbrev pub AreHeard : Stage → List Frame → Bool → Type 0
+AreHeard stage frames false = frames ≡ []
+AreHeard stage frames true = (frame : Frame) × (frames ≡ frame ∷ []) × IsAnswer stage frame
+
+abbrev pub AreRight : Stage → List Frame → Type 0
+AreRight stage frames = (is_answered : Bool) × AreHeard stage frames is_answered
+
+-- the bytes are such frames, and the beginning of one more
+abbrev pub Hears : Stage → List ℕ → List ℕ → Bool → Type 0
+Hears stage bytes rest is_answered = (frames : List Frame) × Reads bytes frames rest × AreHeard stage frames is_answered
+
+-- this is the first of the frames that should not have come: it stands first and is no answer, or stands after the answer
+abbrev pub IsWrong : Stage → List Frame → Frame → Type 0
+IsWrong stage frames frame =
+    ((others : List Frame) × (frames ≡ frame ∷ others) × (IsAnswer stage frame → ⊥))
+    ⊎ ((answer : Frame) × (others : List Frame) × (frames ≡ answer ∷ frame ∷ others) × IsAnswer stage answer)
+
+-- what an ERROR says of itself: its first `message`, as text of one line (STOMP 1.2, "ERROR")
+abbrev pub told_by : Frame → List ℕ
+told_by frame = encoded (unwrap_or (first_of (codes "message") frame.headers) [])
+
+-- what is told of a frame that should not have come
+abbrev pub IsCauseBy : Frame → Cause → Type 0
+IsCauseBy frame (Error text) = (frame.verb ≡ verbs.Error) × (text ≡ told_by frame)
+IsCauseBy frame (Other verb) = (frame.verb ≡ verb) × (verb ≢ verbs.Error)
+IsCauseBy frame _ = ⊥
+
+-- what is told of frames, and of the fault after them: that it is not STOMP is told only if all before the fault was right
+abbrev pub IsCauseOf : Stage → List Frame → Option FrameFault → Cause → Type 0
+IsCauseOf stage frames fault NotStomp = (code : FrameFault) × (fault ≡ Some code) × AreRight stage frames
+IsCauseOf stage frames fault cause = (frame : Frame) × IsWrong stage frames frame × IsCauseBy frame cause
+
+-- the bytes are these frames, and the beginning of one more, or a fault
+abbrev pub Gives : List ℕ → List Frame → Option FrameFault → Type 0
+Gives bytes frames None = (rest : List ℕ) × Reads bytes frames rest
+Gives bytes frames (Some fault) = Fails bytes frames fault
+
+-- with these bytes the answer does not come, for that cause
+abbrev pub Breaks : Stage → List ℕ → Cause → Type 0
+Breaks stage bytes cause = (frames : List Frame) × (fault : Option FrameFault) × Gives bytes frames fault × IsCauseOf stage frames fault cause

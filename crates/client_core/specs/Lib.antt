@@ -1,0 +1,5 @@
+pub mod Answers
+pub mod Deeds
+pub mod Requests
+pub mod Talks
+pub mod Texts

@@ -1,0 +1,69 @@
+-- What a client and its peer say to each other.
+use Rattle.std.specs.Prelude.{◌≡◌, ◌⊎◌, List, [], ◌∷◌, ◌++◌, ℕ, Option, None, Some, true, map, ⊤}
+use Rattle.std.specs.List.{flat_map}
+use Rattle.client_core.specs.Answers.{Breaks, Hears, said, step_of}
+use Rattle.client_core.specs.declared.fault.Cause.{Cause}
+use Rattle.client_core.specs.declared.fault.Cause.TheVariants.{Error, Other, NotStomp}
+use Rattle.client_core.specs.declared.fault.ClientFault.{ClientFault}
+use Rattle.client_core.specs.declared.stage.Stage.{Stage}
+use Rattle.client_core.specs.declared.stage.Stage.TheVariants.{Connect, Send, Disconnect}
+
+-- the client has said a frame, or heard a piece of what the peer says, or shown a text to the user
+pub data Spoken : Type 0 where
+  Said : List ℕ → Spoken
+  Heard : List ℕ → Spoken
+  Shown : List ℕ → Spoken
+
+-- a talk that is told goes on by this
+abbrev pub Adds : List Spoken → Option (List Spoken) → Option (List Spoken) → Type 0
+Adds more None after = ⊤
+Adds more (Some before) None = ⊥
+Adds more (Some before) (Some after) = after ≡ before ++ more
+
+-- the cause is not that of a frame, or of bytes that are no frame
+abbrev pub IsOfPeer : Cause → Type 0
+IsOfPeer (Error text) = ⊥
+IsOfPeer (Other verb) = ⊥
+IsOfPeer NotStomp = ⊥
+IsOfPeer _ = Unit {0}
+
+-- the bytes of pieces
+abbrev pub all_of : List (List ℕ) → List ℕ
+all_of pieces = flat_map (λ piece. piece) pieces
+
+-- the pieces, however they are cut, are one frame, which answers, and perhaps the beginning of one more
+abbrev pub IsAnswered : Stage → List (List ℕ) → Type 0
+IsAnswered stage pieces = (rest : List ℕ) × Hears stage (all_of pieces) rest true
+
+-- a frame that is said, and the pieces that are heard then
+abbrev pub turn : List ℕ → List (List ℕ) → List Spoken
+turn frame pieces = Said frame ∷ map Heard pieces
+
+-- the frame is said, and answered as that stage awaits
+abbrev pub Answers : Stage → List ℕ → Option (List Spoken) → Option (List Spoken) → Type 0
+Answers stage frame before after = (pieces : List (List ℕ)) × Adds (turn frame pieces) before after × IsAnswered stage pieces
+
+-- the frame is said, and not answered so, for that cause, which the pieces give
+abbrev pub Refuses : Stage → List ℕ → Cause → Option (List Spoken) → Option (List Spoken) → Type 0
+Refuses stage frame cause before after = (pieces : List (List ℕ)) × Adds (turn frame pieces) before after × Breaks stage (all_of pieces) cause
+
+-- the frame is not answered as that stage awaits: the fault is the peer's, or of the stage's step and what was heard
+abbrev pub IsUnanswered : Stage → List ℕ → ClientFault → Option (List Spoken) → Option (List Spoken) → Type 0
+IsUnanswered stage frame fault before after = IsOfPeer fault.cause ⊎ ((fault.step ≡ step_of stage) × Refuses stage frame fault.cause before after)
+
+-- the talk that leads to a stage: what is said before it is answered
+abbrev pub Leads : Stage → List Spoken → Type 0
+Leads Connect talk = talk ≡ []
+Leads Send talk = (one : List (List ℕ)) × (talk ≡ turn (said Connect) one) × IsAnswered Connect one
+Leads Disconnect talk = (one : List (List ℕ)) × (two : List (List ℕ)) × (talk ≡ turn (said Connect) one ++ turn (said Send) two) × IsAnswered Connect one × IsAnswered Send two
+
+-- the whole conversation of a ping: CONNECT, SEND and DISCONNECT, each said once the one before is answered, and all answered
+abbrev pub Converses : Option (List Spoken) → Option (List Spoken) → Type 0
+Converses before after =
+    (talk : List Spoken) × (last : List (List ℕ)) × Leads Disconnect talk × Adds (talk ++ turn (said Disconnect) last) before after × IsAnswered Disconnect last
+
+-- At the stage of a fault's step, what was heard is no answer, for the fault's cause; all that was said before is answered.
+abbrev pub BreaksOff : ClientFault → Option (List Spoken) → Option (List Spoken) → Type 0
+BreaksOff fault before after =
+    (stage : Stage) × (talk : List Spoken) × (last : List (List ℕ)) × (fault.step ≡ step_of stage) × Leads stage talk
+    × Adds (talk ++ turn (said stage) last) before after × Breaks stage (all_of last) fault.cause

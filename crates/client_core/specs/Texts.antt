@@ -1,0 +1,49 @@
+-- What is told of a conversation that was not finished.
+use Rattle.std.specs.Prelude.{Bool, List, ℕ, ◌++◌, ◌==◌, codes, cond, false}
+use Rattle.std.specs.Fmt.{decimal}
+use Rattle.frame_core.specs.Verbs.{name_of}
+use Rattle.client_core.specs.declared.fault.Cause.{Cause}
+use Rattle.client_core.specs.declared.fault.Cause.TheVariants.{Unserved, NoHost, Late, Silent, Status, NotWebSocket, Closed, Ended, Error, Other, NotStomp, Unwritable, Output, Memory, System}
+use Rattle.client_core.specs.declared.fault.ClientFault.{ClientFault}
+use Rattle.client_core.specs.declared.fault.Step.{Step}
+use Rattle.client_core.specs.declared.fault.Step.TheVariants.{Connection, Handshake, Connected, Receipt, Message, Farewell, Close}
+
+-- what did not come
+abbrev pub step_text : Step → List ℕ
+step_text Connection = codes "no connection: "
+step_text Handshake = codes "no handshake: "
+step_text Connected = codes "no CONNECTED: "
+step_text Receipt = codes "no RECEIPT: "
+step_text Message = codes "no more messages: "
+step_text Farewell = codes "no RECEIPT of the DISCONNECT: "
+step_text Close = codes "no close: "
+
+-- why it did not come
+abbrev pub cause_text : Cause → List ℕ
+cause_text Unserved = codes "nobody listens there"
+cause_text NoHost = codes "there is no such host"
+cause_text Silent = codes "nothing came for 90 s"
+cause_text Late = codes "no answer within 5 s"
+cause_text (Status status) = codes "HTTP status " ++ decimal status
+cause_text NotWebSocket = codes "what came is no WebSocket"
+cause_text (Closed code) = codes "closed with " ++ decimal code
+cause_text Ended = codes "the connection has ended"
+cause_text (Error text) = codes "ERROR: " ++ text
+cause_text (Other verb) = name_of verb ++ codes " came"
+cause_text NotStomp = codes "what came is no STOMP"
+cause_text Unwritable = codes "no frame can have such a header"
+cause_text Output = codes "input or output failed"
+cause_text Memory = codes "out of memory"
+cause_text System = codes "the system refuses it"
+
+abbrev pub client_text : ClientFault → List ℕ
+client_text fault = step_text fault.step ++ cause_text fault.cause
+
+-- the server has all the clients that it takes: it answers the handshake with 503 (RFC 9110, 15.6.4)
+abbrev pub is_of_full : Step → Cause → Bool
+is_of_full Handshake (Status status) = status == 503
+is_of_full _ _ = false
+
+-- the status of a ping that was not answered: a server that is full is alive
+abbrev pub ping_status : ClientFault → ℕ
+ping_status fault = cond (is_of_full fault.step fault.cause) 3 1

@@ -1,0 +1,152 @@
+//! Which step of a conversation went wrong, and why.
+
+use frame_core::{Text, Verb};
+use std::fmt;
+
+/// A step of a conversation. Each may take five seconds, but for a message, which may take 90.
+#[derive(Clone, Copy)]
+pub enum Step {
+    /// The connection to the port.
+    Connection,
+    /// The handshake of the WebSocket.
+    Handshake,
+    /// CONNECTED, which answers the CONNECT.
+    Connected,
+    /// The RECEIPT of the SEND.
+    Receipt,
+    /// A message of the subscription.
+    Message,
+    /// The RECEIPT of the DISCONNECT.
+    Farewell,
+    /// The close of the WebSocket.
+    Close,
+}
+
+impl Step {
+    ghost use Rattle.std.specs.Prelude.{◌≡◌};
+    ghost use Rattle.client_core.specs.Texts.{step_text};
+
+    /// What did not come.
+    pub fn text(self) -> &'static str
+        ensures { result.now ≡ step_text self }
+    {
+        match self {
+            Step::Connection => "no connection: ",
+            Step::Handshake => "no handshake: ",
+            Step::Connected => "no CONNECTED: ",
+            Step::Receipt => "no RECEIPT: ",
+            Step::Message => "no more messages: ",
+            Step::Farewell => "no RECEIPT of the DISCONNECT: ",
+            Step::Close => "no close: ",
+        }
+    }
+}
+
+/// Why a step went wrong.
+#[derive(Drop)]
+pub enum Cause {
+    /// Nobody listens at the port.
+    Unserved,
+    /// There is no host of that name, or the URL has none.
+    NoHost,
+    /// Five seconds have passed.
+    Late,
+    /// Nothing has come for 90 seconds, in which a server pings.
+    Silent,
+    /// The handshake was answered by this status of HTTP, which is not 101.
+    Status(u16),
+    /// What came is not a WebSocket (RFC 6455).
+    NotWebSocket,
+    /// The peer has closed, with this code (RFC 6455, section 7.4), or 1005 if it told none.
+    Closed(u16),
+    /// The connection has ended without a close.
+    Ended,
+    /// An ERROR came, with this `message` header. Bytes under 0x20, `%`, 0x7F and those from 0x80 on stand in it as `%XX`.
+    Error(Text),
+    /// Another frame came than the answer, or one more after the answer.
+    Other(Verb),
+    /// What came is not STOMP.
+    NotStomp,
+    /// What was to be said can't be written as a frame: a header has no name, or a `client-id` an end of line.
+    Unwritable,
+    /// Nothing more can be shown to the user.
+    Output,
+    /// A growth of memory was refused.
+    Memory,
+    /// The system refused a call.
+    System,
+}
+
+/// The text for the user.
+impl fmt::Display for Cause {
+    ghost use Rattle.std.specs.Prelude.{Some};
+    ghost use Rattle.client_core.specs.Texts.{cause_text};
+
+    ghost output = { λ cause. Some (cause_text cause) };
+
+    fn fmt<W: fmt::Write>(&self, f: &mut fmt::Formatter<W>) -> fmt::Result {
+        match self {
+            Cause::Unserved => f.write_str("nobody listens there"),
+            Cause::NoHost => f.write_str("there is no such host"),
+            Cause::Late => f.write_str("no answer within 5 s"),
+            Cause::Silent => f.write_str("nothing came for 90 s"),
+            Cause::Status(status) => write!(f, "HTTP status {status}"),
+            Cause::NotWebSocket => f.write_str("what came is no WebSocket"),
+            Cause::Closed(code) => write!(f, "closed with {code}"),
+            Cause::Ended => f.write_str("the connection has ended"),
+            Cause::Error(message) => write!(f, "ERROR: {}", message.as_str()),
+            Cause::Other(verb) => write!(f, "{} came", verb.name()),
+            Cause::NotStomp => f.write_str("what came is no STOMP"),
+            Cause::Unwritable => f.write_str("no frame can have such a header"),
+            Cause::Output => f.write_str("input or output failed"),
+            Cause::Memory => f.write_str("out of memory"),
+            Cause::System => f.write_str("the system refuses it"),
+        }
+    }
+}
+
+/// Why a conversation was not finished.
+#[derive(Drop)]
+pub struct ClientFault {
+    pub step: Step,
+    pub cause: Cause,
+}
+
+impl ClientFault {
+    ghost use Rattle.std.specs.Prelude.{◌≡◌};
+    ghost use Rattle.client_core.specs.Texts.{is_of_full};
+
+    /// Whether the server has all the clients that it takes: it answers the handshake with status 503, so it is alive.
+    pub fn is_of_full_server(&self) -> bool
+        ensures { result ≡ is_of_full self.now.step self.now.cause }
+    {
+        match (self.step, &self.cause) {
+            (Step::Handshake, Cause::Status(status)) => *status == 503,
+            _ => false,
+        }
+    }
+}
+
+impl ClientFault {
+    /// Whether a message was sent, and no answer says whether it was taken.
+    pub fn is_unknown(&self) -> bool
+    {
+        match (self.step, &self.cause) {
+            (Step::Receipt, Cause::Error(_) | Cause::Unwritable) => false,
+            (Step::Receipt, _) => true,
+            _ => false,
+        }
+    }
+}
+
+/// The text for the user.
+impl fmt::Display for ClientFault {
+    ghost use Rattle.std.specs.Prelude.{Some};
+    ghost use Rattle.client_core.specs.Texts.{client_text};
+
+    ghost output = { λ fault. Some (client_text fault) };
+
+    fn fmt<W: fmt::Write>(&self, f: &mut fmt::Formatter<W>) -> fmt::Result {
+        write!(f, "{}{}", self.step.text(), self.cause)
+    }
+}

@@ -1,0 +1,27 @@
+//! A small STOMP client: what it says, hears and shows, over any peer.
+
+#![tactic(auto)]
+
+mod address;
+mod asking;
+mod conversation;
+mod deeds;
+mod fault;
+mod hearing;
+mod listening;
+mod peer;
+mod plan;
+mod requests;
+mod sending;
+mod stage;
+
+pub use address::Address;
+pub use conversation::converse;
+pub use deeds::{Deed, deed_of};
+pub use fault::{Cause, ClientFault, Step};
+pub use hearing::hear;
+pub use listening::listen;
+pub use peer::{Listener, Peer};
+pub use plan::{Outgoing, Plan};
+pub use sending::{forget, leave, open, send};
+pub use stage::Stage;

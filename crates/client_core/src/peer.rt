@@ -1,0 +1,42 @@
+//! What a client asks of a connection.
+
+ghost use Rattle.std.specs.Prelude.{◌≡◌, ◌∷◌, [], List, Option, None, IfErr, IfOk, OnOk};
+ghost use Rattle.client_core.specs.Talks.{Adds, Heard, IsOfPeer, Said, Shown, Spoken};
+
+use crate::fault::Cause;
+
+/// A connection that carries one STOMP stream each way. A step begins when something is said, and a peer may end it as `Late`.
+///
+/// A peer may tell what was said and heard: then contracts see all of that, in its order.
+pub trait Peer {
+    /// What was said and heard, if the peer tells it.
+    ghost talk: { Self → Option (List Spoken) } = { λ _. None };
+
+    /// Says a frame. This begins a step.
+    fn say(&mut self, frame: &[u8]) -> Result<(), Cause>
+        ensures told { OnOk result (Adds (Said frame.now ∷ []) (talk self.old) (talk self.new)) }
+        ensures cause { IfErr result IsOfPeer };
+
+    /// The next bytes of what the peer says, perhaps none. A frame may be cut over several of these.
+    fn hear(&mut self) -> Result<Vec<u8>, Cause>
+        ensures told { IfOk result (λ bytes. Adds (Heard bytes.items ∷ []) (talk self.old) (talk self.new)) }
+        ensures cause { IfErr result IsOfPeer };
+
+    /// Closes the connection in good order. This begins a step.
+    fn close(&mut self) -> Result<(), Cause>
+        ensures told { talk self.new ≡ talk self.old }
+        ensures cause { IfErr result IsOfPeer };
+}
+
+/// A connection whose messages are shown to the user.
+pub trait Listener: Peer {
+    /// The next bytes of what the peer says, for which it may take its time. This begins a step.
+    fn wait(&mut self) -> Result<Vec<u8>, Cause>
+        ensures told { IfOk result (λ bytes. Adds (Heard bytes.items ∷ []) (Self.Peer.talk self.old) (Self.Peer.talk self.new)) }
+        ensures cause { IfErr result IsOfPeer };
+
+    /// Shows these bytes to the user at once.
+    fn show(&mut self, text: &[u8]) -> Result<(), Cause>
+        ensures told { OnOk result (Adds (Shown text.now ∷ []) (Self.Peer.talk self.old) (Self.Peer.talk self.new)) }
+        ensures cause { IfErr result IsOfPeer };
+}

@@ -1,0 +1,40 @@
+//! What a client is to send, and to listen to.
+
+ghost use Rattle.std.specs.Prelude.{◌≡◌};
+ghost use Rattle.client_core.specs.Requests.{mode_of, takes_all};
+
+/// A message that is to be sent.
+#[derive(Clone, Copy)]
+pub struct Outgoing<'a> {
+    pub destination: &'a str,
+    /// Further headers, by name and value. A header that the client writes itself stands before them, and counts.
+    pub headers: &'a [(&'a str, &'a str)],
+    pub body: &'a [u8],
+}
+
+/// What a client listens to, and what it does with what comes.
+#[derive(Clone, Copy)]
+pub struct Plan<'a> {
+    pub destination: &'a str,
+    /// The name of a durable subscription, if it is to be one.
+    pub name: Option<&'a str>,
+    /// After how many messages it ends.
+    pub count: u64,
+    /// Whether each message is settled once it is shown.
+    pub settles: bool,
+    /// Whether the headers of a message are shown before its body.
+    pub with_headers: bool,
+}
+
+impl Plan<'_> {
+    /// The `ack` of its SUBSCRIBE. Without settling it takes only what is its own: the copies of a plain subscription of a topic.
+    pub fn mode(&self) -> &'static str
+        ensures { result.now ≡ mode_of self.now }
+    {
+        if !self.settles && self.name.is_none() && self.destination.starts_with("/topic/") {
+            "auto"
+        } else {
+            "client-individual"
+        }
+    }
+}

@@ -1,0 +1,49 @@
+//! A peer whose messages are written to a stream.
+
+ghost use Rattle.std.specs.Prelude.{IfErr};
+ghost use Rattle.client_core.specs.Talks.{IsOfPeer};
+
+use crate::timed::PATIENCE_SECONDS;
+use crate::web_peer::WebPeer;
+use client_core::{Cause, Listener, Peer};
+use std::io::Write;
+use std::random::RandomSource;
+use std::time::Clock;
+
+/// A peer, and where its messages are shown.
+#[derive(Drop)]
+pub struct Shown<'a, R, W> {
+    pub peer: &'a mut WebPeer<R>,
+    pub writer: &'a mut W,
+}
+
+impl<R: Clock + RandomSource + Drop, W: Write> Peer for Shown<'_, R, W> {
+    fn say(&mut self, frame: &[u8]) -> Result<(), Cause> {
+        self.peer.say(frame)
+    }
+
+    fn hear(&mut self) -> Result<Vec<u8>, Cause> {
+        self.peer.hear()
+    }
+
+    fn close(&mut self) -> Result<(), Cause> {
+        self.peer.close()
+    }
+}
+
+impl<R: Clock + RandomSource + Drop, W: Write> Listener for Shown<'_, R, W> {
+    fn wait(&mut self) -> Result<Vec<u8>, Cause> {
+        self.peer.begin(PATIENCE_SECONDS)?;
+        match self.peer.hear() {
+            Err(Cause::Late) => Err(Cause::Silent),
+            heard => heard,
+        }
+    }
+
+    fn show(&mut self, text: &[u8]) -> Result<(), Cause> {
+        if self.writer.write_all(text).is_err() || self.writer.flush().is_err() {
+            return Err(Cause::Output);
+        }
+        Ok(())
+    }
+}

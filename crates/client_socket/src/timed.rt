@@ -1,0 +1,77 @@
+//! A socket whose reads and writes end with the step.
+
+ghost use Rattle.std.specs.Prelude.{◌≡◌, IfOk};
+
+use std::io;
+use std::io::{ErrorKind, Read, Write};
+use std::net::TcpStream;
+use std::time::{Clock, Duration, Instant};
+
+/// How many seconds a step may take.
+pub const STEP_SECONDS: u64 = 5;
+
+/// How many seconds the next message may take. A server pings each 20 seconds.
+pub const PATIENCE_SECONDS: u64 = 90;
+
+/// A socket whose reads and writes fail once the seconds of its step have passed: with `WouldBlock` if they waited until then, else
+/// with `TimedOut`. So a peer that says one byte after another gets no more time.
+#[derive(Drop)]
+pub struct Timed<R> {
+    socket: TcpStream,
+    clock: R,
+    began: Instant,
+    seconds: u64,
+}
+
+impl<R: Clock + Drop> Timed<R> {
+    /// That socket, whose step begins now.
+    pub fn new(clock: R, socket: TcpStream) -> io::Result<Timed<R>>
+        ensures { IfOk result (λ timed. (timed.socket ≡ socket) × (timed.clock ≡ clock)) }
+    {
+        let began = Instant::now(&clock)?;
+        Ok(Timed {
+            socket,
+            clock,
+            began,
+            seconds: STEP_SECONDS,
+        })
+    }
+
+    /// Begins another step, which may take so many seconds.
+    pub fn begin(&mut self, seconds: u64) -> io::Result<()>
+        ensures { self.new ≡ record self.old { began = self.new.began; seconds = self.new.seconds } }
+    {
+        self.began = Instant::now(&self.clock)?;
+        self.seconds = seconds;
+        Ok(())
+    }
+
+    // What is left of the step's time. The system takes no time of zero.
+    fn left(&self) -> io::Result<Duration> {
+        let passed = self.began.elapsed(&self.clock)?;
+        match Duration::from_secs(self.seconds).checked_sub(passed) {
+            Some(left) if !left.is_zero() => Ok(left),
+            _ => Err(io::Error::from(ErrorKind::TimedOut)),
+        }
+    }
+}
+
+impl<R: Clock + Drop> Read for Timed<R> {
+    fn read(&mut self, buf: &mut [u8]) -> io::Result<usize> {
+        let left = self.left()?;
+        self.socket.set_read_timeout(Some(left))?;
+        self.socket.read(buf)
+    }
+}
+
+impl<R: Clock + Drop> Write for Timed<R> {
+    fn write(&mut self, buf: &[u8]) -> io::Result<usize> {
+        let left = self.left()?;
+        self.socket.set_write_timeout(Some(left))?;
+        self.socket.write(buf)
+    }
+
+    fn flush(&mut self) -> io::Result<()> {
+        self.socket.flush()
+    }
+}

@@ -1,0 +1,180 @@
+//! What the words ask of a client.
+
+ghost use Rattle.std.specs.Prelude.{◌≡◌, IfOk, IfSome, map};
+
+use crate::addresses::address_of;
+use crate::parsing::number_of;
+use crate::usage::matches_of;
+use crate::words::WordKind;
+use clap::{ArgMatches, Error};
+use client_core::{Address, Plan};
+use std::alloc::Global;
+use std::convert::AsStr;
+
+// How many messages of a queue are shown to one who settles none (docs/PROTOCOL.md, "Limits").
+const MOST_UNSETTLED: u64 = 16;
+
+/// What a client is to do.
+#[derive(Drop)]
+pub enum Call<'a> {
+    /// Sends a message to a destination; if no body is given, what standard input has. On request each line of that is one.
+    Send {
+        address: Address<'a>,
+        destination: &'a str,
+        headers: Vec<(&'a str, &'a str)>,
+        body: Option<&'a str>,
+        by_lines: bool,
+    },
+    /// Listens to a destination as the plan has it, perhaps with a `client-id`.
+    Listen {
+        address: Address<'a>,
+        client: Option<&'a str>,
+        plan: Plan<'a>,
+    },
+    /// Gives up a durable name of a client.
+    Forget {
+        address: Address<'a>,
+        client: &'a str,
+        name: &'a str,
+    },
+}
+
+/// Why the words ask nothing of a client.
+#[derive(Drop)]
+pub enum Uncalled<'a> {
+    /// A mistake in the words, the help that they ask for, or that memory was refused.
+    Words(Error),
+    /// A word that is not of its kind.
+    Word(WordKind, &'a str),
+}
+
+/// Whether the words name what a client does.
+pub fn is_call<S: AsStr>(words: &[S]) -> bool {
+    match words {
+        [_, name, ..] => matches!(name.as_str(), "send" | "listen" | "forget"),
+        _ => false,
+    }
+}
+
+/// What the words ask of a client, of which the first is the program's name, and the second names what a client does.
+pub fn call_of<'a, S: AsStr>(alloc: Global, words: &'a [S]) -> Result<Call<'a>, Uncalled<'a>> {
+    match matches_of(alloc, words) {
+        Ok(matches) => {
+            let call = call_in(alloc, &matches);
+            drop(matches);
+            call
+        }
+        Err(error) => Err(Uncalled::Words(error)),
+    }
+}
+
+fn call_in<'a>(alloc: Global, matches: &ArgMatches<'a>) -> Result<Call<'a>, Uncalled<'a>> {
+    match matches.subcommand() {
+        Some(("send", given)) => send_in(alloc, given),
+        Some(("listen", given)) => listen_in(given),
+        Some((_, given)) => forget_in(given),
+        None => Err(Uncalled::Word(WordKind::Address, "")),
+    }
+}
+
+fn send_in<'a>(alloc: Global, given: &ArgMatches<'a>) -> Result<Call<'a>, Uncalled<'a>> {
+    let address = address_in(given)?;
+    let body = given.get_str("BODY");
+    let by_lines = given.get_flag("lines");
+    if let (Some(body), true) = (body, by_lines) {
+        return Err(Uncalled::Word(WordKind::BodyOfLines, body));
+    }
+    let headers = headers_in(alloc, given)?;
+    Ok(Call::Send {
+        address,
+        destination: word_in(given, "DESTINATION"),
+        headers,
+        body,
+        by_lines,
+    })
+}
+
+fn listen_in<'a>(given: &ArgMatches<'a>) -> Result<Call<'a>, Uncalled<'a>> {
+    let address = address_in(given)?;
+    let destination = word_in(given, "DESTINATION");
+    let (client, name) = match given.get_strs("durable") {
+        Some([client, name]) => (Some(*client), Some(*name)),
+        _ => (None, None),
+    };
+    if let (Some(name), true) = (name, destination.starts_with("/queue/")) {
+        return Err(Uncalled::Word(WordKind::DurableQueue, name));
+    }
+    let mut plan = Plan {
+        destination,
+        name,
+        count: u64::MAX,
+        settles: given.get_flag("settle"),
+        with_headers: given.get_flag("headers"),
+    };
+    plan.count = count_in(given, &plan)?;
+    Ok(Call::Listen {
+        address,
+        client,
+        plan,
+    })
+}
+
+// After how many messages it ends: of what is not its own and not settled it gets 16 at most.
+fn count_in<'a>(given: &ArgMatches<'a>, plan: &Plan<'_>) -> Result<u64, Uncalled<'a>> {
+    let most = if plan.settles || plan.mode() == "auto" {
+        u64::MAX
+    } else {
+        MOST_UNSETTLED
+    };
+    let Some(text) = given.get_str("N") else {
+        return Ok(most);
+    };
+    match number_of(text) {
+        Some(0) | None => Err(Uncalled::Word(WordKind::Count, text)),
+        Some(count) if count > most => Err(Uncalled::Word(WordKind::UnsettledCount, text)),
+        Some(count) => Ok(count),
+    }
+}
+
+fn forget_in<'a>(given: &ArgMatches<'a>) -> Result<Call<'a>, Uncalled<'a>> {
+    let address = address_in(given)?;
+    Ok(Call::Forget {
+        address,
+        client: word_in(given, "CLIENT"),
+        name: word_in(given, "NAME"),
+    })
+}
+
+fn address_in<'a>(given: &ArgMatches<'a>) -> Result<Address<'a>, Uncalled<'a>> {
+    let text = word_in(given, "PORT");
+    match address_of(text) {
+        Some(address) => Ok(address),
+        None => Err(Uncalled::Word(WordKind::Address, text)),
+    }
+}
+
+// The word of an argument that `clap` requires.
+fn word_in<'a>(given: &ArgMatches<'a>, name: &str) -> &'a str {
+    given.get_str(name).unwrap_or("")
+}
+
+// The headers that are given, cut at the first colon.
+fn headers_in<'a>(
+    alloc: Global,
+    given: &ArgMatches<'a>,
+) -> Result<Vec<(&'a str, &'a str)>, Uncalled<'a>> {
+    let mut headers = Vec::new(alloc);
+    let Some(texts) = given.get_strs("header") else {
+        return Ok(headers);
+    };
+    for text in texts {
+        match text.split_once(':') {
+            Some((name, value)) if !name.is_empty() => match headers.push((name, value)) {
+                Ok(()) => {}
+                Err(refused) => return Err(Uncalled::Words(Error::from(refused))),
+            },
+            _ => return Err(Uncalled::Word(WordKind::Header, text)),
+        }
+    }
+    Ok(headers)
+}

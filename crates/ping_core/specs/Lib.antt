@@ -1,3 +1,0 @@
-pub mod Answers
-pub mod Talks
-pub mod Texts

@@ -1,0 +1,132 @@
+//! What a client does.
+
+use client_socket::{InputFault, Way, body_of, forget, listen, send, send_lines};
+use client_core::{Address, Outgoing};
+use command_line::{
+    BodyFault, Call, DONE, FAILED, Failure, Uncalled, call_of, end_by, end_call, refusal,
+    tell_taken,
+};
+use std::io::Lock;
+
+/// Does what the words ask of a client, and answers the status.
+pub fn run_call(rt: &HostRuntime, words: &[String]) -> u8 {
+    match call_of(rt.alloc(), words) {
+        Ok(call) => run(rt, call),
+        Err(Uncalled::Words(error)) => tell(rt, &refusal(words, error)),
+        Err(Uncalled::Word(kind, word)) => tell(rt, &Failure::Word(kind, word)),
+    }
+}
+
+fn tell(rt: &HostRuntime, failure: &Failure<'_>) -> u8 {
+    let mut errors = rt.stderr().lock();
+    end_by(failure, &mut errors).status
+}
+
+fn run(rt: &HostRuntime, call: Call<'_>) -> u8 {
+    match call {
+        Call::Send {
+            address,
+            destination,
+            headers,
+            body,
+            by_lines,
+        } => {
+            let message = Outgoing {
+                destination,
+                headers: headers.as_slice(),
+                body: body.unwrap_or("").as_bytes(),
+            };
+            let status = match body {
+                Some(_) => run_send(rt, address, &message),
+                None if by_lines => run_lines(rt, address, &message),
+                None => run_input(rt, address, &message),
+            };
+            drop(headers);
+            status
+        }
+        Call::Listen {
+            address,
+            client,
+            plan,
+        } => {
+            let mut writer = rt.stdout().lock();
+            let listened = listen(rt, rt.alloc(), address, client, &plan, &mut writer);
+            let mut errors = rt.stderr().lock();
+            end_call(listened, &mut errors).status
+        }
+        Call::Forget {
+            address,
+            client,
+            name,
+        } => {
+            let forgotten = forget(rt, rt.alloc(), address, client, name);
+            let mut errors = rt.stderr().lock();
+            end_call(forgotten, &mut errors).status
+        }
+    }
+}
+
+/// Sends a message.
+fn run_send(rt: &HostRuntime, address: Address<'_>, message: &Outgoing<'_>) -> u8 {
+    let sent = send(rt, rt.alloc(), address, message);
+    let mut errors = rt.stderr().lock();
+    end_call(sent, &mut errors).status
+}
+
+/// Sends what standard input has as a message.
+fn run_input(rt: &HostRuntime, address: Address<'_>, message: &Outgoing<'_>) -> u8 {
+    match body_of(rt.alloc(), rt.stdin().lock()) {
+        Ok(body) => {
+            let status = run_send(
+                rt,
+                address,
+                &Outgoing {
+                    body: body.as_slice(),
+                    ..*message
+                },
+            );
+            drop(body);
+            status
+        }
+        Err(fault) => end_input(rt, fault),
+    }
+}
+
+/// Sends each line of standard input as a message.
+fn run_lines(rt: &HostRuntime, address: Address<'_>, message: &Outgoing<'_>) -> u8 {
+    let way = Way {
+        rt,
+        alloc: rt.alloc(),
+        address,
+        destination: message.destination,
+        headers: message.headers,
+    };
+    let (taken, sent) = send_lines(&way, rt.stdin().lock());
+    match sent {
+        Ok(()) => DONE,
+        Err(fault) => {
+            let status = end_input(rt, fault);
+            let mut errors = rt.stderr().lock();
+            drop(tell_taken(taken, &mut errors));
+            status
+        }
+    }
+}
+
+/// Tells why what standard input has was not sent, and answers the status.
+fn end_input(rt: &HostRuntime, fault: InputFault) -> u8 {
+    let fault = match fault {
+        InputFault::Client(fault) => {
+            let mut errors = rt.stderr().lock();
+            return end_call(Err(fault), &mut errors).status;
+        }
+        InputFault::NoBody => BodyFault::NoBody,
+        InputFault::TooLong => BodyFault::TooLong,
+        InputFault::Input => BodyFault::Input,
+        InputFault::Memory => {
+            drop(tell(rt, &Failure::Output));
+            return FAILED;
+        }
+    };
+    tell(rt, &Failure::Input(fault))
+}

@@ -1,0 +1,83 @@
+"""A peer of the program's own client: a socket that takes one connection, and does what a test gives it."""
+
+import base64
+import hashlib
+import re
+import socket
+import threading
+
+from .wire import CLOSE, PONG, TEXT, message_bytes, take_frame
+
+CONNECTED = b"CONNECTED\nversion:1.2\n\n\0"
+
+
+class Peer:
+    """One that listens, and does with its first client what it is given."""
+
+    def __init__(self, act):
+        self.listener = socket.create_server(("127.0.0.1", 0))
+        self.port, self.act, self.heard, self.fault = self.listener.getsockname()[1], act, [], None
+        self.thread = threading.Thread(target=self.serve)
+        self.thread.start()
+
+    def serve(self):
+        try:
+            self.socket, _ = self.listener.accept()
+            self.socket.settimeout(30)
+            self.stream, self.buffer = self.socket.makefile("rb"), bytearray()
+            self.act(self)
+        except (BrokenPipeError, ConnectionResetError):
+            # It is the ping that has gone.
+            pass
+        except Exception as fault:
+            self.fault = fault
+        finally:
+            self.stream.close()
+            self.socket.close()
+            self.listener.close()
+
+    def shake(self):
+        """Accepts the handshake (RFC 6455, section 4.2.2); answers the lines of its head."""
+        lines = []
+        while line := self.stream.readline().decode().rstrip("\r\n"):
+            lines.append(line)
+        fields = {name.lower(): value.strip() for name, _, value in (line.partition(":") for line in lines[1:])}
+        sum_ = hashlib.sha1((fields["sec-websocket-key"] + "258EAFA5-E914-47DA-95CA-C5AB0DC85B11").encode()).digest()
+        answer = ["HTTP/1.1 101 Switching Protocols", "Upgrade: websocket", "Connection: Upgrade"]
+        answer += [f"Sec-WebSocket-Accept: {base64.b64encode(sum_).decode()}", "Sec-WebSocket-Protocol: v12.stomp"]
+        self.socket.sendall(("\r\n".join(answer) + "\r\n\r\n").encode())
+        return lines
+
+    def hear(self):
+        """The next frame of the WebSocket that is no pong: its opcode and its payload."""
+        kind = PONG
+        while kind == PONG:
+            while (frame := take_frame(self.buffer, is_masked=True)) is None:
+                more = self.stream.read1(65_536)
+                if not more:
+                    raise EOFError("the ping has ended within its talk")
+                self.buffer += more
+            _, kind, payload = frame
+        self.heard.append((kind, payload))
+        return self.heard[-1]
+
+    def say(self, payload, kind=TEXT, is_last=True):
+        self.socket.sendall(message_bytes(kind, payload, is_masked=False, is_last=is_last))
+
+    def wait(self):
+        """Waits for the end of the ping."""
+        while self.socket.recv(4_096):
+            pass
+
+    def end(self):
+        self.thread.join()
+
+
+def receipt_of(frame):
+    """The RECEIPT that a frame asks for."""
+    name = re.search(rb"^receipt:(.*)$", frame, re.M)[1]
+    return b"RECEIPT\nreceipt-id:" + name + b"\n\n\0"
+
+
+def close(peer, code=1000):
+    peer.say(code.to_bytes(2, "big"), CLOSE)

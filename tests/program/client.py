@@ -1,0 +1,372 @@
+#!/usr/bin/env python3
+"""Tries the program's own client: `send`, `listen` and `forget` against a server, and against peers that answer wrong, late or not at all. Compares statuses,
+what is printed and told, and which frames are said, with docs/PROTOCOL.md ("The client") and STOMP 1.2. Needs Python 3 alone; the gate does not run it.
+
+    python3 tests/program/client.py [PROGRAM]
+
+PROGRAM is the built program; without it, the one that bin/stompd leaves in crates/stompd/out.
+"""
+
+import contextlib
+import os
+import pathlib
+import signal
+import subprocess
+import sys
+import time
+
+from lib.fake_peer import CONNECTED, Peer, close, receipt_of
+from lib.scenario import BUILT, Checks, built_program, free_port, serving, words_of
+from lib.stomp_client import Client
+
+UNKNOWN = "; the server may have taken it, or not"
+NOBODY = "no connection: nobody listens there"
+# What `stompd COMMAND --help` prints, in a file for each.
+TEXTS = pathlib.Path(__file__).resolve().parent.parent / "help"
+
+
+def run(program, *words, given=b"", seconds=60):
+    """The status, what was printed and what was told."""
+    done = subprocess.run([program, *map(str, words)], input=given, capture_output=True, timeout=seconds)
+    return done.returncode, done.stdout, done.stderr.decode()
+
+
+def told(text):
+    return f"stompd: {text}\n"
+
+
+def held(program, broker):
+    """What `held` has after its two lines of totals."""
+    return subprocess.run([program, "held", broker.journal], capture_output=True, text=True, check=True).stdout.splitlines()[2:]
+
+
+@contextlib.contextmanager
+def started(program, *words, stdin=subprocess.DEVNULL):
+    """The program, running; it is killed at the end."""
+    process = subprocess.Popen([program, *map(str, words)], stdin=stdin, stdout=subprocess.PIPE, stderr=subprocess.PIPE)
+    try:
+        yield process
+    finally:
+        process.kill()
+        process.wait()
+        for stream in (process.stdin, process.stdout, process.stderr):
+            if stream:
+                stream.close()
+
+
+def helps(program, checks):
+    """The help of each, word by word."""
+    name = pathlib.Path(program).name
+    files = sorted(TEXTS.glob("*.txt"))
+    checks.check("each command has its text", len(files) == 10, files)
+    for file in files:
+        command = [] if file.stem == "stompd" else [file.stem]
+        text = file.read_text(encoding="utf-8").replace("PROGRAM", name)
+        checks.same(f"the help of {file.stem}", run(program, *command, "--help"), (2, b"", text))
+
+
+def bad_words(program, checks):
+    """Words that ask for nothing are named, with status 2, and nobody is connected to."""
+    address = "PORT is a number from 1 to 65535, or ws://HOST:PORT/PATH in small letters; there is no TLS"
+    for rest in (["send", "PORT", "/queue/a", "x"], ["listen", "PORT", "/queue/a"], ["forget", "PORT", "c", "n"]):
+        for port in ("0", "65536", "80x", "wss://localhost:8080/"):
+            checks.same(f"{rest[0]} {port}", run(program, *[port if it == "PORT" else it for it in rest]), (2, b"", told(f"'{port}': {address}")))
+    port = free_port()
+    for header in ("none", ":value"):
+        seen = run(program, "send", port, "/queue/a", "x", "--header", header)
+        checks.same(f"a header {header!r}", seen, (2, b"", told(f"'{header}': --header takes NAME:VALUE")))
+    for count in ("0", "x", "-1", "18446744073709551616"):
+        seen = run(program, "listen", port, "/topic/a", f"--count={count}")
+        checks.same(f"a count {count!r}", seen, (2, b"", told(f"'{count}': --count takes a number from 1 on")))
+    for more in (["/queue/a"], ["/topic/a", "--durable", "c", "n"]):
+        seen = run(program, "listen", port, *more, "--count", "17")
+        checks.same(f"17 of {more} without --settle", seen, (2, b"", told("'17': without --settle at most 16 are shown of what others may get")))
+    seen = run(program, "listen", port, "/queue/a", "--durable", "c", "n")
+    checks.same("a durable name of a queue", seen, (2, b"", told("'n': only a topic has durable names")))
+    seen = run(program, "send", port, "/queue/a", "x", "--lines")
+    checks.same("a body and --lines", seen, (2, b"", told("'x': with --lines the bodies come from standard input")))
+    for words in (["send"], ["send", port], ["send", port, "a", "b", "c"], ["listen", port], ["listen", port, "/topic/a", "--durable", "c"], ["forget", port, "c"], ["send", port, "a", "--count", "1"]):
+        status, printed, said = run(program, *words)
+        checks.check(f"no such words: {words}", status == 2 and printed == b"" and said != "", (status, printed, said))
+
+
+def bodies(program, checks):
+    """What is sent arrives, with its headers, whatever its bytes are."""
+    with serving(program) as broker:
+        at = [broker.port, "/queue/a"]
+        client = Client(broker.port).connect()
+        client.subscribe("s", "/queue/a")
+        every = bytes(range(256))
+        for what, words, given, body in (
+            ("the word", ["hello"], b"not read", b"hello"),
+            ("an empty word", [""], b"", b""),
+            ("a word after --", ["--", "-5"], b"", b"-5"),
+            ("standard input", [], b"two\nlines\n", b"two\nlines\n"),
+            ("any bytes", [], every, every),
+            ("65,536 bytes", [], b"x" * 65_536, b"x" * 65_536),
+        ):
+            seen = run(program, "send", *at, *words, given=given)
+            head, _, rest = client.receive_message()[1].partition(b"\n\n")
+            checks.same(f"sends {what}", (seen, head.split(b"\n")[0], rest), ((0, b"", ""), b"MESSAGE", body + b"\0"))
+        seen = run(program, "send", *at, "x", "--header", "colour:dark:blue", "--header=kind:\n\\", "--header", "destination:/queue/other", "--header", "empty:")
+        message = client.receive()
+        checks.same("sends headers", (seen[0], [message.headers.get(it) for it in ("colour", "kind", "destination", "empty")]), (0, ["dark:blue", "\n\\", "/queue/a", ""]))
+        checks.same("65,537 bytes", run(program, "send", *at, given=b"x" * 65_537), (1, b"", told("a body has at most 65536 bytes")))
+        nothing = (1, b"", told("no BODY is given, and standard input has none; '' sends an empty one"))
+        checks.same("no body", run(program, "send", *at), nothing)
+        closed = subprocess.run(["sh", "-c", 'exec "$@" <&-', "sh", program, "send", *map(str, at)], capture_output=True, timeout=60)
+        checks.same("no body on a closed standard input", (closed.returncode, closed.stdout, closed.stderr.decode()), nothing)
+        seen = run(program, "send", broker.port, "/nowhere", "x")
+        checks.same("a bad destination", seen, (1, b"", told("no RECEIPT: ERROR: E8 bad destination")))
+        checks.same("a bad destination is listened to", run(program, "listen", broker.port, "/nowhere"), (1, b"", told("no more messages: ERROR: E8 bad destination")))
+        seen = run(program, "send", f"ws://localhost:{broker.port}/some/path", "/queue/a", "by url")
+        checks.same("sends to a URL", (seen, client.receive().body), ((0, b"", ""), "by url"))
+    checks.same("nobody listens", run(program, "send", broker.port, "/queue/a", "x"), (1, b"", told(NOBODY)))
+
+
+def receipts(program, checks):
+    """Once it has ended with 0, a kill of the server loses nothing."""
+    with serving(program) as broker:
+        for number in range(20):
+            status, _, _ = run(program, "send", broker.port, "/queue/a", f"{number}")
+            broker.again()
+            checks.same(f"sent before kill {number}", (status, held(program, broker)[0].split()[0]), (0, f"{number + 1}"))
+
+
+def lines(program, checks):
+    """With --lines each line is a message, in order."""
+    with serving(program) as broker:
+        at = [broker.port, "/queue/a", "--lines"]
+        seen = run(program, "send", *at, "--header", "a:b", given=b"one\n\nthree\r\n" + b"x" * 65_536 + b"\nlast")
+        checks.same("sends lines", seen, (0, b"", ""))
+        status, printed, _ = run(program, "listen", broker.port, "/queue/a", "--settle", "--count", 5)
+        checks.same("and they arrive", (status, printed), (0, b"one\n\nthree\r\n" + b"x" * 65_536 + b"\nlast\n"))
+        checks.same("no lines", run(program, "send", *at), (0, b"", ""))
+        seen = run(program, "send", *at, given=b"one\ntwo\n" + b"x" * 65_537 + b"\nfour\n")
+        checks.same("a line that is too long", seen, (1, b"", told("a body has at most 65536 bytes") + told("2 lines before it were taken")))
+        checks.same("and those before it", held(program, broker), ["2 28 queue /queue/a"])
+        with started(program, "send", *at, stdin=subprocess.PIPE) as sender:
+            for number, pause in enumerate((0, 0.5, 11)):
+                time.sleep(pause)
+                sender.stdin.write(b"%d\n" % number)
+                sender.stdin.flush()
+                for _ in range(200):
+                    if held(program, broker)[0].startswith(f"{3 + number} "):
+                        break
+                    time.sleep(0.05)
+                checks.check(f"a line is sent at once, after {pause} s", held(program, broker)[0].startswith(f"{3 + number} "), held(program, broker))
+            sender.stdin.close()
+            sender.stdin = None
+            checks.same("and it ends with its input", (sender.wait(10), sender.stderr.read()), (0, b""))
+
+
+def peeks(program, checks):
+    """Without --settle nothing is taken of a queue or of a durable name."""
+    with serving(program) as broker:
+        client = Client(broker.port).connect()
+        client.subscribe("s", "/queue/jobs", ack="client")
+        for number in range(3):
+            (delivery,) = client.publish("/queue/jobs", f"job {number}")
+            client.send("NACK", [("id", delivery.headers["ack"]), ("receipt", "no")])
+            client.receipt("no")
+        client.close()
+        before = held(program, broker)
+        for turn in range(3):
+            seen = run(program, "listen", broker.port, "/queue/dead", "--count", 3)
+            checks.same(f"peeks at dead letters, {turn}", (seen, held(program, broker)), ((0, b"job 0\njob 1\njob 2\n", ""), before))
+        for number in range(20):
+            run(program, "send", broker.port, "/queue/many", number)
+        seen = run(program, "listen", broker.port, "/queue/many")
+        checks.same("ends after 16 of 20", seen, (0, b"".join(b"%d\n" % it for it in range(16)), ""))
+        checks.check("which stay", "20 250 queue /queue/many" in " ".join(held(program, broker)) or any(it.startswith("20 ") for it in held(program, broker)), held(program, broker))
+        seen = run(program, "listen", broker.port, "/queue/many", "--settle", "--count", 18)
+        checks.same("drains 18", seen, (0, b"".join(b"%d\n" % it for it in range(18)), ""))
+        checks.check("and two are left", any(it.startswith("2 ") and it.endswith("/queue/many") for it in held(program, broker)), held(program, broker))
+
+
+def durables(program, checks):
+    """A durable name keeps messages until they are settled, and goes by `forget`."""
+    with serving(program) as broker:
+        durable = ["--durable", "kiosk", "news"]
+        with started(program, "listen", broker.port, "/topic/t", *durable, "--settle") as listener:
+            for turn in range(200):
+                run(program, "send", broker.port, "/topic/t", turn)
+                if any("kiosk" in it for it in held(program, broker)) or os.get_blocking(listener.stdout.fileno()) is False:
+                    break
+                os.set_blocking(listener.stdout.fileno(), False)
+                first = listener.stdout.read()
+                os.set_blocking(listener.stdout.fileno(), True)
+                if first:
+                    break
+            checks.check("a durable listener prints", turn < 199)
+            checks.same("the name is in use", run(program, "listen", broker.port, "/topic/t", *durable), (1, b"", told("no more messages: ERROR: E14 durable subscription unknown, in use or of another topic")))
+            checks.same("and is not given up", run(program, "forget", broker.port, "kiosk", "news"), (1, b"", told("no RECEIPT: ERROR: E14 durable subscription unknown, in use or of another topic")))
+        for body in ("one", "two"):
+            run(program, "send", broker.port, "/topic/t", body)
+        for turn in range(2):
+            seen = run(program, "listen", broker.port, "/topic/t", *durable, "--count", 2)
+            checks.same(f"shows what waits, {turn}", seen, (0, b"one\ntwo\n", ""))
+        checks.same("takes one", run(program, "listen", broker.port, "/topic/t", *durable, "--count", 1, "--settle"), (0, b"one\n", ""))
+        checks.same("and keeps one", held(program, broker), ["1 11 durable client-id:kiosk activemq.subscriptionName:news"])
+        checks.same("gives the name up", run(program, "forget", broker.port, "kiosk", "news"), (0, b"", ""))
+        checks.same("with what waits", held(program, broker), [])
+        checks.same("once", run(program, "forget", broker.port, "kiosk", "news"), (1, b"", told("no RECEIPT: ERROR: E14 durable subscription unknown, in use or of another topic")))
+        checks.same("no such client-id", run(program, "forget", broker.port, "a\nb", "news"), (1, b"", told("no CONNECTED: no frame can have such a header")))
+
+
+def ends(program, checks):
+    """Signals, a reader that goes, and a server that goes."""
+    with serving(program) as broker:
+        for body in ("one", "two"):
+            run(program, "send", broker.port, "/queue/a", body)
+        before = held(program, broker)
+        for number in (signal.SIGINT, signal.SIGTERM):
+            with started(program, "listen", broker.port, "/queue/a") as listener:
+                seen = listener.stdout.readline(), listener.stdout.readline()
+                listener.send_signal(number)
+                ended = listener.wait(10)
+                checks.same(f"prints at once, and ends by signal {number}", (seen, ended, listener.stdout.read(), listener.stderr.read()), ((b"one\n", b"two\n"), -number, b"", b""))
+            checks.same("and what it has shown goes back", run(program, "listen", broker.port, "/queue/a", "--count", 2), (0, b"one\ntwo\n", ""))
+        checks.same("all of it", held(program, broker), before)
+        with open("/dev/full", "wb") as full:
+            done = subprocess.run([program, "listen", str(broker.port), "/queue/a", "--settle", "--count", "1"], stdout=full, stderr=subprocess.PIPE, timeout=60)
+        checks.same("what can't be printed", (done.returncode, done.stderr.decode()), (1, told("input or output failed")))
+        piped = subprocess.run(["bash", "-c", '"$@" | true; echo "${PIPESTATUS[0]}"', "bash", program, "listen", str(broker.port), "/queue/a", "--settle"], capture_output=True, text=True, timeout=60)
+        checks.same("a pipe that is broken", (piped.stdout, piped.stderr), ("1\n", told("input or output failed")))
+        checks.same("is not settled", held(program, broker), before)
+        with started(program, "listen", broker.port, "/topic/t") as listener:
+            time.sleep(1)
+            broker.process.send_signal(signal.SIGKILL)
+            broker.process.wait()
+            seen = listener.wait(10), listener.stdout.read(), listener.stderr.read().decode()
+            checks.same("a server that is killed", seen, (1, b"", told("no more messages: the connection has ended")))
+
+
+def answering(*steps):
+    """A peer that accepts the handshake, and does each of these once it has heard a frame; then it waits."""
+
+    def act(peer):
+        peer.shake()
+        for step in steps:
+            step(peer, peer.hear()[1])
+        with contextlib.suppress(EOFError):
+            while True:
+                peer.hear()
+
+    return act
+
+
+def saying(payload):
+    return lambda peer, _: peer.say(payload)
+
+
+def connected(peer, _):
+    peer.say(CONNECTED)
+
+
+def receipted(peer, frame):
+    peer.say(receipt_of(frame))
+
+
+def ending(peer, _):
+    peer.socket.shutdown(2)
+
+
+def message(body, number, subscription="heard"):
+    return b"MESSAGE\nsubscription:%s\nmessage-id:%d.0\ndestination:/queue/a\nack:%d\ncontent-length:%d\n\n%s\0" % (subscription.encode(), number, number, len(body), body)
+
+
+ERROR = b"ERROR\nmessage:E12 no room for the message\nreceipt-id:sent\n\n\0"
+
+# What answers a SEND, and what is told.
+UNSENT = {
+    "the RECEIPT of another frame": (saying(b"RECEIPT\nreceipt-id:another\n\n\0"), "no RECEIPT: RECEIPT came" + UNKNOWN),
+    "an ERROR": (saying(ERROR), "no RECEIPT: ERROR: E12 no room for the message"),
+    "a close": (lambda peer, _: close(peer, 1001), "no RECEIPT: closed with 1001" + UNKNOWN),
+    "the end": (ending, "no RECEIPT: the connection has ended" + UNKNOWN),
+    "nothing": (lambda *_: None, "no RECEIPT: no answer within 5 s" + UNKNOWN),
+    "what is no STOMP": (saying(b"hello\n\n\0"), "no RECEIPT: what came is no STOMP" + UNKNOWN),
+}
+
+
+def peers(program, checks):
+    """Peers that answer a SEND wrong: success is told only of its RECEIPT."""
+    for what, (step, text) in UNSENT.items():
+        peer = Peer(answering(connected, step))
+        seen = run(program, "send", peer.port, "/queue/a", "x")
+        peer.end()
+        checks.same(f"a SEND is answered by {what}", (seen, peer.fault), ((1, b"", told(text)), None))
+    peer = Peer(answering(connected, receipted, ending))
+    seen = run(program, "send", peer.port, "/queue/a", "x", "--lines", given=b"one\ntwo\nthree\n")
+    peer.end()
+    checks.same("a connection is lost within lines", seen, (1, b"", told("no RECEIPT: the connection has ended" + UNKNOWN) + told("1 lines before it were taken")))
+
+
+def frames_said(program, words, *steps):
+    """What the program says to such a peer, and its ending."""
+
+    def act(peer):
+        peer.shake()
+        for step in steps:
+            step(peer, peer.hear()[1])
+        close(peer)
+        peer.wait()
+
+    peer = Peer(act)
+    seen = run(program, words[0], peer.port, *words[1:])
+    peer.end()
+    return seen, [payload for _, payload in peer.heard]
+
+
+def frames(program, checks):
+    """Which frames are said (STOMP 1.2, "CONNECT", "SEND", "SUBSCRIBE", "ACK", "UNSUBSCRIBE", "DISCONNECT")."""
+    connect, leave = b"CONNECT\naccept-version:1.2\nhost:127.0.0.1\n\n\0", b"DISCONNECT\nreceipt:left\n\n\0"
+    seen, said = frames_said(program, ["send", "/queue/a", "a:b", "--header", "c:d:e"], connected, receipted, receipted)
+    send = b"SEND\ndestination:/queue/a\nreceipt:sent\ncontent-length:3\nc:d\\ce\n\na:b\0"
+    checks.same("of one who sends", (seen, said), ((0, b"", ""), [connect, send, leave]))
+    seen, said = frames_said(program, ["forget", "c", "n"], connected, receipted, receipted)
+    forget = b"UNSUBSCRIBE\nactivemq.subscriptionName:n\nreceipt:sent\n\n\0"
+    named = connect.replace(b"\n\n", b"\nclient-id:c\n\n")
+    checks.same("of one who forgets", (seen, said), ((0, b"", ""), [named, forget, leave]))
+    three = message(b"one", 7) + message(b"two", 8) + message(b"three", 9)
+    ack = b"ACK\nid:%d\n\n\0"
+    for words, mode, acks in (
+        (["/queue/a", "--settle", "--count", "2"], b"client-individual", [ack % 7, ack % 8]),
+        (["/topic/a", "--settle", "--count", "2"], b"client-individual", [ack % 7, ack % 8]),
+        (["/queue/a", "--count", "2"], b"client-individual", []),
+        (["/topic/a", "--count", "2"], b"auto", []),
+        (["/topic/a", "--count", "2", "--durable", "c", "n"], b"client-individual", []),
+    ):
+        name = b"activemq.subscriptionName:n\n" if "--durable" in words else b""
+        subscribe = b"SUBSCRIBE\nid:heard\ndestination:%s\nack:%s\n%s\n\0" % (words[0].encode(), mode, name)
+        steps = [connected, saying(three), *[lambda *_: None for _ in acks], receipted]
+        seen, said = frames_said(program, ["listen", *words], *steps)
+        checks.same(f"of one who listens by {words}", (seen, said[1:-1]), ((0, b"one\ntwo\n", ""), [subscribe, *acks, leave]))
+    for what, payload, text in (
+        ("a message without ack", message(b"x", 7).replace(b"ack:7\n", b""), "what came is no STOMP"),
+        ("an ERROR", ERROR, "ERROR: E12 no room for the message"),
+        ("what is no STOMP", b"hello\n\n\0", "what came is no STOMP"),
+        ("a RECEIPT", b"RECEIPT\nreceipt-id:sent\n\n\0", "RECEIPT came"),
+    ):
+        peer = Peer(answering(connected, saying(payload)))
+        seen = run(program, "listen", peer.port, "/queue/a", "--settle", "--count", "1")
+        peer.end()
+        checks.same(f"to listen is answered by {what}", (seen, len(peer.heard)), ((1, b"", told(f"no more messages: {text}")), 2))
+    peer = Peer(answering(connected, saying(message(b"x\0y\nz", 1).replace(b"ack:1", b"ack:1\na\\cb:c\\nd%"))))
+    with started(program, "listen", peer.port, "/queue/a", "--headers") as listener:
+        wanted = b"subscription:heard\nmessage-id:1.0\ndestination:/queue/a\nack:1\na:b:c%0Ad%25\ncontent-length:5\n\nx\0y\nz\n"
+        checks.same("headers are printed, each on its line", listener.stdout.read(len(wanted)), wanted)
+    peer.end()
+
+
+def main():
+    program = built_program(words_of(__doc__, BUILT).parse_args())
+    checks, start = Checks(), time.monotonic()
+    for scenario in (helps, bad_words, bodies, receipts, lines, peeks, durables, ends, peers, frames):
+        scenario(program, checks)
+    print(f"{checks.failed} checks failed, in {time.monotonic() - start:.0f} s")
+    sys.exit(1 if checks.failed else 0)
+
+
+if __name__ == "__main__":
+    main()
