@@ -22,5 +22,6 @@ pub fn address_of(text: &str) -> Option<Address<'_>> {
 
 // Whether all are printable ASCII, and none begins a fragment.
 fn are_path_bytes(path: &[u8]) -> bool {
-    path.iter().all(|byte| byte.is_ascii_graphic() && *byte != b'#')
+    path.iter()
+        .all(|byte| byte.is_ascii_graphic() && *byte != b'#')
 }

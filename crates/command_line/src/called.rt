@@ -14,7 +14,11 @@ pub fn end_call<E: Write>(called: Result<(), ClientFault>, errors: &mut E) -> En
             told: Ok(()),
         },
         Err(fault) => {
-            let status = if fault.is_of_full_server() { FULL } else { FAILED };
+            let status = if fault.is_of_full_server() {
+                FULL
+            } else {
+                FAILED
+            };
             let told = tell_fault(fault, errors);
             Ended { status, told }
         }
@@ -23,7 +27,10 @@ pub fn end_call<E: Write>(called: Result<(), ClientFault>, errors: &mut E) -> En
 
 fn tell_fault<E: Write>(fault: ClientFault, errors: &mut E) -> io::Result<()> {
     if fault.is_unknown() {
-        let told = writeln!(errors, "stompd: {fault}; the server may have taken it, or not");
+        let told = writeln!(
+            errors,
+            "stompd: {fault}; the server may have taken it, or not"
+        );
         drop(fault);
         return told;
     }

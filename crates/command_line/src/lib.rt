@@ -17,9 +17,9 @@ mod usage;
 mod viewing;
 mod words;
 
-pub use parsing::{Refused, Subcommand, subcommand_of};
 pub use called::{end_call, tell_taken};
 pub use calling::{Call, Uncalled, call_of, is_call};
+pub use parsing::{Refused, Subcommand, subcommand_of};
 pub use pinged::end_ping;
 pub use program::{
     BAD_COMMAND_LINE, BodyFault, DONE, Ended, FAILED, Failure, FileFault, refusal, run, tool,

@@ -5,6 +5,7 @@ ghost use Rattle.disk_core.specs.File.{file_size};
 ghost use Rattle.command_line.specs.Failures.{IsTooShort};
 
 use crate::program::FileFault;
+use crate::viewing::FileView;
 use area_core::{FormatFault, format};
 use disk_core::{FileDisk, OpenError};
 use journal_files::area_in;
@@ -44,6 +45,61 @@ pub fn make_journal<R: Files<File = File> + Clock, P: Write>(
     let Some(area) = area_in(bytes) else {
         return Err(FileFault::Format(FormatFault::TooSmall));
     };
+    let mut disk = make_file(rt, path, bytes, is_sparse, progress)?;
+    let made = write_journal(alloc, &mut disk, area);
+    if made.is_err() {
+        let _removed = std::fs::remove_file(rt, path);
+    }
+    made
+}
+
+/// Makes a file of so many bytes with a journal that holds what the journal in another file holds, its open sessions included. The other
+/// one is only read, and may be a running server's. All else is as `make_journal` has it. A fault comes with the file that it is of.
+pub fn copy_journal<'a, R: Files<File = File> + Clock, P: Write>(
+    alloc: Global,
+    rt: &R,
+    path: &'a str,
+    copy: &'a str,
+    bytes: u64,
+    is_sparse: bool,
+    progress: &mut P,
+) -> Result<(), (&'a str, FileFault)>
+    ensures ok { OnOk result (8224 ≤ bytes) }
+{
+    let Some(area) = area_in(bytes) else {
+        return Err((copy, FileFault::Format(FormatFault::TooSmall)));
+    };
+    let mut from = match FileView::open(rt, path) {
+        Ok(disk) => disk,
+        Err(error) => return Err((path, FileFault::Open(error))),
+    };
+    let disk = match make_file(rt, copy, bytes, is_sparse, progress) {
+        Ok(disk) => disk,
+        Err(fault) => return Err((copy, fault)),
+    };
+    match journal_files::copy(alloc, &mut from, disk, area) {
+        Ok(made) => {
+            drop(made);
+            Ok(())
+        }
+        Err(fault) => {
+            let _removed = std::fs::remove_file(rt, copy);
+            Err((path, FileFault::Copy(fault)))
+        }
+    }
+}
+
+// Makes a file of so many bytes, with all of its room unless it is to be sparse. If there is none, it is removed again.
+fn make_file<R: Files<File = File> + Clock, P: Write>(
+    rt: &R,
+    path: &str,
+    bytes: u64,
+    is_sparse: bool,
+    progress: &mut P,
+) -> Result<FileDisk, FileFault>
+    ensures size { IfOk result (λ disk. file_size disk ≡ bytes) }
+    ensures long { IsTooShort result → ⊥ }
+{
     if most_bytes(rt).is_some_and(|most| most < bytes) {
         return Err(FileFault::Open(too_large()));
     }
@@ -51,19 +107,17 @@ pub fn make_journal<R: Files<File = File> + Clock, P: Write>(
         Ok(disk) => disk,
         Err(error) => return Err(unmade(error)),
     };
-    let filled = if is_sparse {
-        Ok(())
-    } else {
-        fill(rt, &mut disk, bytes, progress)
-    };
-    let made = match filled {
-        Ok(()) => write_journal(alloc, &mut disk, area),
-        Err(error) => not_filled(error),
-    };
-    if made.is_err() {
-        let _removed = std::fs::remove_file(rt, path);
+    if is_sparse {
+        return Ok(disk);
     }
-    made
+    match fill(rt, &mut disk, bytes, progress) {
+        Ok(()) => Ok(disk),
+        Err(error) => {
+            drop(disk);
+            let _removed = std::fs::remove_file(rt, path);
+            Err(not_filled(error))
+        }
+    }
 }
 
 // Why a file was not made: if something is missing, it is its folder.
@@ -115,13 +169,11 @@ fn write_journal(alloc: Global, disk: &mut FileDisk, area: u64) -> Result<(), Fi
 }
 
 // Why a file was not filled.
-fn not_filled(error: io::Error) -> Result<(), FileFault>
-    ensures { IsTooShort result → ⊥ }
-{
+fn not_filled(error: io::Error) -> FileFault {
     match error.kind() {
-        ErrorKind::StorageFull | ErrorKind::QuotaExceeded => Err(FileFault::NoSpace),
-        ErrorKind::FileTooLarge => Err(FileFault::Open(OpenError::System(error))),
-        _ => Err(FileFault::Format(FormatFault::Device)),
+        ErrorKind::StorageFull | ErrorKind::QuotaExceeded => FileFault::NoSpace,
+        ErrorKind::FileTooLarge => FileFault::Open(OpenError::System(error)),
+        _ => FileFault::Format(FormatFault::Device),
     }
 }
 

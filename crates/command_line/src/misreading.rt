@@ -45,6 +45,7 @@ fn word_of<'a>(name: &str, given: &Given<'a>, what: Misread) -> (WordKind, &'a s
         Misread::Number => match name {
             "ping" => (WordKind::Address, nth(&given.arguments, 0)),
             "serve" => (WordKind::Port, nth(&given.arguments, 1)),
+            "copy" => (WordKind::Bytes, nth(&given.arguments, 2)),
             _ => (WordKind::Bytes, nth(&given.arguments, 1)),
         },
     }

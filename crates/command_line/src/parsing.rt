@@ -46,6 +46,18 @@ pub enum Subcommand<'a> {
     Held {
         file: &'a str,
     },
+    /// Shows which sessions of the journal in a file are open, and what they subscribe to.
+    Sessions {
+        file: &'a str,
+    },
+    /// Makes a file of so many bytes with a journal that holds what the journal in another file holds. Its room is taken on the device,
+    /// unless it is to be sparse.
+    Copy {
+        file: &'a str,
+        copy: &'a str,
+        bytes: u64,
+        is_sparse: bool,
+    },
     /// Serves the broker of the journal in a file at a port, to pages of these origins, or to all if none is named. If a number of
     /// threads is given, 1 to 64, so many serve it. If `memory` is given, its clients may hold so many bytes together, 16,777,216 at
     /// least. On request it serves until standard input ends.
@@ -180,6 +192,8 @@ fn other_asked<'a>(name: &str, given: &Given<'a>) -> Option<Subcommand<'a>>
         "format" => format_asked(given),
         "show" => show_asked(given),
         "held" => held_asked(given),
+        "sessions" => sessions_asked(given),
+        "copy" => copy_asked(given),
         _ => None,
     }
 }
@@ -232,6 +246,28 @@ fn held_asked<'a>(given: &Given<'a>) -> Option<Subcommand<'a>>
 {
     let file = one_in(&given.arguments)?;
     Some(Subcommand::Held { file })
+}
+
+fn sessions_asked<'a>(given: &Given<'a>) -> Option<Subcommand<'a>>
+    ensures some { IfSome result (AskWith (codes "sessions") (words_of given.now)) }
+    ensures none { IsNone result → AskNothingWith (codes "sessions") (words_of given.now) }
+{
+    let file = one_in(&given.arguments)?;
+    Some(Subcommand::Sessions { file })
+}
+
+fn copy_asked<'a>(given: &Given<'a>) -> Option<Subcommand<'a>>
+    ensures some { IfSome result (AskWith (codes "copy") (words_of given.now)) }
+    ensures none { IsNone result → AskNothingWith (codes "copy") (words_of given.now) }
+{
+    let (file, copy, text) = three_in(&given.arguments)?;
+    let bytes = size_of(text)?;
+    Some(Subcommand::Copy {
+        file,
+        copy,
+        bytes,
+        is_sparse: given.is_sparse,
+    })
 }
 
 fn serve_asked<'a>(given: Given<'a>) -> Result<Subcommand<'a>, Refused>
@@ -361,6 +397,18 @@ fn two_in<'a>(arguments: &[&'a str]) -> Option<(&'a str, &'a str)>
 {
     if arguments.len() == 2 {
         Some((arguments[0], arguments[1]))
+    } else {
+        None
+    }
+}
+
+/// The three arguments.
+fn three_in<'a>(arguments: &[&'a str]) -> Option<(&'a str, &'a str, &'a str)>
+    ensures some { IfSome result (λ three. map (λ word. word.now) arguments.now ≡ three.0.now ∷ three.1.now ∷ three.2.now ∷ []) }
+    ensures none { IsNone result → length arguments.now ≢ 3 }
+{
+    if arguments.len() == 3 {
+        Some((arguments[0], arguments[1], arguments[2]))
     } else {
         None
     }

@@ -6,29 +6,30 @@ ghost use Rattle.broker_core.specs.States.{empty_state};
 ghost use Rattle.recover_core.specs.Standing.{Stands};
 ghost use Rattle.journal_files.specs.Held.{ShowsHeld};
 ghost use Rattle.journal_files.specs.JournalFiles.{Shows};
+ghost use Rattle.journal_files.specs.Sessions.{ShowsSessions};
 ghost use Rattle.command_line.specs.CommandLines.{AsksForScript};
 ghost use Rattle.command_line.specs.Failures.{EndsByFault, FailsBy, Finishes, RunsToEnd, StopsBy, IsBeforehand, IsOfScript, Tells, status_of, version_line};
 
-use crate::making::make_journal;
+use crate::making::{copy_journal, make_journal};
+use crate::misreading::{Misread, misread};
 use crate::parsing::{Refused, Subcommand, subcommand_of};
 use crate::telling::end_by;
-use crate::misreading::{Misread, misread};
 use crate::viewing::FileView;
 use crate::words::WordKind;
 use area_core::{FormatFault, format};
 use clap::error::ErrorKind;
+use client_core::{Cause, ClientFault, Step};
 use disk_core::{MemDisk, OpenError};
 use engine_core::{ScriptFault, run_script};
 use event_log::ServeFault;
-use journal_files::{ShowFault, show, show_held};
-use client_core::{Cause, ClientFault, Step};
+use journal_files::{CopyFault, ShowFault, show, show_held, show_sessions};
 use std::alloc::{AllocError, Global};
 use std::convert::AsStr;
 use std::fs::File;
+use std::io;
 use std::io::{Read, Write};
 use std::rt::Files;
 use std::time::Clock;
-use std::io;
 
 /// The status if the program did what it was asked for.
 pub const DONE: u8 = 0;
@@ -61,6 +62,8 @@ pub enum FileFault {
     Format(FormatFault),
     /// It was not shown.
     Show(ShowFault),
+    /// It was not copied.
+    Copy(CopyFault),
 }
 
 /// Why there is no body to send.
@@ -83,7 +86,8 @@ impl BodyFault {
         ensures { result.now ≡ body_text self }
     {
         match self {
-            BodyFault::NoBody => "no BODY is given, and standard input has none; '' sends an empty one",
+            BodyFault::NoBody =>
+                "no BODY is given, and standard input has none; '' sends an empty one",
             BodyFault::TooLong => "a body has at most 65536 bytes",
             BodyFault::Input => "input or output failed",
         }
@@ -205,14 +209,32 @@ pub fn run<'a, T: Files<File = File> + Clock, S: AsStr, R: Read, W: Write, P: Wr
             Ok(()) => Ok(()),
             Err(fault) => Err(Failure::File(file, fault)),
         },
+        Ok(Subcommand::Sessions { file }) => match sessions_file(alloc, rt, file, writer) {
+            Ok(()) => Ok(()),
+            Err(fault) => Err(Failure::File(file, fault)),
+        },
+        Ok(
+            Subcommand::Copy {
+                file,
+                copy,
+                bytes,
+                is_sparse,
+            },
+        ) => match copy_journal(alloc, rt, file, copy, bytes, is_sparse, progress) {
+            Ok(()) => Ok(()),
+            Err((at, fault)) => Err(Failure::File(at, fault)),
+        },
         // Only `main` may open sockets.
         Ok(Subcommand::Ping { .. }) => Err(Failure::Client(ClientFault {
             step: Step::Connection,
             cause: Cause::System,
         })),
         // A server has threads, which only `main` starts.
-        Ok(Subcommand::Serve { file, port, .. }) =>
-            Err(Failure::Server(file, port, ServeFault::Threads)),
+        Ok(Subcommand::Serve { file, port, .. }) => Err(Failure::Server(
+            file,
+            port,
+            ServeFault::Threads,
+        )),
         Err(Refused::Words(error)) => Err(refusal(words, error)),
         Err(Refused::Number) => Err(misread(alloc, words, Misread::Number)),
         Err(Refused::Threads) => Err(misread(alloc, words, Misread::Threads)),
@@ -267,6 +289,26 @@ fn held_file<R: Files<File = File>, W: Write>(
         Err(error) => return Err(FileFault::Open(error)),
     };
     match show_held(alloc, &mut disk, writer) {
+        Ok(()) => Ok(()),
+        Err(fault) => Err(FileFault::Show(fault)),
+    }
+}
+
+// Writes which sessions of the journal in a file are open. The file is only opened for reading.
+fn sessions_file<R: Files<File = File>, W: Write>(
+    alloc: Global,
+    rt: &R,
+    path: &str,
+    writer: &mut W,
+) -> Result<(), FileFault>
+    ensures ok { OnOk result (ShowsSessions (W.contents writer.old) (W.contents writer.new)) }
+    ensures err { IfErr result (λ fault. fault ≢ FileFault.Show ShowFault.Output → writer.new ≡ writer.old) }
+{
+    let mut disk = match FileView::open(rt, path) {
+        Ok(disk) => disk,
+        Err(error) => return Err(FileFault::Open(error)),
+    };
+    match show_sessions(alloc, &mut disk, writer) {
         Ok(()) => Ok(()),
         Err(fault) => Err(FileFault::Show(fault)),
     }
@@ -327,7 +369,5 @@ pub fn refusal<'a, S: AsStr>(words: &'a [S], error: clap::Error) -> Failure<'a>
 }
 
 fn has_port_option<S: AsStr>(words: &[S]) -> bool {
-    words
-        .iter()
-        .any(|word| word.as_str() == "--port" || word.as_str().starts_with("--port="))
+    words.iter().any(|word| word.as_str() == "--port" || word.as_str().starts_with("--port="))
 }

@@ -56,6 +56,7 @@ fn tell_file<E: Write>(file: &str, fault: &FileFault, errors: &mut E) -> io::Res
         FileFault::NoSpace => writeln!(errors, "stompd: no space left for the file"),
         FileFault::Format(fault) => writeln!(errors, "stompd: {fault}"),
         FileFault::Show(fault) => writeln!(errors, "stompd: {fault}"),
+        FileFault::Copy(fault) => writeln!(errors, "stompd: {fault}"),
     }
 }
 
@@ -76,7 +77,11 @@ fn tell_server<E: Write>(
             ),
             why => writeln!(errors, "stompd: cannot open: {file}: {}", why.text()),
         },
-        ServeFault::Port(why) => writeln!(errors, "stompd: cannot open: port {port}: {}", why.text()),
+        ServeFault::Port(why) => writeln!(
+            errors,
+            "stompd: cannot open: port {port}: {}",
+            why.text()
+        ),
         _ => writeln!(errors, "stompd: {fault}"),
     }
 }

@@ -22,8 +22,14 @@ pub(crate) fn matches_of<'a, S: AsStr>(
         .subcommand(file_command(
             alloc,
             "held",
-            "Shows which queues and durable subscriptions hold messages, most first",
+            "Shows how much each queue and durable subscription holds, most first",
         )?)?
+        .subcommand(file_command(
+            alloc,
+            "sessions",
+            "Shows who is connected, and what each subscription has unacknowledged",
+        )?)?
+        .subcommand(copy_command(alloc)?)?
         .subcommand(ping_command(alloc)?)?
         .subcommand(send_command(alloc)?)?
         .subcommand(listen_command(alloc)?)?
@@ -150,21 +156,39 @@ fn forget_command<'a>(alloc: Global) -> Result<Command<'a>, AllocError> {
         .arg(argument(alloc, "NAME", "Its activemq.subscriptionName"))
 }
 
-fn format_command<'a>(alloc: Global) -> Result<Command<'a>, AllocError> {
-    let bytes = argument(
+fn bytes_argument<'a>(alloc: Global) -> Arg<'a> {
+    argument(
         alloc,
         "BYTES",
         "Its size, 8224 at least, as 512M; each of its two areas has half of it",
-    );
-    let sparse = Arg::new(alloc, "sparse")
-        .long("sparse")
-        .help("Takes no room on the disk yet: the file takes it as it fills")
-        .action(ArgAction::SetTrue);
+    )
+}
+
+fn sparse_flag<'a>(alloc: Global) -> Arg<'a> {
+    flag(
+        alloc,
+        "sparse",
+        "Takes no room on the disk yet: the file takes it as it fills",
+    )
+}
+
+fn copy_command<'a>(alloc: Global) -> Result<Command<'a>, AllocError> {
+    Command::new(alloc, "copy")
+        .about(
+            "Makes a journal of any size that holds what another one holds, also a running server's",
+        )
+        .arg(file_argument(alloc))?
+        .arg(argument(alloc, "NEW", "The file that is made"))?
+        .arg(bytes_argument(alloc))?
+        .arg(sparse_flag(alloc))
+}
+
+fn format_command<'a>(alloc: Global) -> Result<Command<'a>, AllocError> {
     Command::new(alloc, "format")
         .about("Makes a journal, with all of its room on the disk")
         .arg(file_argument(alloc))?
-        .arg(bytes)?
-        .arg(sparse)
+        .arg(bytes_argument(alloc))?
+        .arg(sparse_flag(alloc))
 }
 
 fn serve_command<'a>(alloc: Global) -> Result<Command<'a>, AllocError> {

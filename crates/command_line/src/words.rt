@@ -38,18 +38,24 @@ impl WordKind {
         ensures { result.now ≡ kind_text self }
     {
         match self {
-            WordKind::Bytes => "a size is a number of bytes under 2^64, or of K, M or G (1,024 of each)",
+            WordKind::Bytes =>
+                "a size is a number of bytes under 2^64, or of K, M or G (1,024 of each)",
             WordKind::Port => "PORT is a number from 1 to 65535",
-            WordKind::Address => "PORT is a number from 1 to 65535, or ws://HOST:PORT/PATH in small letters; there is no TLS",
+            WordKind::Address =>
+                "PORT is a number from 1 to 65535, or ws://HOST:PORT/PATH in small letters; there is no TLS",
             WordKind::Threads => "--threads takes a number from 1 to 64",
-            WordKind::Memory => "--memory takes a number of bytes from 16777216 (16M) on, and under 2^64",
-            WordKind::Origin => "an origin is what a browser sends: SCHEME://HOST or SCHEME://HOST:PORT in small letters, with nothing after it",
+            WordKind::Memory =>
+                "--memory takes a number of bytes from 16777216 (16M) on, and under 2^64",
+            WordKind::Origin =>
+                "an origin is what a browser sends: SCHEME://HOST or SCHEME://HOST:PORT in small letters, with nothing after it",
             WordKind::Header => "--header takes NAME:VALUE",
             WordKind::Count => "--count takes a number from 1 on",
-            WordKind::UnsettledCount => "without --settle at most 16 are shown of what others may get",
+            WordKind::UnsettledCount =>
+                "without --settle at most 16 are shown of what others may get",
             WordKind::BodyOfLines => "with --lines the bodies come from standard input",
             WordKind::DurableQueue => "only a topic has durable names",
-            WordKind::PortOption => "there is no such option: the port stands by itself, as in stompd serve FILE 8080",
+            WordKind::PortOption =>
+                "there is no such option: the port stands by itself, as in stompd serve FILE 8080",
         }
     }
 }

@@ -66,13 +66,21 @@ behind_count LeftOut = codes " lines that nobody read in time"
 abbrev pub start_text : Start → List ℕ
 start_text s = codes "started: journal of version 2, areas of " ++ (decimal s.area ++ (codes " bytes, " ++ (decimal s.messages ++ (codes " messages held, " ++ (decimal s.clients ++ (codes " clients allowed, " ++ (decimal s.memory ++ codes " bytes of memory for them")))))))
 
+-- what clients do
+abbrev pub traffic_text : Figures → List ℕ
+traffic_text f =
+    decimal f.connections ++ (codes " connections, " ++ (decimal f.memory ++ (codes " bytes of memory for them, "
+    ++ (decimal f.commands ++ (codes " commands, " ++ (decimal f.frames ++ (codes " frames out, " ++ (decimal f.refused ++ codes " ERRORs"))))))))
+
+-- what the broker and its journal hold
+abbrev pub stock_text : Figures → List ℕ
+stock_text f =
+    decimal f.messages ++ (codes " messages held, " ++ (decimal f.held ++ (codes " bytes held, " ++ (decimal f.dead ++ (codes " dead letters, "
+    ++ (decimal f.used ++ (codes " bytes used, " ++ (decimal f.to_repeat ++ codes " commands to repeat"))))))))
+
 -- how it does
 abbrev pub figures_text : Figures → List ℕ
-figures_text f =
-    codes "doing: " ++ (decimal f.connections ++ (codes " connections, " ++ (decimal f.memory ++ (codes " bytes of memory for them, "
-    ++ (decimal f.commands ++ (codes " commands, " ++ (decimal f.frames ++ (codes " frames out, " ++ (decimal f.refused ++ (codes " ERRORs, "
-    ++ (decimal f.messages ++ (codes " messages held, " ++ (decimal f.held ++ (codes " bytes held, " ++ (decimal f.dead ++ (codes " dead letters, "
-    ++ (decimal f.used ++ (codes " bytes used, " ++ (decimal f.to_repeat ++ codes " commands to repeat")))))))))))))))))))
+figures_text f = codes "doing: " ++ (traffic_text f ++ (codes ", " ++ stock_text f))
 
 -- that nearly all is held that may be, and where most of it waits
 abbrev pub crowd_text : Crowd → List ℕ

@@ -138,19 +138,46 @@ impl fmt::Display for Figures {
     ghost output = { λ figures. Some (figures_text figures) };
 
     fn fmt<W: fmt::Write>(&self, f: &mut fmt::Formatter<W>) -> fmt::Result {
+        write!(f, "doing: {}, {}", Traffic(*self), Stock(*self))
+    }
+}
+
+// What clients do.
+#[derive(Clone, Copy)]
+struct Traffic(Figures);
+
+impl fmt::Display for Traffic {
+    ghost use Rattle.std.specs.Prelude.{Some};
+    ghost use Rattle.event_log.specs.Events.{traffic_text};
+
+    ghost output = { λ t. Some (traffic_text t.0) };
+
+    fn fmt<W: fmt::Write>(&self, f: &mut fmt::Formatter<W>) -> fmt::Result {
+        let Traffic(it) = self;
         write!(
             f,
-            "doing: {} connections, {} bytes of memory for them, {} commands, {} frames out, {} ERRORs, {} messages held, {} bytes held, {} dead letters, {} bytes used, {} commands to repeat",
-            self.connections,
-            self.memory,
-            self.commands,
-            self.frames,
-            self.refused,
-            self.messages,
-            self.held,
-            self.dead,
-            self.used,
-            self.to_repeat
+            "{} connections, {} bytes of memory for them, {} commands, {} frames out, {} ERRORs",
+            it.connections, it.memory, it.commands, it.frames, it.refused
+        )
+    }
+}
+
+// What the broker and its journal hold.
+#[derive(Clone, Copy)]
+struct Stock(Figures);
+
+impl fmt::Display for Stock {
+    ghost use Rattle.std.specs.Prelude.{Some};
+    ghost use Rattle.event_log.specs.Events.{stock_text};
+
+    ghost output = { λ t. Some (stock_text t.0) };
+
+    fn fmt<W: fmt::Write>(&self, f: &mut fmt::Formatter<W>) -> fmt::Result {
+        let Stock(it) = self;
+        write!(
+            f,
+            "{} messages held, {} bytes held, {} dead letters, {} bytes used, {} commands to repeat",
+            it.messages, it.held, it.dead, it.used, it.to_repeat
         )
     }
 }

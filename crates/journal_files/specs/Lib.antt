@@ -1,2 +1,4 @@
 pub mod Held
 pub mod JournalFiles
+pub mod Copies
+pub mod Sessions
