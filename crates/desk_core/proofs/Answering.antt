@@ -9,9 +9,9 @@ use Rattle.claim_core.specs.Seats.{SessionSeatValue}
 use Rattle.claim_core.specs.declared.refusals.Refused.{Refused}
 use Rattle.claim_core.specs.declared.refusals.Refused.TheVariants as refusals
 use Rattle.command_core.specs.Commands.{CommandValue}
-use Rattle.connection_core.specs.Connections.{ConnectionValue}
-use Rattle.connection_core.specs.declared.stage.Stage.{Stage}
-use Rattle.connection_core.specs.declared.stage.Stage.TheVariants.{Running}
+use Rattle.desk_core.specs.Connections.{ConnectionValue}
+use Rattle.desk_core.specs.declared.stage.Stage.{Stage}
+use Rattle.desk_core.specs.declared.stage.Stage.TheVariants.{Running}
 use Rattle.desk_core.specs.Answers.{Appended, Awaits, AwaitsBy, GoesOnYet, Grows, Heard, IsPressing, IsQuiet, IsRest, IsSatisfied, Leaves}
 use Rattle.desk_core.specs.Holding.{Holds}
 use Rattle.desk_core.specs.Steps.{SaysNext, TakesStep}

@@ -4,7 +4,7 @@ use Rattle.std.specs.Prelude.{◌==◌, cond, option_map}
 use Rattle.std.proofs.lemmas.Bool.{cases_eq, cases_lt}
 use Rattle.std.proofs.lemmas.List.{get_or_past}
 use Rattle.std.proofs.lemmas.Option.{get_or_from_slice_get, slice_get-get_or}
-use Rattle.connection_core.specs.Connections.{evicted}
+use Rattle.desk_core.specs.Connections.{evicted}
 use Rattle.desk_core.specs.declared.place.Seated.{Seated}
 use Rattle.desk_core.specs.Chains.{AreTaken, Calls, Chain, Lived, deeds_at, deeds_of, last_of}
 use Rattle.desk_core.specs.Effects.{Effect}

@@ -6,8 +6,8 @@ use Rattle.std.proofs.lemmas.List.{get_or-set_other, get_or_past}
 use Rattle.std.proofs.lemmas.List.Sums.{get_or-le-sum_by, sum_by-set, sum_by_push}
 use Rattle.std.proofs.lemmas.Option.{get_or_from_slice_get}
 use Rattle.claim_core.specs.Seats.{SessionSeatValue}
-use Rattle.connection_core.specs.Connections.{ConnectionValue, unheard, with_room}
-use Rattle.connection_core.specs.Footprints.{FootprintValue}
+use Rattle.desk_core.specs.Connections.{ConnectionValue, unheard, with_room}
+use Rattle.desk_core.specs.Footprints.{FootprintValue}
 use Rattle.desk_core.specs.declared.place.Seated.{Seated}
 use Rattle.desk_core.specs.declared.slot.Slot.{Slot}
 use Rattle.desk_core.specs.declared.turned.Turned.{Turned}

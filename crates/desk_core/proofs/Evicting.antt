@@ -3,14 +3,14 @@ use Rattle.std.proofs.Common.{◌≡◌, ◌++◌, ◌∷◌, [], ℕ, List, Opt
 use Rattle.std.specs.List.{AllByRecursion}
 use Rattle.command_core.specs.declared.command.Op.{Op}
 use Rattle.session_core.specs.declared.act.Act.{Act}
-use Rattle.connection_core.specs.Connections.{ConnectionValue, evicted, with_lost}
-use Rattle.connection_core.specs.Stages.{Executes, lost}
-use Rattle.connection_core.specs.Tasks.{all_of, tasks}
-use Rattle.connection_core.specs.declared.footprint.Cut.TheVariants as cuts
-use Rattle.connection_core.specs.declared.said.Wanted.{Wanted}
-use Rattle.connection_core.specs.declared.ended.Ended.TheVariants.{Bye, Bad, Lost, Stopped}
-use Rattle.connection_core.specs.declared.stage.Stage.{Stage}
-use Rattle.connection_core.specs.declared.stage.Stage.TheVariants.{Running, GivingUp, Closing, Parting, Leaving, Over}
+use Rattle.desk_core.specs.Connections.{ConnectionValue, evicted, with_lost}
+use Rattle.desk_core.specs.Stages.{Executes, lost}
+use Rattle.desk_core.specs.Tasks.{all_of, tasks}
+use Rattle.desk_core.specs.declared.footprint.Cut.TheVariants as cuts
+use Rattle.desk_core.specs.declared.said.Wanted.{Wanted}
+use Rattle.desk_core.specs.declared.ended.Ended.TheVariants.{Bye, Bad, Lost, Stopped}
+use Rattle.desk_core.specs.declared.stage.Stage.{Stage}
+use Rattle.desk_core.specs.declared.stage.Stage.TheVariants.{Running, GivingUp, Closing, Parting, Leaving, Over}
 use Rattle.desk_core.specs.Effects.{Effect}
 use Rattle.desk_core.specs.Histories.{Heeds, IsLoss, Lives, LivesAt, act_of, wanted_of}
 use Rattle.desk_core.specs.Keeping.{KeepsOwn, WaitsNext, is_next}

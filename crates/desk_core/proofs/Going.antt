@@ -10,15 +10,15 @@ use Rattle.claim_core.specs.Seats.{SessionSeatValue, with_seen}
 use Rattle.claim_core.specs.declared.refusals.Refused.{Refused}
 use Rattle.claim_core.specs.declared.refusals.Refused.TheVariants as refusals
 use Rattle.session_core.specs.declared.act.Act.{Act}
-use Rattle.connection_core.specs.Connections.{ConnectionValue, Fails, HearsBytes, Listens, Wants, WantsBy, filled, to_append, with_appended, with_room}
-use Rattle.connection_core.specs.Conversations.{said_of}
-use Rattle.connection_core.specs.Footprints.{FootprintValue, IsFootprint, charged, spent, total}
-use Rattle.connection_core.specs.Stages.{Executes, IsEnding, stopped}
-use Rattle.connection_core.specs.declared.progress.Progress.{Progress}
-use Rattle.connection_core.specs.declared.said.Wanted.{Wanted}
-use Rattle.connection_core.specs.declared.said.Wanted.TheVariants.{Append, Tell, Done, Rest}
-use Rattle.connection_core.specs.declared.stage.Stage.{Stage}
-use Rattle.connection_core.specs.declared.stage.Stage.TheVariants.{Running, GivingUp}
+use Rattle.desk_core.specs.Connections.{ConnectionValue, Fails, HearsBytes, Listens, Wants, WantsBy, filled, to_append, with_appended, with_room}
+use Rattle.desk_core.specs.Progress.{said_of}
+use Rattle.desk_core.specs.Footprints.{FootprintValue, IsFootprint, charged, spent, total}
+use Rattle.desk_core.specs.Stages.{Executes, IsEnding, stopped}
+use Rattle.desk_core.specs.declared.progress.Progress.{Progress}
+use Rattle.desk_core.specs.declared.said.Wanted.{Wanted}
+use Rattle.desk_core.specs.declared.said.Wanted.TheVariants.{Append, Tell, Done, Rest}
+use Rattle.desk_core.specs.declared.stage.Stage.{Stage}
+use Rattle.desk_core.specs.declared.stage.Stage.TheVariants.{Running, GivingUp}
 use Rattle.session_core.specs.declared.act.Act.TheVariants.{Direct, Do, Close}
 use Rattle.desk_core.specs.Continues.{Continues}
 use Rattle.desk_core.specs.Conversations.{StaysOrEnds}

@@ -13,31 +13,31 @@ use Rattle.session_core.specs.declared.act.Act.TheVariants.{Do, Direct, Close}
 use Rattle.session_core.specs.declared.act.CloseCode.{CloseCode}
 use Rattle.session_core.specs.declared.act.CloseCode.TheVariants.{NormalClosure, ProtocolError}
 use Rattle.session_core.specs.Sessions.{Hearing, Hears, IsOver, fresh}
-use Rattle.connection_core.specs.Connections.{ConnectionValue, HearsBytes, IsLost, IsSent, Listens, Takes, Wants, WantsBy, closed_by, loss_of, to_append, unheard, with_appended}
-use Rattle.connection_core.specs.Conversations.{IsDone, IsFinished, IsNext, after, asked, is_farewell, over, role_of, said_of}
-use Rattle.connection_core.specs.Footprints.{FootprintValue, footprint}
-use Rattle.connection_core.specs.declared.footprint.Cut.{Cut}
-use Rattle.connection_core.specs.declared.footprint.Cut.TheVariants as cuts
-use Rattle.connection_core.specs.Histories.{HasHeard}
-use Rattle.connection_core.specs.Stages.{Executes, IsEnding, IsOwnEnd, given_up, lost, parted, rested, stopped}
-use Rattle.connection_core.specs.Tasks.{Tasks, all_of}
-use Rattle.connection_core.specs.declared.ended.Ended.{Ended}
-use Rattle.connection_core.specs.declared.ended.Ended.TheVariants.{Bye, Lost, Bad, Stopped}
+use Rattle.desk_core.specs.Connections.{ConnectionValue, HearsBytes, IsLost, IsSent, Listens, Takes, Wants, WantsBy, closed_by, loss_of, to_append, unheard, with_appended}
+use Rattle.desk_core.specs.Progress.{IsDone, IsFinished, IsNext, after, asked, is_farewell, over, role_of, said_of}
+use Rattle.desk_core.specs.Footprints.{FootprintValue, footprint}
+use Rattle.desk_core.specs.declared.footprint.Cut.{Cut}
+use Rattle.desk_core.specs.declared.footprint.Cut.TheVariants as cuts
+use Rattle.desk_core.specs.Heard.{HasHeard}
+use Rattle.desk_core.specs.Stages.{Executes, IsEnding, IsOwnEnd, given_up, lost, parted, rested, stopped}
+use Rattle.desk_core.specs.Tasks.{Tasks, all_of}
+use Rattle.desk_core.specs.declared.ended.Ended.{Ended}
+use Rattle.desk_core.specs.declared.ended.Ended.TheVariants.{Bye, Lost, Bad, Stopped}
 use Rattle.frame_core.specs.declared.frame.Verb.{Verb}
 use Rattle.frame_core.specs.declared.frame.Verb.TheVariants as verbs
 use Rattle.std.proofs.lemmas.Bool.{and_parts, cases_eq, eqb-true}
 use Rattle.std.proofs.lemmas.Bool.Decides.{nat_tests}
-use Rattle.connection_core.specs.declared.progress.Role.{Role}
-use Rattle.connection_core.specs.declared.progress.Role.TheVariants.{Opens, Talks, Ends}
-use Rattle.connection_core.specs.declared.progress.Progress.{Progress}
-use Rattle.connection_core.specs.declared.progress.Progress.TheVariants.{New, Open, Ended as Finished, Gone}
-use Rattle.connection_core.specs.declared.said.Wanted.{Wanted}
-use Rattle.connection_core.specs.declared.said.Wanted.TheVariants.{Append, Tell, Done, Rest}
-use Rattle.connection_core.specs.declared.stage.Stage.{Stage}
-use Rattle.connection_core.specs.declared.stage.Stage.TheVariants.{Running, GivingUp, Closing, Parting, Leaving, Over}
+use Rattle.desk_core.specs.declared.progress.Role.{Role}
+use Rattle.desk_core.specs.declared.progress.Role.TheVariants.{Opens, Talks, Ends}
+use Rattle.desk_core.specs.declared.progress.Progress.{Progress}
+use Rattle.desk_core.specs.declared.progress.Progress.TheVariants.{New, Open, Ended as Finished, Gone}
+use Rattle.desk_core.specs.declared.said.Wanted.{Wanted}
+use Rattle.desk_core.specs.declared.said.Wanted.TheVariants.{Append, Tell, Done, Rest}
+use Rattle.desk_core.specs.declared.stage.Stage.{Stage}
+use Rattle.desk_core.specs.declared.stage.Stage.TheVariants.{Running, GivingUp, Closing, Parting, Leaving, Over}
 use Rattle.claim_core.specs.Counts.{Pair}
-use Rattle.connection_core.proofs.Footprints.{nothing_by_end}
-use Rattle.connection_core.proofs.Living.{hears_on, lost_or_not, lost_runs, nothing_heard_yet, still_runs}
+use Rattle.desk_core.proofs.Footprints.{nothing_by_end}
+use Rattle.desk_core.proofs.Hearing.{hears_on, lost_or_not, lost_runs, nothing_heard_yet, still_runs}
 use Rattle.desk_core.specs.Conversations.{StaysOrEnds}
 use Rattle.desk_core.specs.Effects.{Effect, Does, Said, Tells, commands_of, untold_of}
 use Rattle.desk_core.specs.Histories.{HasTold, IsAsked, IsBad, IsLast, IsLoss, Lives, Restaged, Steady, act_of}

@@ -8,11 +8,11 @@ use Rattle.frame_core.specs.declared.frame.Verb.TheVariants as verbs
 use Rattle.frame_core.specs.Written.{written}
 use Rattle.ws_core.specs.Sending.{with_message}
 use Rattle.outbox_core.specs.Boxes.{TakerValue}
-use Rattle.connection_core.specs.Connections.{ConnectionValue, Wants}
-use Rattle.connection_core.specs.declared.said.Wanted.{Wanted}
-use Rattle.connection_core.specs.Conversations.{number_in}
-use Rattle.connection_core.specs.declared.progress.Progress.{Progress}
-use Rattle.connection_core.specs.declared.stage.Stage.TheVariants.{Running}
+use Rattle.desk_core.specs.Connections.{ConnectionValue, Wants}
+use Rattle.desk_core.specs.declared.said.Wanted.{Wanted}
+use Rattle.desk_core.specs.Progress.{number_in}
+use Rattle.desk_core.specs.declared.progress.Progress.{Progress}
+use Rattle.desk_core.specs.declared.stage.Stage.TheVariants.{Running}
 use Rattle.desk_core.specs.Conversations.{StaysOrEnds}
 use Rattle.desk_core.specs.Keeping.{KeepsOwn}
 use Rattle.desk_core.specs.declared.kept.Kept.{Kept}

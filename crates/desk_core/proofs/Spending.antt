@@ -10,16 +10,16 @@ use Rattle.command_core.specs.declared.command.End.TheVariants as ends
 use Rattle.claim_core.specs.Counts.{Pair}
 use Rattle.session_core.specs.declared.act.Act.{Act}
 use Rattle.session_core.specs.declared.act.Act.TheVariants.{Do}
-use Rattle.connection_core.specs.Connections.{ConnectionValue, Wants, filled, to_append, with_room}
-use Rattle.connection_core.specs.Footprints.{FootprintValue, IsFootprint, IsWithin, charged, footprint, none_standing, settled, spent, standing, total}
-use Rattle.connection_core.specs.Stages.{Executes, IsEnding, given_up}
-use Rattle.connection_core.specs.Tasks.{all_of}
-use Rattle.connection_core.specs.declared.footprint.Part.{Part}
-use Rattle.connection_core.specs.declared.said.Wanted.{Wanted}
-use Rattle.connection_core.specs.declared.said.Wanted.TheVariants.{Rest}
-use Rattle.connection_core.specs.declared.stage.Stage.{Stage}
-use Rattle.connection_core.specs.declared.stage.Stage.TheVariants.{Running, GivingUp, Closing, Parting, Leaving, Over}
-use Rattle.connection_core.proofs.Footprints.{charges, within_less, within_more, within_none}
+use Rattle.desk_core.specs.Connections.{ConnectionValue, Wants, filled, to_append, with_room}
+use Rattle.desk_core.specs.Footprints.{FootprintValue, IsFootprint, IsWithin, charged, footprint, none_standing, settled, spent, standing, total}
+use Rattle.desk_core.specs.Stages.{Executes, IsEnding, given_up}
+use Rattle.desk_core.specs.Tasks.{all_of}
+use Rattle.desk_core.specs.declared.footprint.Part.{Part}
+use Rattle.desk_core.specs.declared.said.Wanted.{Wanted}
+use Rattle.desk_core.specs.declared.said.Wanted.TheVariants.{Rest}
+use Rattle.desk_core.specs.declared.stage.Stage.{Stage}
+use Rattle.desk_core.specs.declared.stage.Stage.TheVariants.{Running, GivingUp, Closing, Parting, Leaving, Over}
+use Rattle.desk_core.proofs.Footprints.{charges, within_less, within_more, within_none}
 use Rattle.desk_core.specs.Effects.{Effect, Said, commands_of}
 use Rattle.desk_core.specs.Histories.{IsLoss, Lives}
 use Rattle.desk_core.specs.Spending.{IsCut, Spends, ops_of}

@@ -1,8 +1,8 @@
 -- The box through which a session's outputs come, and its two ends.
 use Rattle.std.specs.Prelude.{◌≡◌, Option, Some, None, []}
 use Rattle.outbox_core.specs.Boxes.{BoxId, SenderValue, TakerValue}
-use Rattle.connection_core.specs.declared.progress.Role.{Role}
-use Rattle.connection_core.specs.declared.progress.Role.TheVariants.{Opens, Talks, Ends}
+use Rattle.desk_core.specs.declared.progress.Role.{Role}
+use Rattle.desk_core.specs.declared.progress.Role.TheVariants.{Opens, Talks, Ends}
 
 -- both ends of one box, to which nothing was given, with room for 4,608 outputs and 32 MiB of them
 pub record AreEnds (sender : Option SenderValue) (taker : Option TakerValue) : Type 0 where

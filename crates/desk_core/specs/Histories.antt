@@ -8,18 +8,18 @@ use Rattle.claim_core.specs.Seats.{SessionSeatValue}
 use Rattle.session_core.specs.declared.act.Act.{Act}
 use Rattle.session_core.specs.declared.act.Act.TheVariants.{Do, Direct}
 use Rattle.session_core.specs.Sessions.{Hearing, Hears, IsOver, fresh}
-use Rattle.connection_core.specs.Connections.{ConnectionValue, to_append}
-use Rattle.connection_core.specs.Conversations.{IsDone, IsFinished, IsNext, asked}
-use Rattle.connection_core.specs.Stages.{Executes, IsEnding}
-use Rattle.connection_core.specs.Tasks.{all_of}
-use Rattle.connection_core.specs.declared.progress.Progress.{Progress}
-use Rattle.connection_core.specs.declared.progress.Progress.TheVariants.{New}
-use Rattle.connection_core.specs.declared.said.Wanted.{Wanted}
-use Rattle.connection_core.specs.declared.said.Wanted.TheVariants.{Append, Tell, Done, Rest}
-use Rattle.connection_core.specs.declared.ended.Ended.{Ended}
-use Rattle.connection_core.specs.declared.ended.Ended.TheVariants.{Bye, Lost, Bad, Stopped}
-use Rattle.connection_core.specs.declared.stage.Stage.{Stage}
-use Rattle.connection_core.specs.declared.stage.Stage.TheVariants.{Running, GivingUp, Closing, Parting, Leaving, Over}
+use Rattle.desk_core.specs.Connections.{ConnectionValue, to_append}
+use Rattle.desk_core.specs.Progress.{IsDone, IsFinished, IsNext, asked}
+use Rattle.desk_core.specs.Stages.{Executes, IsEnding}
+use Rattle.desk_core.specs.Tasks.{all_of}
+use Rattle.desk_core.specs.declared.progress.Progress.{Progress}
+use Rattle.desk_core.specs.declared.progress.Progress.TheVariants.{New}
+use Rattle.desk_core.specs.declared.said.Wanted.{Wanted}
+use Rattle.desk_core.specs.declared.said.Wanted.TheVariants.{Append, Tell, Done, Rest}
+use Rattle.desk_core.specs.declared.ended.Ended.{Ended}
+use Rattle.desk_core.specs.declared.ended.Ended.TheVariants.{Bye, Lost, Bad, Stopped}
+use Rattle.desk_core.specs.declared.stage.Stage.{Stage}
+use Rattle.desk_core.specs.declared.stage.Stage.TheVariants.{Running, GivingUp, Closing, Parting, Leaving, Over}
 use Rattle.desk_core.specs.Conversations.{StaysOrEnds}
 use Rattle.desk_core.specs.Effects.{Effect, Does, commands_of, told_of, untold_of}
 use Rattle.desk_core.specs.Halting.{FindsEnd, HasHalted}

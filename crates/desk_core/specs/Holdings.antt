@@ -1,7 +1,7 @@
 -- What is kept for a connection, and counts as its memory.
 use Rattle.std.specs.Prelude.{◌≡◌, ◌≤◌, ◌+◌, ◌-◌, ◌^◌, ℕ, true, false, Option, Some, None, min}
-use Rattle.connection_core.specs.Connections.{kept_in}
-use Rattle.connection_core.specs.Weights.{op_weight}
+use Rattle.desk_core.specs.Connections.{kept_in}
+use Rattle.desk_core.specs.Weights.{op_weight}
 use Rattle.outbox_core.specs.Boxes.{TakerValue}
 use Rattle.outbox_core.specs.Weights.{most_waiting}
 use Rattle.desk_core.specs.declared.pending.Pending.{Pending}

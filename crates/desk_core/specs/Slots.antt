@@ -7,8 +7,8 @@ use Rattle.frame_core.specs.declared.frame.Frame.{Frame}
 use Rattle.frame_core.specs.declared.frame.Verb.TheVariants as verbs
 use Rattle.frame_core.specs.Written.{written}
 use Rattle.outbox_core.specs.Boxes.{TakerValue}
-use Rattle.connection_core.specs.Connections.{unheard}
-use Rattle.connection_core.specs.Conversations.{number_in}
+use Rattle.desk_core.specs.Connections.{unheard}
+use Rattle.desk_core.specs.Progress.{number_in}
 use Rattle.desk_core.specs.declared.kept.Kept.{Kept}
 use Rattle.desk_core.specs.declared.kept.Kept.TheVariants as kept
 use Rattle.desk_core.specs.declared.slot.Slot.{Slot}

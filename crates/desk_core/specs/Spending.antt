@@ -4,11 +4,11 @@ use Rattle.command_core.specs.declared.command.Op.{Op}
 use Rattle.claim_core.specs.Counts.{Pair}
 use Rattle.session_core.specs.declared.act.Act.{Act}
 use Rattle.session_core.specs.declared.act.Act.TheVariants.{Do}
-use Rattle.connection_core.specs.Connections.{ConnectionValue}
-use Rattle.connection_core.specs.Footprints.{IsWithin, footprint, standing}
-use Rattle.connection_core.specs.Stages.{Executes}
-use Rattle.connection_core.specs.declared.footprint.Cut.{Cut}
-use Rattle.connection_core.specs.declared.footprint.Cut.TheVariants as cuts
+use Rattle.desk_core.specs.Connections.{ConnectionValue}
+use Rattle.desk_core.specs.Footprints.{IsWithin, footprint, standing}
+use Rattle.desk_core.specs.Stages.{Executes}
+use Rattle.desk_core.specs.declared.footprint.Cut.{Cut}
+use Rattle.desk_core.specs.declared.footprint.Cut.TheVariants as cuts
 use Rattle.desk_core.specs.Effects.{Effect, commands_of}
 use Rattle.desk_core.specs.declared.pending.Pending.{Pending}
 

@@ -6,11 +6,11 @@ use Rattle.claim_core.specs.Seats.{SessionSeatValue}
 use Rattle.claim_core.specs.declared.limits.TheConstants.{WINDOW}
 use Rattle.command_core.specs.Commands.{CommandValue}
 use Rattle.command_core.specs.declared.command.Op.{Op}
-use Rattle.connection_core.specs.Connections.{ConnectionValue, with_appended}
-use Rattle.connection_core.specs.Conversations.{IsNext, said_of}
-use Rattle.connection_core.specs.Stages.{Executes}
-use Rattle.connection_core.specs.declared.said.Wanted.{Wanted}
-use Rattle.connection_core.specs.declared.said.Wanted.TheVariants.{Tell}
+use Rattle.desk_core.specs.Connections.{ConnectionValue, with_appended}
+use Rattle.desk_core.specs.Progress.{IsNext, said_of}
+use Rattle.desk_core.specs.Stages.{Executes}
+use Rattle.desk_core.specs.declared.said.Wanted.{Wanted}
+use Rattle.desk_core.specs.declared.said.Wanted.TheVariants.{Tell}
 use Rattle.desk_core.specs.Answers.{Grows, Leaves}
 use Rattle.desk_core.specs.Continues.{Continues}
 use Rattle.desk_core.specs.Effects.{Effect, commands_of, told_of}

@@ -1,16 +1,17 @@
 //! What a connection wants is done.
 
 ghost use Rattle.std.specs.Prelude.{◌≡◌, ◌≢◌, None, true, false};
-ghost use Rattle.connection_core.specs.Connections.{HasWantedForm, to_append};
-ghost use Rattle.connection_core.specs.Conversations.{IsNext};
+ghost use Rattle.desk_core.specs.Connections.{HasWantedForm, to_append};
+ghost use Rattle.desk_core.specs.Progress.{IsNext};
 
 use crate::pending::{Pending, charge};
 use crate::ringers::Ringers;
+use crate::said::{Said, Wanted};
 use crate::slot::Slot;
 use crate::speaking::speak;
+use crate::stage::Stage;
 use claim_core::{BrokerRing, BrokerSeat, Refused};
 use command_core::Command;
-use connection_core::{Said, Stage, Wanted};
 use outbox_core::{Bell, OutSender};
 use session_core::Notice;
 use std::alloc::Global;
@@ -70,7 +71,7 @@ impl<B: Bell> Slot<B> {
     ghost use Rattle.std.specs.Prelude.{◌∷◌, ◌⊎◌, [], Some};
     ghost use Rattle.outbox_core.specs.Boxes.{TakerValue};
     ghost use Rattle.desk_core.specs.Answers.{Appended, IsQuiet, Leaves};
-    ghost use Rattle.connection_core.specs.declared.said.Wanted.TheVariants.{Append};
+    ghost use Rattle.desk_core.specs.declared.said.Wanted.TheVariants.{Append};
     ghost use Rattle.desk_core.specs.Continues.{Continues};
     ghost use Rattle.desk_core.specs.Conversations.{StaysOrEnds};
     ghost use Rattle.desk_core.specs.Halting.{HasHalted, IsFinal};

@@ -2,8 +2,12 @@
 
 #![tactic(auto)]
 
+mod acts;
 mod appending;
+mod connection;
 mod desk;
+mod ended;
+mod footprint;
 mod holding;
 mod kept;
 mod laws;
@@ -12,14 +16,20 @@ mod passing;
 mod pending;
 mod place;
 mod placing;
+mod progress;
 mod relaying;
 mod ringers;
+mod said;
 mod slot;
 mod speaking;
+mod stage;
 mod turned;
 mod turning;
+mod weights;
 
 pub use desk::Desk;
+pub use ended::Ended;
+pub use footprint::{Cut, SESSION_BYTES};
 pub use kept::{Kept, Relayed};
 pub use laws::a_connection_at_a_desk_lives_one_life;
 pub use place::{NotAdmitted, Seated};

@@ -5,11 +5,12 @@ ghost use Rattle.desk_core.specs.Conversations.{StaysOrEnds};
 ghost use Rattle.desk_core.specs.Histories.{Steady};
 ghost use Rattle.desk_core.specs.Relays.{ReadsMark};
 
+use crate::connection::Connection;
 use crate::kept::Relayed;
 use crate::relaying::relay;
 use crate::slot::Slot;
+use crate::stage::Stage;
 use claim_core::{BrokerRing, BrokerSeat};
-use connection_core::{Connection, Stage};
 use outbox_core::{Bell, OutSender};
 use std::alloc::Global;
 use ws_core::{Link, LinkFault};

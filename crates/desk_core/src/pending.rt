@@ -1,16 +1,19 @@
 //! A command on its way into the ring.
 
 ghost use Rattle.std.specs.Prelude.{◌≡◌, ◌≢◌, ◌≤◌, [], Some, None, IfOk, IfErr};
-ghost use Rattle.connection_core.specs.Conversations.{role_of, said_of};
-ghost use Rattle.connection_core.specs.Footprints.{charged, spent, total};
-ghost use Rattle.connection_core.specs.Weights.{op_weight};
-ghost use Rattle.connection_core.specs.declared.progress.Role.TheVariants.{Opens};
+ghost use Rattle.desk_core.specs.Progress.{role_of, said_of};
+ghost use Rattle.desk_core.specs.Footprints.{charged, spent, total};
+ghost use Rattle.desk_core.specs.Weights.{op_weight};
+ghost use Rattle.desk_core.specs.declared.progress.Role.TheVariants.{Opens};
 ghost use Rattle.outbox_core.specs.Boxes.{TakerValue};
 ghost use Rattle.desk_core.specs.Boxes.{IsBoxFor, box_of};
 
+use crate::connection::Connection;
+use crate::progress::Role;
 use crate::ringers::Ringers;
+use crate::said::Said;
+use crate::weights::weigh_op;
 use command_core::{Command, Entry};
-use connection_core::{Connection, Role, Said, weigh_op};
 use outbox_core::{Bell, BoxSize, OutSender, OutTaker, outbox};
 use std::alloc::{AllocError, Global};
 

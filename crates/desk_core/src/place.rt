@@ -1,7 +1,7 @@
 //! A place at a desk.
 
 use crate::slot::Slot;
-use connection_core::Stage;
+use crate::stage::Stage;
 use outbox_core::Bell;
 use ws_core::Link;
 
@@ -25,7 +25,7 @@ pub enum NotAdmitted {
 pub(crate) type Place<B, L> = Option<Seated<B, L>>;
 
 impl<B: Bell, L: Link> Seated<B, L> {
-    ghost use Rattle.connection_core.specs.Connections.{with_given_up, with_lost};
+    ghost use Rattle.desk_core.specs.Connections.{with_given_up, with_lost};
     ghost use Rattle.desk_core.specs.Histories.{Idles};
     ghost use Rattle.desk_core.specs.Holdings.{IsHeld};
     ghost use Rattle.desk_core.specs.Places.{IsChanged};

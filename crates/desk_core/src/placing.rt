@@ -3,7 +3,7 @@
 ghost use Rattle.std.specs.Prelude.{◌≡◌, ◌≢◌, ◌+◌, ◌-◌, [], length, slice_get, false, Some, None, IfSome, IsNone, IsSome, OnErr, OnOk, true};
 ghost use Rattle.std.specs.Vec.{vec_capacity};
 ghost use Rattle.desk_core.specs.Continues.{Continues};
-ghost use Rattle.connection_core.specs.Connections.{evicted, with_given_up, with_lost};
+ghost use Rattle.desk_core.specs.Connections.{evicted, with_given_up, with_lost};
 ghost use Rattle.desk_core.specs.Desks.{Trims, reaching};
 ghost use Rattle.desk_core.specs.Places.{ChangedAt, KeepsWithin, PingedAt, Recounts, ServedAt, UnservedAt, counted_at, is_over_at, progress_at};
 

@@ -1,12 +1,13 @@
 //! One connection at a seat, with its outbox.
 
 ghost use Rattle.std.specs.Prelude.{◌≡◌, None};
-ghost use Rattle.connection_core.specs.Conversations.{number_in};
+ghost use Rattle.desk_core.specs.Progress.{number_in};
 ghost use Rattle.desk_core.specs.Keeping.{KeepsOwn, WaitsNext};
 
+use crate::connection::Connection;
 use crate::kept::Kept;
 use crate::pending::Pending;
-use connection_core::{Connection, Stage};
+use crate::stage::Stage;
 use outbox_core::{Bell, OutTaker};
 use std::alloc::Global;
 
@@ -26,8 +27,8 @@ pub struct Slot<B: Bell> {
 
 impl<B: Bell> Slot<B> {
     ghost use Rattle.std.specs.Prelude.{◌≤◌};
-    ghost use Rattle.connection_core.specs.Connections.{evicted, with_room};
-    ghost use Rattle.connection_core.specs.Footprints.{IsFootprint};
+    ghost use Rattle.desk_core.specs.Connections.{evicted, with_room};
+    ghost use Rattle.desk_core.specs.Footprints.{IsFootprint};
     ghost use Rattle.desk_core.specs.Holdings.{IsKept, MayWait, entry_weight};
     ghost use Rattle.desk_core.specs.Places.{is_over};
     ghost use Rattle.desk_core.specs.Slots.{IsNew};

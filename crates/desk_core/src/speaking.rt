@@ -3,13 +3,14 @@
 ghost use Rattle.std.specs.Prelude.{◌≡◌, ◌≤◌, IfErr, IfOk};
 ghost use Rattle.claim_core.specs.declared.limits.TheConstants.{WINDOW};
 ghost use Rattle.claim_core.specs.Appends.{Refuses};
-ghost use Rattle.connection_core.specs.Conversations.{IsNext, said_of};
+ghost use Rattle.desk_core.specs.Progress.{IsNext, said_of};
 ghost use Rattle.desk_core.specs.Continues.{Continues};
 ghost use Rattle.desk_core.specs.Steps.{SaysNext};
 
+use crate::connection::Connection;
+use crate::said::Said;
 use claim_core::{BrokerRing, BrokerSeat, Refused};
 use command_core::Entry;
-use connection_core::{Connection, Said};
 
 // Appends the next command of a connection's conversation, which is this to its session, and answers its ticket. If the ring refuses,
 // the entry comes back.

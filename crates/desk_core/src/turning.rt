@@ -4,12 +4,13 @@ ghost use Rattle.std.specs.Prelude.{◌≡◌, ◌≢◌, false};
 ghost use Rattle.desk_core.specs.Answers.{IsPressing};
 
 use crate::appending::Step;
+use crate::ended::Ended;
 use crate::passing::PassedOn;
 use crate::ringers::Ringers;
 use crate::slot::Slot;
+use crate::stage::Stage;
 use crate::turned::{Next, Turned};
 use claim_core::{BrokerRing, BrokerSeat};
-use connection_core::{Ended, Stage};
 use outbox_core::{Bell, OutSender};
 use std::alloc::Global;
 use ws_core::{CloseReason, Link, LinkFault, Received};
@@ -30,8 +31,8 @@ impl<B: Bell> Slot<B> {
     ghost use Rattle.desk_core.specs.Answers.{Answers, AwaitsBy, IsRest, IsSatisfied};
     ghost use Rattle.desk_core.specs.declared.appending.Step.{Step};
     ghost use Rattle.desk_core.specs.declared.turning.Hearing.TheVariants.{Something};
-    ghost use Rattle.connection_core.specs.Connections.{Listens};
-    ghost use Rattle.connection_core.specs.declared.stage.Stage.TheVariants.{Running};
+    ghost use Rattle.desk_core.specs.Connections.{Listens};
+    ghost use Rattle.desk_core.specs.declared.stage.Stage.TheVariants.{Running};
     ghost use Rattle.desk_core.specs.Steps.{GoesOn};
     ghost use Rattle.desk_core.specs.Histories.{Idles};
     ghost use Rattle.desk_core.specs.Slots.{Unserved};

@@ -1,5 +1,5 @@
 use Rattle.std.proofs.Common.{refl}
-use Rattle.connection_core.specs.Connections.{evicted}
+use Rattle.desk_core.specs.Connections.{evicted}
 use Rattle.desk_core.proofs.Standing.{changed_some}
 use Rattle.desk_core.proofs.placing.evict_at.Goals as goal
 

@@ -1,4 +1,4 @@
-use Rattle.connection_core.specs.Connections.{with_given_up}
+use Rattle.desk_core.specs.Connections.{with_given_up}
 use Rattle.desk_core.proofs.Standing.{changed_some, unserved_some}
 use Rattle.desk_core.proofs.placing.give_up_at.Goals as goal
 

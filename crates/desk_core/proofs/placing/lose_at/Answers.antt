@@ -1,4 +1,4 @@
-use Rattle.connection_core.specs.Connections.{with_lost}
+use Rattle.desk_core.specs.Connections.{with_lost}
 use Rattle.desk_core.proofs.Standing.{changed_some, unserved_some}
 use Rattle.desk_core.proofs.placing.lose_at.Goals as goal
 

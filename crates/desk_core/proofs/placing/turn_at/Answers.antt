@@ -1,5 +1,5 @@
 use Rattle.std.proofs.Common.{◌-◌, ap, ◌∙◌}
-use Rattle.connection_core.specs.Connections.{with_room}
+use Rattle.desk_core.specs.Connections.{with_room}
 use Rattle.desk_core.specs.Places.{counted_at}
 use Rattle.desk_core.proofs.Counting.{room_left, served_at}
 use Rattle.desk_core.proofs.placing.turn_at.Goals as goal

@@ -1,8 +1,8 @@
 use Rattle.std.proofs.Common.{◌≡◌, ◌∙◌, ap, sym, subst}
-use Rattle.connection_core.specs.Connections.{ConnectionValue, with_appended}
-use Rattle.connection_core.specs.Conversations.{after, role_of}
-use Rattle.connection_core.specs.declared.progress.Progress.{Progress}
-use Rattle.connection_core.specs.declared.said.Said.{Said}
+use Rattle.desk_core.specs.Connections.{ConnectionValue, with_appended}
+use Rattle.desk_core.specs.Progress.{after, role_of}
+use Rattle.desk_core.specs.declared.progress.Progress.{Progress}
+use Rattle.desk_core.specs.declared.said.Said.{Said}
 use Rattle.desk_core.specs.Continues.{Continues}
 use Rattle.desk_core.proofs.Answering.{wider}
 use Rattle.desk_core.proofs.Talking.{said, unsaid}

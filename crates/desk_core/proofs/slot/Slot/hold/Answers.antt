@@ -1,5 +1,5 @@
 use Rattle.std.proofs.Common.{inl, inr, ap, refl, sym, subst}
-use Rattle.connection_core.specs.Connections.{ConnectionValue}
+use Rattle.desk_core.specs.Connections.{ConnectionValue}
 use Rattle.desk_core.specs.declared.appending.Step.TheVariants.{Rest}
 use Rattle.desk_core.specs.Halting.{IsFinal}
 use Rattle.desk_core.specs.Holding.{Holds}

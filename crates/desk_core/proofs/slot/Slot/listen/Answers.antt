@@ -1,6 +1,6 @@
 use Rattle.std.proofs.Common.{refl, subst, List, ℕ}
 use Rattle.std.specs.Prelude.{OnOk}
-use Rattle.connection_core.specs.Connections.{HearsBytes}
+use Rattle.desk_core.specs.Connections.{HearsBytes}
 use Rattle.desk_core.proofs.Answering.{no_more}
 use Rattle.desk_core.proofs.Going.{heeds_bytes, heeds_silence}
 use Rattle.desk_core.proofs.Living.{gives_up, loses, same_stage}

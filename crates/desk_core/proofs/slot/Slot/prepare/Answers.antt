@@ -2,10 +2,10 @@ use Rattle.std.proofs.Common.{◌≡◌, ◌<◌, ◌≤◌, ◌∷◌, ◌∙�
 use Rattle.command_core.specs.Commands.{CommandValue}
 use Rattle.command_core.specs.declared.command.Op.{Op}
 use Rattle.session_core.specs.declared.act.Act.TheVariants.{Do}
-use Rattle.connection_core.specs.Connections.{ConnectionValue, to_append}
-use Rattle.connection_core.specs.Conversations.{IsNext}
-use Rattle.connection_core.specs.declared.progress.Progress.{Progress}
-use Rattle.connection_core.specs.Footprints.{charged, total}
+use Rattle.desk_core.specs.Connections.{ConnectionValue, to_append}
+use Rattle.desk_core.specs.Progress.{IsNext}
+use Rattle.desk_core.specs.declared.progress.Progress.{Progress}
+use Rattle.desk_core.specs.Footprints.{charged, total}
 use Rattle.desk_core.specs.Halting.{HasHalted}
 use Rattle.desk_core.proofs.Going.{again_so, charged_so, cut_so, keeps_same, nothing_wanted}
 use Rattle.desk_core.proofs.slot.Slot.prepare.Goals as goal

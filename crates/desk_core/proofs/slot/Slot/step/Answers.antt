@@ -1,8 +1,8 @@
 use Rattle.std.proofs.Common.{◌∙◌, refl, subst, sym}
-use Rattle.connection_core.specs.Connections.{Wants, to_append}
-use Rattle.connection_core.specs.Stages.{Executes}
-use Rattle.connection_core.specs.declared.said.Said.{Said}
-use Rattle.connection_core.specs.declared.said.Wanted.TheVariants.{Append, Tell}
+use Rattle.desk_core.specs.Connections.{Wants, to_append}
+use Rattle.desk_core.specs.Stages.{Executes}
+use Rattle.desk_core.specs.declared.said.Said.{Said}
+use Rattle.desk_core.specs.declared.said.Wanted.TheVariants.{Append, Tell}
 use Rattle.desk_core.proofs.Answering.{quiet_takes}
 use Rattle.desk_core.proofs.Going.{goes_done, goes_none, goes_pending, goes_rest, goes_telling, goes_wanted, not_some, still_executes}
 use Rattle.desk_core.proofs.Living.{next_so}

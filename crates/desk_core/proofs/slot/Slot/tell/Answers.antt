@@ -1,6 +1,6 @@
 use Rattle.std.proofs.Common.{◌∙◌, inr, refl, subst, sym, ap}
-use Rattle.connection_core.specs.Connections.{ConnectionValue}
-use Rattle.connection_core.specs.declared.said.Wanted.TheVariants.{Tell}
+use Rattle.desk_core.specs.Connections.{ConnectionValue}
+use Rattle.desk_core.specs.declared.said.Wanted.TheVariants.{Tell}
 use Rattle.session_core.specs.declared.act.Act.TheVariants.{Direct}
 use Rattle.desk_core.specs.Halting.{HasHalted}
 use Rattle.desk_core.specs.Histories.{HasTold}
