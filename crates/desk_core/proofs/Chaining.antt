@@ -39,7 +39,7 @@ module _ {B L : Type 0} (sent : L → Option (List (List ℕ))) (received : L �
   at_place old new at (inr (inl touch)) s sat taken = let is = touch.unserved s sat in (is.0, is.1, is.3.heeds)
   at_place old new at (inr (inr (inl changes))) s sat taken =
       let is = subst (λ o. ChangedAt evicted o (seated_at new.places at)) (get_or_from_slice_get old.places at (Some s) None sat) changes.changed in
-      (is.0, sits_there new.places at is.0 is.1, evicts received s.slot is.0.slot s.link is.0.link (ap received is.2.link) is.2.connection is.2.pending)
+      (is.0, sits_there new.places at is.0 is.1, evicts received s.slot is.0.slot s.link is.0.link (ap received is.2.link) is.2.connection is.2.waiting)
   at_place old new at (inr (inr (inr (link, inl admits)))) s sat taken = absurd (never_free old.places at s admits.was_free sat)
   at_place old new at (inr (inr (inr (link, inr leaves)))) s sat taken = absurd (never_free new.places at taken.0 leaves.free taken.1)
 

@@ -236,7 +236,7 @@ touches_none {B} {L} sent received old new at same = record {
   seat = ap (λ (d : DeskValue B L). d.seat) same;
   limit = ap (λ (d : DeskValue B L). d.limit) same;
   others = nothing_else old.places new.places at (ap (λ (d : DeskValue B L). d.places) same);
-  unserved = λ w sat. (w, ap (λ (d : DeskValue B L). slice_get d.places at) same ∙ sat, record { progress = refl; pending = refl; outbox = refl; kept = refl; sent = refl }, heeds_none received w.slot w.link);
+  unserved = λ w sat. (w, ap (λ (d : DeskValue B L). slice_get d.places at) same ∙ sat, record { progress = refl; waiting = refl; opening = refl; outbox = refl; kept = refl; sent = refl }, heeds_none received w.slot w.link);
 }
 
 pub unserved_some : {B L : Type 0} (sent : L → Option (List (List ℕ))) (received : L → Option (List ℕ)) (o : Option (Seated B L)) (was is : Seated B L) → o ≡ Some was → Unserved sent was.slot was.link is.slot is.link → Idles received was.slot was.link is.slot is.link

@@ -1,5 +1,5 @@
 -- What contracts see of a connection, and what its calls do.
-use Rattle.std.specs.Prelude.{◌≡◌, ◌+◌, ◌∷◌, ℕ, List, [], Option, Some, None, cond, length}
+use Rattle.std.specs.Prelude.{◌≡◌, ◌+◌, ◌∷◌, ℕ, List, [], Bool, Option, Some, None, cond, length}
 use Rattle.command_core.specs.Commands.{CommandValue}
 use Rattle.command_core.specs.declared.command.End.TheVariants as ends
 use Rattle.command_core.specs.declared.command.Op.{Op}
@@ -7,23 +7,21 @@ use Rattle.command_core.specs.declared.command.Op.TheVariants as ops
 use Rattle.frame_core.specs.declared.frame.Verb.{Verb}
 use Rattle.frame_core.specs.declared.frame.Verb.TheVariants as verbs
 use Rattle.session_core.specs.declared.act.Act.{Act}
-use Rattle.session_core.specs.declared.act.Act.TheVariants.{Do, Direct, Close}
+use Rattle.session_core.specs.declared.act.Act.TheVariants.{Do}
 use Rattle.session_core.specs.declared.act.CloseCode.{CloseCode}
 use Rattle.session_core.specs.declared.act.CloseCode.TheVariants.{NormalClosure, ProtocolError}
 use Rattle.session_core.specs.declared.phase.Phase.TheVariants.{Failed}
-use Rattle.session_core.specs.Sessions.{HasForm, Hearing, Hears, fresh, held_in, is_held}
-use Rattle.desk_core.specs.Progress.{IsNext, after, asked, over, said_of}
-use Rattle.desk_core.specs.Stages.{given_up, lost, rested}
+use Rattle.session_core.specs.Sessions.{Hearing, Hears, fresh, held_in, is_held}
+use Rattle.desk_core.specs.Progress.{IsNext, after, asked, over}
+use Rattle.desk_core.specs.Stages.{given_up, lost}
 use Rattle.desk_core.specs.Tasks.{Tasks, tasks, all_of}
 use Rattle.desk_core.specs.Weights.{weight_of_all}
 use Rattle.desk_core.specs.Footprints.{FootprintValue, none_standing, settled}
 use Rattle.desk_core.specs.declared.footprint.Cut.TheVariants as cuts
-use Rattle.desk_core.specs.declared.said.Said.{Said}
-use Rattle.desk_core.specs.declared.said.Wanted.{Wanted}
-use Rattle.desk_core.specs.declared.said.Wanted.TheVariants.{Append, Tell, Done, Rest}
 use Rattle.desk_core.specs.declared.ended.Ended.TheVariants.{Bye, Bad}
 use Rattle.desk_core.specs.declared.progress.Progress.{Progress}
 use Rattle.desk_core.specs.declared.progress.Progress.TheVariants.{New, Open, Ended, Gone}
+use Rattle.desk_core.specs.declared.progress.Role.{Role}
 use Rattle.desk_core.specs.declared.stage.Stage.{Stage}
 use Rattle.desk_core.specs.declared.stage.Stage.TheVariants.{Running, GivingUp, Closing, Leaving}
 
@@ -118,38 +116,14 @@ closed_by NormalClosure (Some number) progress stage = stage
 closed_by ProtocolError last progress stage = stage
 
 -- What an operation asks for: its command, if that may be the next of the conversation.
-abbrev pub Asks : Progress → Op → Option (List ℕ) → Wanted → Type 0
-Asks progress op receipt (Append command said) = (command ≡ asked progress op receipt) × IsNext progress command × (said ≡ said_of command)
-Asks progress op receipt Done = IsNext progress (asked progress op receipt) → ⊥
-Asks progress op receipt (Tell notice) = ⊥
-Asks progress op receipt Rest = ⊥
+abbrev pub Asks : Progress → Op → Option (List ℕ) → Option CommandValue → Type 0
+Asks progress op receipt (Some command) = (command ≡ asked progress op receipt) × IsNext progress command
+Asks progress op receipt None = IsNext progress (asked progress op receipt) → ⊥
 
--- What is wanted is what the next act asks for: that its command is appended, or that a frame is told. A close asks for nothing from
--- outside. If there is no act, the connection rests.
-abbrev pub WantsBy : ConnectionValue → ConnectionValue → Option Act → Wanted → Type 0
-WantsBy old new (Some (Do op receipt)) wanted = Asks old.progress op receipt wanted × (new.stage ≡ old.stage)
-WantsBy old new (Some (Direct frame)) wanted = (wanted ≡ Tell frame) × (new.stage ≡ old.stage)
-WantsBy old new (Some (Close code)) wanted = (wanted ≡ Done) × (new.stage ≡ closed_by code old.last old.progress old.stage)
-WantsBy old new None wanted = (wanted ≡ Rest) × (new.stage ≡ rested old.stage)
-
-pub record Wants (old new : ConnectionValue) (wanted : Wanted) : Type 0 where
-  pub act : Option Act
-  pub taken : Takes old (record new { stage = old.stage }) act
-  pub asked_for : WantsBy old new act wanted
-
--- A command that is wanted has its form, is the next of the conversation, and is told as what it is.
-abbrev pub HasWantedForm : Progress → Wanted → Type 0
-HasWantedForm progress (Append command said) = HasForm (Do command.op command.receipt) × IsNext progress command × (said ≡ said_of command)
-HasWantedForm progress _ = Unit {0}
-
--- that a command is appended
-abbrev pub to_append : CommandValue → Wanted
-to_append command = Append command (said_of command)
-
--- a command was appended with that ticket
-abbrev pub with_appended : ConnectionValue → Said → ℕ → ConnectionValue
-with_appended old said ticket =
-    record old { progress = after old.progress said.role ticket; footprint = settled old.footprint; last = cond said.is_last (Some ticket) old.last }
+-- a command was appended with that ticket: one in that role, whose RECEIPT may be the last frame
+abbrev pub with_appended : ConnectionValue → Role → Bool → ℕ → ConnectionValue
+with_appended old role is_last ticket =
+    record old { progress = after old.progress role ticket; footprint = settled old.footprint; last = cond is_last (Some ticket) old.last }
 
 -- The frame of that command and verb was sent. After an ERROR the connection is closed and nothing more is appended (STOMP 1.2, "ERROR").
 -- After the RECEIPT of the DISCONNECT it is closed ("DISCONNECT").

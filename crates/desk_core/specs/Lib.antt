@@ -8,13 +8,12 @@ pub mod Desks
 pub mod Effects
 pub mod Footprints
 pub mod Halting
-pub mod Heard
 pub mod Histories
-pub mod Holding
 pub mod Holdings
 pub mod Keeping
 pub mod Places
 pub mod Progress
+pub mod Refusals
 pub mod Relays
 pub mod Slots
 pub mod Spending

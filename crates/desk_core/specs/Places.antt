@@ -89,7 +89,8 @@ is_open_at (Some seated) = is_some (number_at seated.slot)
 -- a connection is changed so, and nothing else of what sits there
 pub record IsChanged {B L : Type 0} (f : ConnectionValue → ConnectionValue) (was is : Seated B L) : Type 0 where
   pub connection : is.slot.connection ≡ f was.slot.connection
-  pub pending : is.slot.pending ≡ was.slot.pending
+  pub waiting : is.slot.waiting ≡ was.slot.waiting
+  pub opening : is.slot.opening ≡ was.slot.opening
   pub outbox : is.slot.outbox ≡ was.slot.outbox
   pub kept : is.slot.kept ≡ was.slot.kept
   pub link : is.link ≡ was.link

@@ -9,7 +9,6 @@ use Rattle.desk_core.specs.declared.progress.Progress.{Progress}
 use Rattle.desk_core.specs.declared.progress.Progress.TheVariants.{New, Open, Ended, Gone}
 use Rattle.desk_core.specs.declared.progress.Role.{Role}
 use Rattle.desk_core.specs.declared.progress.Role.TheVariants.{Opens, Talks, Ends}
-use Rattle.desk_core.specs.declared.said.Said.{Said}
 
 -- whether an operation opens its session, goes on with it, or ends it
 abbrev pub role_of : Op → Role
@@ -80,6 +79,6 @@ abbrev pub is_farewell : Op → Bool
 is_farewell (ops.End Bye) = true
 is_farewell _ = false
 
--- what a command is to its session: its role, and whether its receipt is the last frame
-abbrev pub said_of : CommandValue → Said
-said_of c = record { role = role_of c.op; is_last = is_farewell c.op && is_some c.receipt }
+-- its RECEIPT is the last frame
+abbrev pub is_last : CommandValue → Bool
+is_last c = is_farewell c.op && is_some c.receipt

@@ -8,19 +8,18 @@ use crate::acts::Acts;
 use crate::ended::Ended;
 use crate::footprint::{Cut, Footprint};
 use crate::progress::{Progress, Role};
-use crate::said::{Said, Wanted};
 use crate::stage::Stage;
 use command_core::{Command, End, HeaderText, Op};
 use frame_core::Verb;
-use session_core::{Act, CloseCode, Notice, Session, SessionFault};
+use session_core::{Act, CloseCode, Session, SessionFault};
 use std::alloc::{AllocError, Global};
 use std::marker::Model;
 use std::mem;
 
 /// One connection. What came goes in, and what is to be done comes out, one at a time and in order. What became of it goes in again.
 ///
-/// What it wants appended is one conversation with the broker: an Open, then commands of the session whose number is the Open's ticket,
-/// and at most one End. After the End it wants nothing. These are what the client's bytes ask for, in that order, however they were cut.
+/// Its commands are one conversation with the broker: an Open, then commands of the session whose number is the Open's ticket, and at
+/// most one End. After the End there are none. These are what the client's bytes ask for, in that order, however they were cut.
 /// If the connection is lost while its session is open, the session's end is one of them.
 #[derive(Drop)]
 pub struct Connection {
@@ -48,11 +47,10 @@ impl Connection {
     ghost use Rattle.session_core.specs.declared.act.Act.{Act};
     ghost use Rattle.session_core.specs.declared.act.Act.TheVariants as acts;
     ghost use Rattle.session_core.specs.Sessions.{HasForm};
-    ghost use Rattle.desk_core.specs.Connections.{Asks, Fails, HasWantedForm, HearsBytes, IsSent, Listens, Takes, Wants, closed_by, evicted, filled, kept_in, unheard, with_appended, with_given_up, with_lost, with_room};
+    ghost use Rattle.desk_core.specs.Connections.{Asks, Fails, HearsBytes, IsSent, Listens, Takes, closed_by, evicted, filled, kept_in, unheard, with_appended, with_given_up, with_lost, with_room};
     ghost use Rattle.desk_core.specs.Progress.{number_in, over};
     ghost use Rattle.desk_core.specs.Footprints.{IsFootprint, charged, spent, total};
-    ghost use Rattle.desk_core.specs.Heard.{HasHeard, Went};
-    ghost use Rattle.desk_core.specs.Stages.{parted, stopped};
+    ghost use Rattle.desk_core.specs.Stages.{parted, rested, stopped};
     ghost use Rattle.desk_core.specs.Tasks.{all_of, tasks};
     ghost use Rattle.desk_core.specs.Weights.{weight_of_all};
     ghost use Rattle.desk_core.specs.declared.stage.Stage.TheVariants.{Closing};
@@ -61,8 +59,7 @@ impl Connection {
     /// A connection whose client was not heard yet. All sessions of its desk together may have `limit` bytes in a snapshot, and `allow`
     /// says how many it may have. No memory is taken.
     pub fn new(alloc: Global, limit: u64) -> Connection
-        ensures value { result ≡ unheard limit }
-        ensures life { HasHeard [] [] result }
+        ensures { result ≡ unheard limit }
     {
         Connection {
             session: Session::new(alloc),
@@ -115,17 +112,6 @@ impl Connection {
     /// Hears the next bytes of its client. If memory is refused, the connection is given up, and nothing that these bytes ask for is
     /// done.
     pub fn hear(&mut self, alloc: Global, bytes: &[u8]) -> Result<(), SessionFault>
-        requires { Listens self.old }
-        ensures heard { OnOk result (HearsBytes self.old bytes.now self.new) }
-        ensures failed { OnErr result (Fails self.old self.new) }
-        ensures life { (before : List ℕ) (taken : List Act) → HasHeard before taken self.old → OnOk result (HasHeard (before ++ bytes.now) taken self.new) }
-        ensures life_err { (before : List ℕ) (taken : List Act) → HasHeard before taken self.old → OnErr result (HasHeard before taken self.new) }
-    {
-        self.feed(alloc, bytes)
-    }
-
-    // The same, without what it means for all that was heard.
-    fn feed(&mut self, alloc: Global, bytes: &[u8]) -> Result<(), SessionFault>
         requires { Listens self.old }
         ensures heard { OnOk result (HearsBytes self.old bytes.now self.new) }
         ensures failed { OnErr result (Fails self.old self.new) }
@@ -225,38 +211,8 @@ impl Connection {
         self.stage = self.stage.stopped();
     }
 
-    /// What it wants next.
-    pub fn next(&mut self) -> Wanted
-        ensures wants { Wants self.old self.new result }
-        ensures form { HasWantedForm self.new.progress result }
-        ensures first { self.new.acts.again ≡ None }
-        ensures life { (bytes : List ℕ) (taken : List Act) → HasHeard bytes taken self.old → Went bytes taken self.old self.new }
-    {
-        self.want()
-    }
-
-    // The same, without what it means for all that was heard.
-    fn want(&mut self) -> Wanted
-        ensures wants { Wants self.old self.new result }
-        ensures form { HasWantedForm self.new.progress result }
-        ensures first { self.new.acts.again ≡ None }
-    {
-        match self.next_act() {
-            Some(Act::Do(op, receipt)) => self.ask(op, receipt),
-            Some(Act::Direct(notice)) => Wanted::Tell(notice),
-            Some(Act::Close(code)) => {
-                self.close(code);
-                Wanted::Done
-            }
-            None => {
-                self.stage = self.stage.rested();
-                Wanted::Rest
-            }
-        }
-    }
-
-    // The next act: those that wait come first. If the connection is lost, the end of its session is the last.
-    fn next_act(&mut self) -> Option<Act>
+    /// The next act, which is taken. If none waits and the connection is lost, it is the end of a session that is open.
+    pub fn next(&mut self) -> Option<Act>
         ensures takes { Takes self.old self.new result }
         ensures form { IfSome result HasForm }
     {
@@ -267,26 +223,30 @@ impl Connection {
         }
     }
 
-    // The command of an operation, if it may be the next of the conversation.
-    fn ask(&self, op: Op, receipt: Option<HeaderText>) -> Wanted
+    /// Memory was refused for the act that was taken: it is the next again.
+    pub fn put_back(&mut self, act: Act)
+        requires form { HasForm act }
+        requires first { self.old.acts.again ≡ None }
+        ensures { self.new ≡ record self.old { acts = record self.old.acts { again = Some act } } }
+    {
+        self.acts.put_back(act);
+    }
+
+    /// The command of an operation, if it may be the next of the conversation.
+    pub fn ask(&self, op: Op, receipt: Option<HeaderText>) -> Option<Command>
         requires { HasForm (acts.Do op receipt) }
-        ensures asks { Asks self.now.progress op receipt result }
-        ensures form { HasWantedForm self.now.progress result }
+        ensures { Asks self.now.progress op receipt result }
     {
         let role = Role::of(&op);
         if !self.progress.admits(role) {
-            drop(op);
-            drop(receipt);
-            return Wanted::Done;
+            return None;
         }
-        let command = Command::new(self.progress.session(role), op, receipt);
-        let said = Said::of(&command, role);
-        Wanted::Append(command, said)
+        Some(Command::new(self.progress.session(role), op, receipt))
     }
 
-    // A fault closes the connection once its ERROR is sent. A DISCONNECT closes it at once, or once its RECEIPT is sent. Its End comes
-    // before; here it is made sure of.
-    fn close(&mut self, code: CloseCode)
+    /// A fault closes the connection once its ERROR is sent. A DISCONNECT closes it at once, or once its RECEIPT is sent. Its End comes
+    /// before; here it is made sure of.
+    pub fn close(&mut self, code: CloseCode)
         ensures { self.new ≡ record self.old { stage = closed_by code self.old.last self.old.progress self.old.stage } }
     {
         if code == CloseCode::NormalClosure && self.last_receipt.is_none() {
@@ -294,36 +254,25 @@ impl Connection {
         }
     }
 
-    /// Memory was refused for the command that it wanted appended: the command is the next again.
-    pub fn retry(&mut self, command: Command)
-        requires form { HasForm (acts.Do command.op command.receipt) }
-        requires first { self.old.acts.again ≡ None }
-        ensures { self.new ≡ record self.old { acts = record self.old.acts { again = Some (acts.Do command.op command.receipt) } } }
+    /// Nothing that was asked for is left to be done.
+    pub fn rest(&mut self)
+        ensures { self.new ≡ record self.old { stage = rested self.old.stage } }
     {
-        let (_, op, receipt) = command.into_parts();
-        self.acts.put_back(Act::Do(op, receipt));
+        self.stage = self.stage.rested();
     }
 
-    /// Memory was refused for the frame that it wanted to be told: the frame is the next again.
-    pub fn retry_telling(&mut self, notice: Notice)
-        requires first { self.old.acts.again ≡ None }
-        ensures { self.new ≡ record self.old { acts = record self.old.acts { again = Some (acts.Direct notice) } } }
+    /// The next command of its conversation was appended with that ticket: one in that role, whose RECEIPT may be the last frame.
+    pub fn appended(&mut self, role: Role, is_last: bool, ticket: u64)
+        ensures { self.new ≡ with_appended self.old role is_last ticket }
     {
-        self.acts.put_back(Act::Direct(notice));
-    }
-
-    /// A command that it wanted was appended with that ticket.
-    pub fn appended(&mut self, said: Said, ticket: u64)
-        ensures { self.new ≡ with_appended self.old said ticket }
-    {
-        self.progress = self.progress.after(said.role, ticket);
+        self.progress = self.progress.after(role, ticket);
         self.footprint.settle();
-        if said.is_last {
+        if is_last {
             self.last_receipt = Some(ticket);
         }
     }
 
-    /// The frame that it wanted to be told, an ERROR, was sent. Nothing more is appended, and the connection is to be closed.
+    /// An ERROR that its client's bytes ask for was sent. Nothing more is appended, and the connection is to be closed.
     pub fn told(&mut self)
         ensures { self.new ≡ record self.old { progress = over self.old.progress; stage = Closing ended.Bad } }
     {

@@ -3,10 +3,10 @@
 ghost use Rattle.std.specs.Prelude.{◌≡◌, IfErr, IfSome, IsNone, OnOk, is_some, length};
 
 use crate::footprint::Cut;
-use crate::place::{NotAdmitted, Place, Seated};
-use crate::placing::{
-    add_places, evict_at, give_up_at, lose_at, ping_at, take_place, trim, turn_at, vacate,
+use crate::place::{
+    NotAdmitted, Place, Seated, evict_at, give_up_at, lose_at, ping_at, take_place, turn_at, vacate,
 };
+use crate::places::{add_places, trim};
 use crate::ringers::Ringers;
 use crate::slot::Slot;
 use crate::turned::Turned;

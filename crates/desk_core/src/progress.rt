@@ -1,9 +1,9 @@
 //! How far the conversation of one connection with the broker has come.
 
 ghost use Rattle.std.specs.Prelude.{◌≡◌, true, false};
-ghost use Rattle.desk_core.specs.Progress.{MayBe, after, number_in, over, role_of, session_of};
+ghost use Rattle.desk_core.specs.Progress.{MayBe, after, is_farewell, is_last, number_in, over, role_of, session_of};
 
-use command_core::Op;
+use command_core::{Command, End, Op};
 
 /// What a command is to its session.
 #[derive(Clone, Copy)]
@@ -96,4 +96,18 @@ impl Progress {
             Progress::Open(number) | Progress::Ended(number) => Some(number),
         }
     }
+}
+
+// Whether its RECEIPT is the last frame: the client says that its session ends, and asks for a receipt (STOMP 1.2, "DISCONNECT").
+pub(crate) fn is_last(command: &Command) -> bool
+    ensures { result ≡ is_last command.now }
+{
+    is_farewell(command.op()) && command.receipt().is_some()
+}
+
+// Whether the client says that its session ends.
+fn is_farewell(op: &Op) -> bool
+    ensures { result ≡ is_farewell op.now }
+{
+    matches!(op, Op::End(End::Bye))
 }
