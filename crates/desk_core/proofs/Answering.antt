@@ -9,15 +9,15 @@ use Rattle.claim_core.specs.Seats.{SessionSeatValue}
 use Rattle.claim_core.specs.declared.refusals.Refused.{Refused}
 use Rattle.claim_core.specs.declared.refusals.Refused.TheVariants as refusals
 use Rattle.command_core.specs.Commands.{CommandValue}
-use Rattle.connection_core.specs.Connections.{ConnectionValue}
-use Rattle.connection_core.specs.declared.stage.Stage.{Stage}
-use Rattle.connection_core.specs.declared.stage.Stage.TheVariants.{Running}
+use Rattle.desk_core.specs.Connections.{ConnectionValue}
+use Rattle.desk_core.specs.declared.stage.Stage.{Stage}
+use Rattle.desk_core.specs.declared.stage.Stage.TheVariants.{Running}
 use Rattle.desk_core.specs.Answers.{Appended, Awaits, AwaitsBy, GoesOnYet, Grows, Heard, IsPressing, IsQuiet, IsRest, IsSatisfied, Leaves}
-use Rattle.desk_core.specs.Holding.{Holds}
+use Rattle.desk_core.specs.Refusals.{WaitsIfFull}
 use Rattle.desk_core.specs.Steps.{SaysNext, TakesStep}
-use Rattle.desk_core.specs.declared.appending.Step.{Step}
-use Rattle.desk_core.specs.declared.appending.Step.TheVariants as steps
-use Rattle.desk_core.specs.declared.pending.Pending.{Pending}
+use Rattle.desk_core.specs.declared.step.Step.{Step}
+use Rattle.desk_core.specs.declared.step.Step.TheVariants as steps
+use Rattle.desk_core.specs.Boxes.{BoxEntry}
 use Rattle.desk_core.specs.declared.slot.Slot.{Slot}
 use Rattle.desk_core.specs.declared.turned.Next.{Next}
 use Rattle.desk_core.specs.declared.turned.Next.TheVariants as next
@@ -44,10 +44,10 @@ pub appended_then : (b : Bool) (step : Step) (s t u : SessionSeatValue) → Appe
 appended_then b steps.Appended s t u a g other = absurd (other refl)
 appended_then true steps.Done s t u a g other = omega (arith, a, ap (λ (l : List Pair). length l) g)
 appended_then false steps.Done s t u a g other = g ∙ a
-appended_then true (steps.Full mark) s t u a g other = omega (arith, a, ap (λ (l : List Pair). length l) g)
-appended_then false (steps.Full mark) s t u a g other = g ∙ a
-appended_then true steps.Short s t u a g other = omega (arith, a, ap (λ (l : List Pair). length l) g)
-appended_then false steps.Short s t u a g other = g ∙ a
+appended_then true (steps.Room mark) s t u a g other = omega (arith, a, ap (λ (l : List Pair). length l) g)
+appended_then false (steps.Room mark) s t u a g other = g ∙ a
+appended_then true steps.Memory s t u a g other = omega (arith, a, ap (λ (l : List Pair). length l) g)
+appended_then false steps.Memory s t u a g other = g ∙ a
 appended_then true steps.Rest s t u a g other = omega (arith, a, ap (λ (l : List Pair). length l) g)
 appended_then false steps.Rest s t u a g other = g ∙ a
 
@@ -61,36 +61,36 @@ appended_still false s t u a own = own ∙ a
 
 -- ── an entry that the ring refuses ──
 
-full_of : {B : Type 0} (p : Option (Pending B)) (pending : Pending B) → p ≡ Some pending → IsSome p
-full_of p pending is = subst (λ x. IsSome x) (sym is) refl
+full_of : (p : Option BoxEntry) (entry : BoxEntry) → p ≡ Some entry → IsSome p
+full_of p entry is = subst (λ x. IsSome x) (sym is) refl
 
-held_by : {B : Type 0} (window : ℕ) (refused : Refused) (pending : Pending B) (p : Option (Pending B)) (step : Step) (s t : SessionSeatValue) → Refuses window s t refused → Holds pending refused p step → Grows step s t × Leaves step p
-held_by window refusals.Stopped pending p step s t r h = subst (λ x. Grows x s t × Leaves x p) (sym h) (ap (λ (x : SessionSeatValue). x.own) r, tt)
-held_by window refusals.Exhausted pending p step s t r h = subst (λ x. Grows x s t × Leaves x p) (sym h) (ap (λ (x : SessionSeatValue). x.own) r.2, tt)
-held_by window (refusals.Busy mark) pending p step s t r h =
+held_by : (window : ℕ) (refused : Refused) (entry : BoxEntry) (p : Option BoxEntry) (step : Step) (s t : SessionSeatValue) → Refuses window s t refused → WaitsIfFull entry refused p step → Grows step s t × Leaves step p
+held_by window refusals.Stopped entry p step s t r h = subst (λ x. Grows x s t × Leaves x p) (sym h) (ap (λ (x : SessionSeatValue). x.own) r, tt)
+held_by window refusals.Exhausted entry p step s t r h = subst (λ x. Grows x s t × Leaves x p) (sym h) (ap (λ (x : SessionSeatValue). x.own) r.2, tt)
+held_by window (refusals.Busy mark) entry p step s t r h =
     let own : t.own ≡ s.own = ap (λ (x : SessionSeatValue). x.own) r.3 in
-    subst (λ x. Grows x s t × Leaves x p) (sym h.1) (own, full_of p pending h.0)
+    subst (λ x. Grows x s t × Leaves x p) (sym h.1) (own, full_of p entry h.0)
 
-pub held_takes : {B : Type 0} (window : ℕ) (refused : Refused) (pending : Pending B) (p : Option (Pending B)) (step : Step) (s t : SessionSeatValue) → Refuses window s t refused → Holds pending refused p step → TakesStep step s t p
-held_takes window refused pending p step s t r h = let by = held_by window refused pending p step s t r h in record { grows = by.0; leaves = by.1 }
+pub held_takes : (window : ℕ) (refused : Refused) (entry : BoxEntry) (p : Option BoxEntry) (step : Step) (s t : SessionSeatValue) → Refuses window s t refused → WaitsIfFull entry refused p step → TakesStep step s t p
+held_takes window refused entry p step s t r h = let by = held_by window refused entry p step s t r h in record { grows = by.0; leaves = by.1 }
 
-pub quiet_takes : {B : Type 0} (step : Step) (p : Option (Pending B)) (s : SessionSeatValue) → IsQuiet step → TakesStep step s s p
+pub quiet_takes : (step : Step) (p : Option BoxEntry) (s : SessionSeatValue) → IsQuiet step → TakesStep step s s p
 quiet_takes steps.Done p s q = record { grows = refl; leaves = tt }
-quiet_takes steps.Short p s q = record { grows = refl; leaves = tt }
+quiet_takes steps.Memory p s q = record { grows = refl; leaves = tt }
 quiet_takes steps.Appended p s q = absurd q
-quiet_takes (steps.Full mark) p s q = absurd q
+quiet_takes (steps.Room mark) p s q = absurd q
 quiet_takes steps.Rest p s q = absurd q
 
-pub still_leaves : {B : Type 0} (step : Step) (p q : Option (Pending B)) → q ≡ p → Leaves step p → Leaves step q
-still_leaves step p q pending l = subst (λ x. Leaves step x) (sym pending) l
+pub still_leaves : (step : Step) (p q : Option BoxEntry) → q ≡ p → Leaves step p → Leaves step q
+still_leaves step p q waiting l = subst (λ x. Leaves step x) (sym waiting) l
 
 -- ── what it waits for ──
 
-pub awaits : {B : Type 0} (n : Next) (last : Step) (slot : Slot B) → AwaitsBy n last slot → Leaves last slot.pending → Awaits n slot
+pub awaits : {B : Type 0} (n : Next) (last : Step) (slot : Slot B) → AwaitsBy n last slot → Leaves last slot.waiting → Awaits n slot
 awaits next.Go last slot a l = a
 awaits next.Read last slot a l = a
 awaits next.Write last slot a l = a
-awaits (next.Room mark) last slot a l = (a.0, subst (λ x. Leaves x slot.pending) a.1 l)
+awaits (next.Room mark) last slot a l = (a.0, subst (λ x. Leaves x slot.waiting) a.1 l)
 awaits (next.Output mark) last slot a l = a
 awaits next.Memory last slot a l = a
 awaits next.Close last slot a l = a
@@ -124,9 +124,9 @@ rests_so (next.Over ended) last slot runs s r = absurd r
 
 -- ── what was heard ──
 
-pub heard_by : {L : Type 0} (received : L → Option (List ℕ)) (b : Bool) (from to : L) → (b ≡ false → received to ≡ received from) → Heard received b from to
-heard_by received true from to none = tt
-heard_by received false from to none = none refl
+pub heard_still : {L : Type 0} (received : L → Option (List ℕ)) (b : Bool) (from mid to : L) → Heard received b from mid → received to ≡ received mid → Heard received b from to
+heard_still received true from mid to h same = tt
+heard_still received false from mid to h same = same ∙ h
 
 pub no_more : (old new : Option (List ℕ)) → new ≡ option_map (λ bytes. bytes ++ []) old → new ≡ old
 no_more None new is = is

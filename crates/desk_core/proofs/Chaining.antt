@@ -4,7 +4,7 @@ use Rattle.std.specs.Prelude.{◌==◌, cond, option_map}
 use Rattle.std.proofs.lemmas.Bool.{cases_eq, cases_lt}
 use Rattle.std.proofs.lemmas.List.{get_or_past}
 use Rattle.std.proofs.lemmas.Option.{get_or_from_slice_get, slice_get-get_or}
-use Rattle.connection_core.specs.Connections.{evicted}
+use Rattle.desk_core.specs.Connections.{evicted}
 use Rattle.desk_core.specs.declared.place.Seated.{Seated}
 use Rattle.desk_core.specs.Chains.{AreTaken, Calls, Chain, Lived, deeds_at, deeds_of, last_of}
 use Rattle.desk_core.specs.Effects.{Effect}
@@ -39,7 +39,7 @@ module _ {B L : Type 0} (sent : L → Option (List (List ℕ))) (received : L �
   at_place old new at (inr (inl touch)) s sat taken = let is = touch.unserved s sat in (is.0, is.1, is.3.heeds)
   at_place old new at (inr (inr (inl changes))) s sat taken =
       let is = subst (λ o. ChangedAt evicted o (seated_at new.places at)) (get_or_from_slice_get old.places at (Some s) None sat) changes.changed in
-      (is.0, sits_there new.places at is.0 is.1, evicts received s.slot is.0.slot s.link is.0.link (ap received is.2.link) is.2.connection is.2.pending)
+      (is.0, sits_there new.places at is.0 is.1, evicts received s.slot is.0.slot s.link is.0.link (ap received is.2.link) is.2.connection is.2.waiting)
   at_place old new at (inr (inr (inr (link, inl admits)))) s sat taken = absurd (never_free old.places at s admits.was_free sat)
   at_place old new at (inr (inr (inr (link, inr leaves)))) s sat taken = absurd (never_free new.places at taken.0 leaves.free taken.1)
 

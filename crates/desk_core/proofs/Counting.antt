@@ -6,8 +6,8 @@ use Rattle.std.proofs.lemmas.List.{get_or-set_other, get_or_past}
 use Rattle.std.proofs.lemmas.List.Sums.{get_or-le-sum_by, sum_by-set, sum_by_push}
 use Rattle.std.proofs.lemmas.Option.{get_or_from_slice_get}
 use Rattle.claim_core.specs.Seats.{SessionSeatValue}
-use Rattle.connection_core.specs.Connections.{ConnectionValue, unheard, with_room}
-use Rattle.connection_core.specs.Footprints.{FootprintValue}
+use Rattle.desk_core.specs.Connections.{ConnectionValue, unheard, with_room}
+use Rattle.desk_core.specs.Footprints.{FootprintValue}
 use Rattle.desk_core.specs.declared.place.Seated.{Seated}
 use Rattle.desk_core.specs.declared.slot.Slot.{Slot}
 use Rattle.desk_core.specs.declared.turned.Turned.{Turned}
@@ -109,7 +109,7 @@ pub room_left : (limit counted before its all : ℕ) → before ≡ its → all 
 room_left limit counted before its all b a less within = omega (arith, b, a, less, within)
 
 pub served_at : {B L : Type 0} (sent : L → Option (List (List ℕ))) (received : L → Option (List ℕ)) (room : ℕ) (o : Option (Seated B L)) (was is : Seated B L) (mid : Slot B) (s t : SessionSeatValue) (turned : Turned)
-    → o ≡ Some was → mid.connection ≡ with_room room was.slot.connection → (mid.pending ≡ was.slot.pending) × (mid.outbox ≡ was.slot.outbox) × (mid.kept ≡ was.slot.kept)
+    → o ≡ Some was → mid.connection ≡ with_room room was.slot.connection → (mid.waiting ≡ was.slot.waiting) × (mid.outbox ≡ was.slot.outbox) × (mid.kept ≡ was.slot.kept)
     → GoesOn sent received mid s was.link is.slot t is.link → Answers received turned s was.link is.slot t is.link → ServedAt sent received room o s (Some is) t turned
 served_at sent received room o was is mid s t turned sat allows same g answers = record {
   was = was;

@@ -4,8 +4,8 @@ use Rattle.command_core.specs.declared.command.Op.{Op}
 use Rattle.frame_core.specs.declared.frame.Frame.{Frame}
 use Rattle.session_core.specs.declared.act.Act.{Act}
 use Rattle.session_core.specs.declared.act.Act.TheVariants.{Do, Direct, Close}
-use Rattle.connection_core.specs.Conversations.{IsNext, after, asked, role_of}
-use Rattle.connection_core.specs.declared.progress.Progress.{Progress}
+use Rattle.desk_core.specs.Progress.{IsNext, after, asked, role_of}
+use Rattle.desk_core.specs.declared.progress.Progress.{Progress}
 use Rattle.desk_core.specs.Effects.{Effect, Does, Said, Told, Untold, Tells, commands_of, told_of, untold_of}
 
 -- ── what acts ask for, one act more ──

@@ -3,20 +3,19 @@ use Rattle.std.proofs.Common.{◌≡◌, ◌++◌, ◌∷◌, [], ℕ, List, Opt
 use Rattle.std.specs.List.{AllByRecursion}
 use Rattle.command_core.specs.declared.command.Op.{Op}
 use Rattle.session_core.specs.declared.act.Act.{Act}
-use Rattle.connection_core.specs.Connections.{ConnectionValue, evicted, with_lost}
-use Rattle.connection_core.specs.Stages.{Executes, lost}
-use Rattle.connection_core.specs.Tasks.{all_of, tasks}
-use Rattle.connection_core.specs.declared.footprint.Cut.TheVariants as cuts
-use Rattle.connection_core.specs.declared.said.Wanted.{Wanted}
-use Rattle.connection_core.specs.declared.ended.Ended.TheVariants.{Bye, Bad, Lost, Stopped}
-use Rattle.connection_core.specs.declared.stage.Stage.{Stage}
-use Rattle.connection_core.specs.declared.stage.Stage.TheVariants.{Running, GivingUp, Closing, Parting, Leaving, Over}
+use Rattle.desk_core.specs.Connections.{ConnectionValue, evicted, with_lost}
+use Rattle.desk_core.specs.Stages.{Executes, lost}
+use Rattle.desk_core.specs.Tasks.{all_of, tasks}
+use Rattle.desk_core.specs.declared.footprint.Cut.TheVariants as cuts
+use Rattle.desk_core.specs.declared.ended.Ended.TheVariants.{Bye, Bad, Lost, Stopped}
+use Rattle.desk_core.specs.declared.stage.Stage.{Stage}
+use Rattle.desk_core.specs.declared.stage.Stage.TheVariants.{Running, GivingUp, Closing, Parting, Leaving, Over}
 use Rattle.desk_core.specs.Effects.{Effect}
-use Rattle.desk_core.specs.Histories.{Heeds, IsLoss, Lives, LivesAt, act_of, wanted_of}
+use Rattle.desk_core.specs.Histories.{Heeds, IsLoss, Lives, LivesAt, Undone, act_of, undone_of}
 use Rattle.desk_core.specs.Keeping.{KeepsOwn, WaitsNext, is_next}
 use Rattle.desk_core.specs.declared.kept.Kept.{Kept}
 use Rattle.desk_core.specs.Spending.{Spends, waiting_of}
-use Rattle.desk_core.specs.declared.pending.Pending.{Pending}
+use Rattle.desk_core.specs.Boxes.{BoxEntry}
 use Rattle.desk_core.specs.declared.slot.Slot.{Slot}
 use Rattle.desk_core.proofs.Going.{by_deeds}
 use Rattle.desk_core.proofs.Living.{loses, restays}
@@ -43,9 +42,9 @@ lost_executes (Closing Stopped) e = e
 lost_executes (Parting ended) e = e
 lost_executes (Over ended) e = e
 
-pub evicted_waits : {B : Type 0} (old new : ConnectionValue) (p : Option (Pending B)) → new ≡ evicted old → WaitsNext old p → WaitsNext new p
+pub evicted_waits : (old new : ConnectionValue) (p : Option BoxEntry) → new ≡ evicted old → WaitsNext old p → WaitsNext new p
 evicted_waits old new p same w = λ it some e.
-    ap (λ (c : ConnectionValue). is_next c.progress it.entry.command) same ∙ w it some (lost_executes old.stage (subst (λ (c : ConnectionValue). Executes c.stage) same e))
+    ap (λ (c : ConnectionValue). is_next c.progress it.command) same ∙ w it some (lost_executes old.stage (subst (λ (c : ConnectionValue). Executes c.stage) same e))
 
 pub evicted_own : (old new : ConnectionValue) (k : Kept) → new ≡ evicted old → KeepsOwn new k
 evicted_own old new k same = λ out e runs. absurd (lost_not_running old.stage (sym (ap (λ (c : ConnectionValue). c.stage) same) ∙ runs))
@@ -75,9 +74,9 @@ all_front P (x ∷ xs) ys all = (all.0, all_front P xs ys all.1)
 abbrev dropped : ConnectionValue → ConnectionValue
 dropped c = record c { acts = tasks None []; footprint = record c.footprint { cut = cuts.Evicted } }
 
-drops_so : (bytes : List ℕ) (effects : List Effect) (c : ConnectionValue) (wanted : Wanted) (l : Lives bytes effects c wanted) (asked cut losses : List Act) → (c.stage ≡ Running → ⊥) → l.all ≡ asked ++ cut → AllByRecursion IsLoss losses
-    → asked ++ losses ≡ l.done ++ (act_of wanted ++ l.left) → Lives bytes effects (dropped c) wanted
-drops_so bytes effects c wanted l asked cut losses over halves are_losses split = record {
+drops_so : (bytes : List ℕ) (effects : List Effect) (c : ConnectionValue) (undone : Undone) (l : Lives bytes effects c undone) (asked cut losses : List Act) → (c.stage ≡ Running → ⊥) → l.all ≡ asked ++ cut → AllByRecursion IsLoss losses
+    → asked ++ losses ≡ l.done ++ (act_of undone ++ l.left) → Lives bytes effects (dropped c) undone
+drops_so bytes effects c undone l asked cut losses over halves are_losses split = record {
   heard = l.heard;
   unheard = l.unheard;
   whole = l.whole;
@@ -91,7 +90,7 @@ drops_so bytes effects c wanted l asked cut losses over halves are_losses split 
   are_losses = are_losses;
   done = l.done;
   left = l.left;
-  split = split ∙ ap (λ a. l.done ++ (act_of wanted ++ a)) (sym (append-nil l.left));
+  split = split ∙ ap (λ a. l.done ++ (act_of undone ++ a)) (sym (append-nil l.left));
   cut_for = inr tt;
   reached = l.reached;
   does = l.does;
@@ -109,25 +108,25 @@ drops_so bytes effects c wanted l asked cut losses over halves are_losses split 
   ended = l.ended;
 }
 
-drops_it : (bytes : List ℕ) (effects : List Effect) (c : ConnectionValue) (wanted : Wanted) → (c.stage ≡ Running → ⊥) → Lives bytes effects c wanted → Lives bytes effects (dropped c) wanted
-drops_it bytes effects c wanted over l =
-    let front : List Act = l.done ++ (act_of wanted ++ l.left) in
+drops_it : (bytes : List ℕ) (effects : List Effect) (c : ConnectionValue) (undone : Undone) → (c.stage ≡ Running → ⊥) → Lives bytes effects c undone → Lives bytes effects (dropped c) undone
+drops_it bytes effects c undone over l =
+    let front : List Act = l.done ++ (act_of undone ++ l.left) in
     let all : l.asked_for ++ l.losses ≡ front ++ all_of c.acts =
-    l.split ∙ ap (λ a. l.done ++ a) (sym (append_assoc (act_of wanted) l.left (all_of c.acts))) ∙ sym (append_assoc l.done (act_of wanted ++ l.left) (all_of c.acts)) in
+    l.split ∙ ap (λ a. l.done ++ a) (sym (append_assoc (act_of undone) l.left (all_of c.acts))) ∙ sym (append_assoc l.done (act_of undone ++ l.left) (all_of c.acts)) in
     elim (splits l.asked_for l.losses front (all_of c.acts) all) [
-      | inl m ↦ drops_so bytes effects c wanted l front (m.0 ++ l.cut) [] over (l.halves ∙ ap (λ a. a ++ l.cut) m.1 ∙ append_assoc front m.0 l.cut) tt (append-nil front)
-      | inr m ↦ drops_so bytes effects c wanted l l.asked_for l.cut m.0 over l.halves (all_front IsLoss m.0 (all_of c.acts) (subst (AllByRecursion IsLoss) m.2 l.are_losses)) (sym m.1)
+      | inl m ↦ drops_so bytes effects c undone l front (m.0 ++ l.cut) [] over (l.halves ∙ ap (λ a. a ++ l.cut) m.1 ∙ append_assoc front m.0 l.cut) tt (append-nil front)
+      | inr m ↦ drops_so bytes effects c undone l l.asked_for l.cut m.0 over l.halves (all_front IsLoss m.0 (all_of c.acts) (subst (AllByRecursion IsLoss) m.2 l.are_losses)) (sym m.1)
     ]
 
 spends_evicted : (effects : List Effect) (waiting : List Op) (c : ConnectionValue) → Spends effects c waiting → Spends effects (evicted c) waiting
 spends_evicted effects waiting c s = record { within = s.within; stands = λ e. s.stands (lost_executes c.stage e); counted = s.counted }
 
-evicts_it : (bytes : List ℕ) (effects : List Effect) (c : ConnectionValue) (wanted : Wanted) → Lives bytes effects c wanted → Lives bytes effects (evicted c) wanted
-evicts_it bytes effects c wanted l = drops_it bytes effects (with_lost c) wanted (lost_not_running c.stage) (restays bytes effects c (with_lost c) wanted (loses c (with_lost c) refl).restaged l)
+evicts_it : (bytes : List ℕ) (effects : List Effect) (c : ConnectionValue) (undone : Undone) → Lives bytes effects c undone → Lives bytes effects (evicted c) undone
+evicts_it bytes effects c undone l = drops_it bytes effects (with_lost c) undone (lost_not_running c.stage) (restays bytes effects c (with_lost c) undone (loses c (with_lost c) refl).restaged l)
 
-pub evicts : {B L : Type 0} (received : L → Option (List ℕ)) (was is : Slot B) (from to : L) → received to ≡ received from → is.connection ≡ evicted was.connection → is.pending ≡ was.pending → Heeds received was from is to []
-evicts received was is from to unread same pending = by_deeds received was is from to [] unread
+pub evicts : {B L : Type 0} (received : L → Option (List ℕ)) (was is : Slot B) (from to : L) → received to ≡ received from → is.connection ≡ evicted was.connection → is.waiting ≡ was.waiting → Heeds received was from is to []
+evicts received was is from to unread same waits = by_deeds received was is from to [] unread
     (λ bytes before x. subst (λ d. LivesAt bytes d is) (sym (append-nil before))
-    (subst (λ p. Lives bytes before is.connection (wanted_of p) × Spends before is.connection (waiting_of p)) (sym pending)
-    (subst (λ c. Lives bytes before c (wanted_of was.pending) × Spends before c (waiting_of was.pending)) (sym same)
-    (evicts_it bytes before was.connection (wanted_of was.pending) x.0, spends_evicted before (waiting_of was.pending) was.connection x.1))))
+    (subst (λ p. Lives bytes before is.connection (undone_of p) × Spends before is.connection (waiting_of p)) (sym waits)
+    (subst (λ c. Lives bytes before c (undone_of was.waiting) × Spends before c (waiting_of was.waiting)) (sym same)
+    (evicts_it bytes before was.connection (undone_of was.waiting) x.0, spends_evicted before (waiting_of was.waiting) was.connection x.1))))

@@ -10,31 +10,30 @@ use Rattle.claim_core.specs.Seats.{SessionSeatValue, with_seen}
 use Rattle.claim_core.specs.declared.refusals.Refused.{Refused}
 use Rattle.claim_core.specs.declared.refusals.Refused.TheVariants as refusals
 use Rattle.session_core.specs.declared.act.Act.{Act}
-use Rattle.connection_core.specs.Connections.{ConnectionValue, Fails, HearsBytes, Listens, Wants, WantsBy, filled, to_append, with_appended, with_room}
-use Rattle.connection_core.specs.Conversations.{said_of}
-use Rattle.connection_core.specs.Footprints.{FootprintValue, IsFootprint, charged, spent, total}
-use Rattle.connection_core.specs.Stages.{Executes, IsEnding, stopped}
-use Rattle.connection_core.specs.declared.progress.Progress.{Progress}
-use Rattle.connection_core.specs.declared.said.Wanted.{Wanted}
-use Rattle.connection_core.specs.declared.said.Wanted.TheVariants.{Append, Tell, Done, Rest}
-use Rattle.connection_core.specs.declared.stage.Stage.{Stage}
-use Rattle.connection_core.specs.declared.stage.Stage.TheVariants.{Running, GivingUp}
+use Rattle.desk_core.specs.Connections.{ConnectionValue, Fails, HearsBytes, IsLost, Listens, Takes, closed_by, filled, with_appended, with_room}
+use Rattle.desk_core.specs.Progress.{IsDone, IsNext, asked, is_last, role_of}
+use Rattle.desk_core.specs.Footprints.{FootprintValue, IsFootprint, charged, spent, total}
+use Rattle.desk_core.specs.Stages.{Executes, IsEnding, rested, stopped}
+use Rattle.desk_core.specs.declared.progress.Progress.{Progress}
+use Rattle.desk_core.specs.declared.stage.Stage.{Stage}
+use Rattle.desk_core.specs.declared.stage.Stage.TheVariants.{Running, GivingUp}
 use Rattle.session_core.specs.declared.act.Act.TheVariants.{Direct, Do, Close}
+use Rattle.session_core.specs.declared.act.CloseCode.{CloseCode}
 use Rattle.desk_core.specs.Continues.{Continues}
 use Rattle.desk_core.specs.Conversations.{StaysOrEnds}
 use Rattle.desk_core.specs.Effects.{Effect, Said, Told, Untold, Tells, commands_of, told_of, untold_of}
 use Rattle.desk_core.specs.Steps.{GoesOn, SaysNext, TellsIt}
 use Rattle.desk_core.specs.Halting.{FindsEnd, HasHalted, IsFinal}
-use Rattle.desk_core.specs.Histories.{DoesWanted, HasTold, Heeds, Idles, Lives, LivesAt, LivesOn, Restaged, Steady, act_of, wanted_of}
+use Rattle.desk_core.specs.Histories.{DoesUndone, HasTold, Heeds, Idles, Lives, LivesAt, LivesOn, Nothing, Restaged, Steady, Taken, Undone, Waits, act_of, undone_of}
 use Rattle.desk_core.specs.Relays.{ReadsMark}
 use Rattle.desk_core.specs.Spending.{IsEvicted, KeepsRoom, Spends, waiting_of}
 use Rattle.desk_core.specs.Slots.{IsNew, Served, Stays, Unserved}
-use Rattle.desk_core.specs.declared.pending.Pending.{Pending}
+use Rattle.desk_core.specs.Boxes.{BoxEntry}
 use Rattle.desk_core.specs.declared.slot.Slot.{Slot}
-use Rattle.desk_core.proofs.Doing.{commands_append, told_append}
-use Rattle.desk_core.proofs.Living.{again_next, begins, halted_giving, hears_more, leaves_it, not_halted, restages, same_stage, says_it, stopped_over, stops, tells_it, tells_none, wants_halts, wants_next}
-use Rattle.desk_core.proofs.Spending.{counts_it, cut_by_count, cuts_it, spends_as, spends_charged, spends_filled, spends_new, spends_no_more, spends_on, spends_room, spends_said, spends_wanted}
-use Rattle.desk_core.proofs.Messages.{quiet, restay, reserve, served, still, unserved, wants_no_other}
+use Rattle.desk_core.proofs.Doing.{IsSilent, commands_append, told_append}
+use Rattle.desk_core.proofs.Living.{again_next, asks_it, begins, closes, halted_giving, hears_more, leaves_it, none_lost_yet, not_halted, passes_it, restages, restays, rests, same_stage, same_taken, says_it, stopped_over, stops, takes_none, takes_one, tells_it, tells_none}
+use Rattle.desk_core.proofs.Spending.{counts_it, cut_by_count, cuts_it, spends_as, spends_charged, spends_filled, spends_new, spends_no_more, spends_on, spends_room, spends_said, spends_taken}
+use Rattle.desk_core.proofs.Messages.{quiet, restay, reserve, served, still, takes_no_other, unserved}
 use Rattle.desk_core.proofs.Talking.{ends_so, joined, reads_so, stays}
 
 -- ── what it may have stays ──
@@ -60,20 +59,20 @@ more_bytes None a b = refl
 more_bytes (Some bytes) a b = ap (λ x. Some x) (append_assoc bytes a b)
 
 -- no effect more, and what waited waits
-as_before : {B : Type 0} (bytes : List ℕ) (before : List Effect) (is : Slot B) (p : Option (Pending B)) → is.pending ≡ p → Lives bytes before is.connection (wanted_of p) → Spends before is.connection (waiting_of p) → LivesAt bytes (before ++ []) is
-as_before bytes before is p pending l s =
+as_before : {B : Type 0} (bytes : List ℕ) (before : List Effect) (is : Slot B) (p : Option BoxEntry) → is.waiting ≡ p → Lives bytes before is.connection (undone_of p) → Spends before is.connection (waiting_of p) → LivesAt bytes (before ++ []) is
+as_before bytes before is p waits l s =
     subst (λ d. LivesAt bytes d is) (sym (append-nil before))
-    (subst (λ x. Lives bytes before is.connection (wanted_of x) × Spends before is.connection (waiting_of x)) (sym pending) (l, s))
+    (subst (λ x. Lives bytes before is.connection (undone_of x) × Spends before is.connection (waiting_of x)) (sym waits) (l, s))
 
 -- with no bytes and no commands
-pub heeds_quietly : {B L : Type 0} (received : L → Option (List ℕ)) (was is : Slot B) (from to : L) → received to ≡ received from → Steady was.connection is.connection → is.pending ≡ was.pending → Idles received was from is to
-heeds_quietly received was is from to unread steady pending = let restaged = steady.restaged in record {
+pub heeds_quietly : {B L : Type 0} (received : L → Option (List ℕ)) (was is : Slot B) (from to : L) → received to ≡ received from → Steady was.connection is.connection → is.waiting ≡ was.waiting → Idles received was from is to
+heeds_quietly received was is from to unread steady waits = let restaged = steady.restaged in record {
   heeds = record {
     got = [];
     read = unread ∙ no_bytes (received from);
     lives = λ bytes before l.
-        as_before (bytes ++ []) before is (was.pending) pending (restages bytes [] before was.connection is.connection (wanted_of was.pending) restaged (λ r. refl) l.0)
-        (spends_on before (waiting_of was.pending) was.connection is.connection restaged.executes restaged.footprint l.1);
+        as_before (bytes ++ []) before is (was.waiting) waits (restages bytes [] before was.connection is.connection (undone_of was.waiting) restaged (λ r. refl) l.0)
+        (spends_on before (waiting_of was.waiting) was.connection is.connection restaged.executes restaged.footprint l.1);
   };
   footprint = restaged.footprint;
   halts = steady.halts;
@@ -124,7 +123,7 @@ goes_quietly sent received was is s l m u h = record {
 }
 
 pub goes_none : {B L : Type 0} (sent : L → Option (List (List ℕ))) (received : L → Option (List ℕ)) (slot : Slot B) (s : SessionSeatValue) (l : L) → GoesOn sent received slot s l slot s l
-goes_none sent received slot s l = goes_quietly sent received slot slot s l l (record { progress = refl; pending = refl; outbox = refl; kept = refl; sent = refl }) (heeds_none received slot l)
+goes_none sent received slot s l = goes_quietly sent received slot slot s l l (record { progress = refl; waiting = refl; opening = refl; outbox = refl; kept = refl; sent = refl }) (heeds_none received slot l)
 
 found_later : (s t : SessionSeatValue) (mark : ℕ) → t ≡ with_seen s mark → s.seen ≤ t.seen → FindsEnd s → FindsEnd t
 found_later s t mark seen no_less (inl stopped) = inl (ap (λ (x : SessionSeatValue). x.stopped) seen ∙ stopped)
@@ -143,7 +142,7 @@ goes_reading sent received was is s t l m ends reads served idles = record {
   halts = λ before e. found_later s t t.seen reads.seen reads.no_less (before (idles.halts e));
 }
 
--- with what was wanted and done, and no bytes
+-- with what was undone and done, and no bytes
 pub by_deeds : {B L : Type 0} (received : L → Option (List ℕ)) (was is : Slot B) (l m : L) (effects : List Effect) → received m ≡ received l
     → ((bytes : List ℕ) (before : List Effect) → LivesAt bytes before was → LivesAt bytes (before ++ effects) is) → Heeds received was l is m effects
 by_deeds received was is l m effects unread lives = record {
@@ -156,32 +155,32 @@ by_deeds received was is l m effects unread lives = record {
 pub lives_anew : {B : Type 0} (limit : ℕ) (was is : Slot B) (got : List ℕ) (effects : List Effect) → IsNew limit was → ((bytes : List ℕ) (before : List Effect) → LivesAt bytes before was → LivesAt (bytes ++ got) (before ++ effects) is) → LivesAt got effects is
 lives_anew limit was is got effects anew lives =
     let spends = spends_new limit was.connection (ap (λ (c : ConnectionValue). c.footprint) anew.connection) in
-    lives [] [] (subst (λ p. Lives [] [] was.connection (wanted_of p) × Spends [] was.connection (waiting_of p)) (sym anew.pending) (begins limit was.connection anew.connection, spends))
+    lives [] [] (subst (λ p. Lives [] [] was.connection (undone_of p) × Spends [] was.connection (waiting_of p)) (sym anew.waiting) (begins limit was.connection anew.connection, spends))
 
 -- where what it may have has changed
-pub allowed : {B : Type 0} (room : ℕ) (was mid : Slot B) (bytes : List ℕ) (before : List Effect) → mid.connection ≡ with_room room was.connection → mid.pending ≡ was.pending → LivesAt bytes before was → LivesAt bytes before mid
-allowed room was mid bytes before is pending l =
-    subst (λ p. Lives bytes before mid.connection (wanted_of p) × Spends before mid.connection (waiting_of p)) (sym pending)
-    (subst (λ c. Lives bytes before c (wanted_of was.pending) × Spends before c (waiting_of was.pending)) (sym is)
-    (counts_it bytes before was.connection (record was.connection.footprint { room = room }) (wanted_of was.pending) refl l.0, spends_room room before (waiting_of was.pending) was.connection l.1))
+pub allowed : {B : Type 0} (room : ℕ) (was mid : Slot B) (bytes : List ℕ) (before : List Effect) → mid.connection ≡ with_room room was.connection → mid.waiting ≡ was.waiting → LivesAt bytes before was → LivesAt bytes before mid
+allowed room was mid bytes before is waits l =
+    subst (λ p. Lives bytes before mid.connection (undone_of p) × Spends before mid.connection (waiting_of p)) (sym waits)
+    (subst (λ c. Lives bytes before c (undone_of was.waiting) × Spends before c (waiting_of was.waiting)) (sym is)
+    (counts_it bytes before was.connection (record was.connection.footprint { room = room }) (undone_of was.waiting) refl l.0, spends_room room before (waiting_of was.waiting) was.connection l.1))
 
 -- ── what a link gave ──
 
 -- where its link gave nothing
-pub heeds_silence : {B L : Type 0} (received : L → Option (List ℕ)) (was is : Slot B) (from to : L) → received to ≡ option_map (λ bytes. bytes ++ []) (received from) → Steady was.connection is.connection → is.pending ≡ was.pending
+pub heeds_silence : {B L : Type 0} (received : L → Option (List ℕ)) (was is : Slot B) (from to : L) → received to ≡ option_map (λ bytes. bytes ++ []) (received from) → Steady was.connection is.connection → is.waiting ≡ was.waiting
     → Idles received was from is to
-heeds_silence received was is from to read restaged pending = heeds_quietly received was is from to (read ∙ sym (no_bytes (received from))) restaged pending
+heeds_silence received was is from to read restaged waits = heeds_quietly received was is from to (read ∙ sym (no_bytes (received from))) restaged waits
 
 -- where what it gave is not heard any more
 pub heeds_unheard : {B L : Type 0} (received : L → Option (List ℕ)) (was is : Slot B) (from to : L) (got : List ℕ) → received to ≡ option_map (λ bytes. bytes ++ got) (received from) → (is.connection.stage ≡ Running → ⊥)
-    → Steady was.connection is.connection → is.pending ≡ was.pending → Idles received was from is to
-heeds_unheard received was is from to got read over steady pending = let restaged = steady.restaged in record {
+    → Steady was.connection is.connection → is.waiting ≡ was.waiting → Idles received was from is to
+heeds_unheard received was is from to got read over steady waits = let restaged = steady.restaged in record {
   heeds = record {
     got = got;
     read = read;
     lives = λ bytes before l.
-        as_before (bytes ++ got) before is was.pending pending (restages bytes got before was.connection is.connection (wanted_of was.pending) restaged (λ r. absurd (over r)) l.0)
-        (spends_on before (waiting_of was.pending) was.connection is.connection restaged.executes restaged.footprint l.1);
+        as_before (bytes ++ got) before is was.waiting waits (restages bytes got before was.connection is.connection (undone_of was.waiting) restaged (λ r. absurd (over r)) l.0)
+        (spends_on before (waiting_of was.waiting) was.connection is.connection restaged.executes restaged.footprint l.1);
   };
   footprint = restaged.footprint;
   halts = steady.halts;
@@ -211,70 +210,70 @@ fails_so old new listens f = record {
 }
 
 -- where it heard the bytes, or memory was refused for them
-pub heeds_bytes : {B L E : Type 0} (received : L → Option (List ℕ)) (was is : Slot B) (from to : L) (got : List ℕ) (r : Result (Unit {0}) E) → Listens was.connection → was.pending ≡ None
-    → OnOk r (HearsBytes was.connection got is.connection) → OnErr r (Fails was.connection is.connection) → received to ≡ option_map (λ bytes. bytes ++ got) (received from) → is.pending ≡ was.pending → Idles received was from is to
-heeds_bytes received was is from to got (Ok x) listens none heard failed read pending = record {
+pub heeds_bytes : {B L E : Type 0} (received : L → Option (List ℕ)) (was is : Slot B) (from to : L) (got : List ℕ) (r : Result (Unit {0}) E) → Listens was.connection → was.waiting ≡ None
+    → OnOk r (HearsBytes was.connection got is.connection) → OnErr r (Fails was.connection is.connection) → received to ≡ option_map (λ bytes. bytes ++ got) (received from) → is.waiting ≡ was.waiting → Idles received was from is to
+heeds_bytes received was is from to got (Ok x) listens none heard failed read waits = record {
   heeds = record {
     got = got;
     read = read;
     lives = λ bytes before l.
-        as_before (bytes ++ got) before is None (pending ∙ none)
-        (hears_more bytes got before was.connection is.connection listens heard (subst (λ p. Lives bytes before was.connection (wanted_of p)) none l.0))
+        as_before (bytes ++ got) before is None (waits ∙ none)
+        (hears_more bytes got before was.connection is.connection listens heard (subst (λ p. Lives bytes before was.connection (undone_of p)) none l.0))
         (spends_on before [] was.connection is.connection (λ e. subst Executes (sym listens.0) tt) (ap (λ (c : ConnectionValue). c.footprint) heard.same)
         (subst (λ p. Spends before was.connection (waiting_of p)) none l.1));
   };
   footprint = ap (λ (c : ConnectionValue). c.footprint) heard.same;
   halts = λ h. subst HasHalted (ap (λ (c : ConnectionValue). c.stage) heard.same) h;
 }
-heeds_bytes received was is from to got (Err e) listens none heard failed read pending =
-    heeds_unheard received was is from to got read (λ r. no_giving (sym (ap (λ (c : ConnectionValue). c.stage) failed.same) ∙ r)) (fails_so was.connection is.connection listens failed) pending
+heeds_bytes received was is from to got (Err e) listens none heard failed read waits =
+    heeds_unheard received was is from to got read (λ r. no_giving (sym (ap (λ (c : ConnectionValue). c.stage) failed.same) ∙ r)) (fails_so was.connection is.connection listens failed) waits
 
--- ── what is wanted ──
+-- ── what is taken ──
 
 -- where nothing waits
-none_waits : {B : Type 0} (bytes : List ℕ) (effects : List Effect) (new : ConnectionValue) (p : Option (Pending B)) → p ≡ None → Lives bytes effects new Rest → Spends effects new [] → Lives bytes effects new (wanted_of p) × Spends effects new (waiting_of p)
-none_waits bytes effects new p none l s = subst (λ x. Lives bytes effects new (wanted_of x) × Spends effects new (waiting_of x)) (sym none) (l, s)
+none_waits : (bytes : List ℕ) (effects : List Effect) (new : ConnectionValue) (p : Option BoxEntry) → p ≡ None → Lives bytes effects new Nothing → Spends effects new [] → Lives bytes effects new (undone_of p) × Spends effects new (waiting_of p)
+none_waits bytes effects new p none l s = subst (λ x. Lives bytes effects new (undone_of x) × Spends effects new (waiting_of x)) (sym none) (l, s)
 
 -- and no effect is added
-none_more_waits : {B : Type 0} (bytes : List ℕ) (before : List Effect) (new : ConnectionValue) (p : Option (Pending B)) → p ≡ None → Lives bytes before new Rest → Spends before new [] → Lives bytes (before ++ []) new (wanted_of p) × Spends (before ++ []) new (waiting_of p)
-none_more_waits bytes before new p none l s = subst (λ d. Lives bytes d new (wanted_of p) × Spends d new (waiting_of p)) (sym (append-nil before)) (none_waits bytes before new p none l s)
+none_more_waits : (bytes : List ℕ) (before : List Effect) (new : ConnectionValue) (p : Option BoxEntry) → p ≡ None → Lives bytes before new Nothing → Spends before new [] → Lives bytes (before ++ []) new (undone_of p) × Spends (before ++ []) new (waiting_of p)
+none_more_waits bytes before new p none l s = subst (λ d. Lives bytes d new (undone_of p) × Spends d new (waiting_of p)) (sym (append-nil before)) (none_waits bytes before new p none l s)
 
-pub held_so : {B : Type 0} (old new : ConnectionValue) (p : Option (Pending B)) (pending : Pending B) → new ≡ old → p ≡ Some pending → LivesOn (to_append pending.entry.command) (pending.entry.command.op ∷ []) old new p []
-held_so old new p pending same kept = λ bytes before l s.
-    subst (λ d. Lives bytes d new (wanted_of p) × Spends d new (waiting_of p)) (sym (append-nil before))
-    (subst (λ x. Lives bytes before new (wanted_of x) × Spends before new (waiting_of x)) (sym kept)
-    (subst (λ x. Lives bytes before x (to_append pending.entry.command) × Spends before x (pending.entry.command.op ∷ [])) (sym same) (l, s)))
+pub held_so : (old new : ConnectionValue) (p : Option BoxEntry) (entry : BoxEntry) → new ≡ old → p ≡ Some entry → LivesOn (Waits entry.command) (entry.command.op ∷ []) old new p []
+held_so old new p entry same kept = λ bytes before l s.
+    subst (λ d. Lives bytes d new (undone_of p) × Spends d new (waiting_of p)) (sym (append-nil before))
+    (subst (λ x. Lives bytes before new (undone_of x) × Spends before new (waiting_of x)) (sym kept)
+    (subst (λ x. Lives bytes before x (Waits entry.command) × Spends before x (entry.command.op ∷ [])) (sym same) (l, s)))
 
-pub stopped_so : {B : Type 0} (old new : ConnectionValue) (p : Option (Pending B)) (wanted : Wanted) (waiting : List Op) → new ≡ record old { stage = stopped old.stage } → p ≡ None → LivesOn wanted waiting old new p []
-stopped_so old new p wanted waiting same none = λ bytes before l s.
-    none_more_waits bytes before new p none (leaves_it bytes before old new wanted (stops old new same) (stopped_over old new same) l)
+pub stopped_so : (old new : ConnectionValue) (p : Option BoxEntry) (undone : Undone) (waiting : List Op) → new ≡ record old { stage = stopped old.stage } → p ≡ None → LivesOn undone waiting old new p []
+stopped_so old new p undone waiting same none = λ bytes before l s.
+    none_more_waits bytes before new p none (leaves_it bytes before old new undone (stops old new same) (stopped_over old new same) l)
     (spends_no_more before waiting old new (stopped_over old new same) (ap (λ (x : ConnectionValue). x.footprint) same) s)
 
-pub said_so : {B : Type 0} (old new : ConnectionValue) (p : Option (Pending B)) (c : CommandValue) (ticket : ℕ) → Executes old.stage → new ≡ with_appended old (said_of c) ticket → p ≡ None → LivesOn (to_append c) (c.op ∷ []) old new p (Said (ticket, c) ∷ [])
+pub said_so : (old new : ConnectionValue) (p : Option BoxEntry) (c : CommandValue) (ticket : ℕ) → Executes old.stage → new ≡ with_appended old (role_of c.op) (is_last c) ticket → p ≡ None → LivesOn (Waits c) (c.op ∷ []) old new p (Said (ticket, c) ∷ [])
 said_so old new p c ticket executes same none = λ bytes before l s.
     none_waits bytes (before ++ Said (ticket, c) ∷ []) new p none (says_it bytes before old new c ticket executes same l)
     (spends_said before old new c ticket executes (ap (λ (x : ConnectionValue). x.footprint) same) s)
 
-pub told_so : {B : Type 0} (old new : ConnectionValue) (p : Option (Pending B)) (frame : Frame) (effect : Effect) → Executes old.stage → Restaged old new → Tells frame effect → (HasTold new.stage → untold_of (effect ∷ []) ≡ []) → p ≡ None
-    → LivesOn (Tell frame) [] old new p (effect ∷ [])
+pub told_so : (old new : ConnectionValue) (p : Option BoxEntry) (frame : Frame) (effect : Effect) → Executes old.stage → Restaged old new → Tells frame effect → (HasTold new.stage → untold_of (effect ∷ []) ≡ []) → p ≡ None
+    → LivesOn (Taken (Direct frame)) [] old new p (effect ∷ [])
 told_so old new p frame effect executes restaged tells none_untold none = λ bytes before l s.
     none_waits bytes (before ++ effect ∷ []) new p none (tells_it bytes before old new frame effect restaged executes tells none_untold l)
     (spends_as before (before ++ effect ∷ []) [] new (tells_none before frame effect tells) (spends_on before [] old new restaged.executes restaged.footprint s))
 
-pub again_so : {B : Type 0} (old new : ConnectionValue) (p : Option (Pending B)) (wanted : Wanted) (act : Act) → Executes old.stage → old.acts.again ≡ None → act_of wanted ≡ act ∷ []
-    → new ≡ record old { acts = record old.acts { again = Some act } } → p ≡ None → LivesOn wanted [] old new p []
-again_so old new p wanted act executes first is_act same none = λ bytes before l s.
-    none_more_waits bytes before new p none (again_next bytes before old new wanted act executes first is_act same l)
+pub again_so : (old new : ConnectionValue) (p : Option BoxEntry) (undone : Undone) (act : Act) → Executes old.stage → old.acts.again ≡ None → act_of undone ≡ act ∷ []
+    → new ≡ record old { acts = record old.acts { again = Some act } } → p ≡ None → LivesOn undone [] old new p []
+again_so old new p undone act executes first is_act same none = λ bytes before l s.
+    none_more_waits bytes before new p none (again_next bytes before old new undone act executes first is_act same l)
     (spends_on before [] old new (λ e. executes) (ap (λ (x : ConnectionValue). x.footprint) same) s)
 
-pub nothing_wanted : {B : Type 0} (wanted : Wanted) (old new : ConnectionValue) (p : Option (Pending B)) (waiting : List Op) (s t : SessionSeatValue) → t.own ≡ s.own → KeepsRoom old new → (HasHalted new.stage → HasHalted old.stage ⊎ FindsEnd t) → LivesOn wanted waiting old new p [] → DoesWanted wanted waiting old s new p t
-nothing_wanted wanted old new p waiting s t own keeps halts lives = record { effects = []; added = own ∙ sym (append-nil s.own); none_told = refl; keeps = keeps; halts = halts; lives = lives }
+pub nothing_done : (undone : Undone) (old new : ConnectionValue) (p : Option BoxEntry) (waiting : List Op) (s t : SessionSeatValue) → t.own ≡ s.own → KeepsRoom old new → (HasHalted new.stage → HasHalted old.stage ⊎ FindsEnd t) → LivesOn undone waiting old new p [] → DoesUndone undone waiting old s new p t
+nothing_done undone old new p waiting s t own keeps halts lives = record { effects = []; added = own ∙ sym (append-nil s.own); none_told = refl; keeps = keeps; halts = halts; lives = lives }
 
-pub said_it : {B : Type 0} (window : ℕ) (old new : ConnectionValue) (p : Option (Pending B)) (s t : SessionSeatValue) (c : CommandValue) (ticket : ℕ) → Executes old.stage → Appends window s t ticket c → new ≡ with_appended old (said_of c) ticket → p ≡ None
-    → DoesWanted (to_append c) (c.op ∷ []) old s new p t
+pub said_it : (window : ℕ) (old new : ConnectionValue) (p : Option BoxEntry) (s t : SessionSeatValue) (c : CommandValue) (ticket : ℕ) → Executes old.stage → Appends window s t ticket c → new ≡ with_appended old (role_of c.op) (is_last c) ticket → p ≡ None
+    → DoesUndone (Waits c) (c.op ∷ []) old s new p t
 said_it window old new p s t c ticket executes a same none = record { effects = Said (ticket, c) ∷ []; added = ap (λ (x : SessionSeatValue). x.own) a.added; none_told = refl; keeps = subst (λ x. KeepsRoom old x) (sym same) record { room = refl; limit = refl; evicted = λ e. e }; halts = λ h. inl (subst HasHalted (ap (λ (x : ConnectionValue). x.stage) same) h); lives = said_so old new p c ticket executes same none }
 
-pub said_next : {B : Type 0} (old new : ConnectionValue) (p : Option (Pending B)) (s t : SessionSeatValue) (c : CommandValue) (ticket : ℕ) → Executes old.stage → SaysNext c old s new t ticket → p ≡ None → DoesWanted (to_append c) (c.op ∷ []) old s new p t
+pub said_next : (old new : ConnectionValue) (p : Option BoxEntry) (s t : SessionSeatValue) (c : CommandValue) (ticket : ℕ) → Executes old.stage → SaysNext c old s new t ticket → p ≡ None → DoesUndone (Waits c) (c.op ∷ []) old s new p t
 said_next old new p s t c ticket executes so none = said_it WINDOW old new p s t c ticket executes so.appends so.connection none
 
 own_refused : (window : ℕ) (refused : Refused) (s t : SessionSeatValue) → Refuses window s t refused → t.own ≡ s.own
@@ -287,44 +286,61 @@ found_so window refusals.Stopped s t is final = inl (ap (λ (x : SessionSeatValu
 found_so window refusals.Exhausted s t is final = inr is.1
 found_so window (refusals.Busy mark) s t is final = absurd final
 
-pub refused_so : {B : Type 0} (window : ℕ) (refused : Refused) (old mid new : ConnectionValue) (p : Option (Pending B)) (s t : SessionSeatValue) (c d : CommandValue) → Refuses window s t refused → mid ≡ old → d ≡ c → new.footprint ≡ mid.footprint → (HasHalted new.stage → HasHalted mid.stage ⊎ IsFinal refused) → LivesOn (to_append d) (d.op ∷ []) mid new p []
-    → DoesWanted (to_append c) (c.op ∷ []) old s new p t
+pub refused_so : (window : ℕ) (refused : Refused) (old mid new : ConnectionValue) (p : Option BoxEntry) (s t : SessionSeatValue) (c d : CommandValue) → Refuses window s t refused → mid ≡ old → d ≡ c → new.footprint ≡ mid.footprint → (HasHalted new.stage → HasHalted mid.stage ⊎ IsFinal refused) → LivesOn (Waits d) (d.op ∷ []) mid new p []
+    → DoesUndone (Waits c) (c.op ∷ []) old s new p t
 refused_so window refused old mid new p s t c d is same command counted halts lives =
-    nothing_wanted (to_append c) old new p (c.op ∷ []) s t (own_refused window refused s t is) (keeps_same old new (counted ∙ ap (λ (x : ConnectionValue). x.footprint) same))
+    nothing_done (Waits c) old new p (c.op ∷ []) s t (own_refused window refused s t is) (keeps_same old new (counted ∙ ap (λ (x : ConnectionValue). x.footprint) same))
     (λ h. elim (halts h) [ inl before ↦ inl (subst (λ (x : ConnectionValue). HasHalted x.stage) same before) | inr final ↦ inr (found_so window refused s t is final) ])
-    (subst (λ (x : CommandValue). LivesOn (to_append x) (x.op ∷ []) old new p []) command (subst (λ x. LivesOn (to_append d) (d.op ∷ []) x new p []) same lives))
+    (subst (λ (x : CommandValue). LivesOn (Waits x) (x.op ∷ []) old new p []) command (subst (λ x. LivesOn (Waits d) (d.op ∷ []) x new p []) same lives))
 
 -- the command would have the session pass its bytes, and is dropped with all that waits behind it
-pub cut_so : {B : Type 0} (old new : ConnectionValue) (p : Option (Pending B)) (s : SessionSeatValue) (c : CommandValue) → Executes old.stage → IsFootprint old.footprint → old.footprint.room < total (charged old.footprint.parts c.op) → new ≡ filled old → p ≡ None
-    → DoesWanted (to_append c) [] old s new p s
-cut_so old new p s c executes form passes same none = nothing_wanted (to_append c) old new p [] s s refl (subst (λ x. KeepsRoom old x) (sym same) record { room = refl; limit = refl; evicted = λ e. absurd e }) (λ h. inl (halted_giving old.stage (subst HasHalted (ap (λ (x : ConnectionValue). x.stage) same) h))) (λ bytes before l spends.
+pub cut_so : (old new : ConnectionValue) (p : Option BoxEntry) (s : SessionSeatValue) (c : CommandValue) → Executes old.stage → IsFootprint old.footprint → old.footprint.room < total (charged old.footprint.parts c.op) → new ≡ filled old → p ≡ None
+    → DoesUndone (Waits c) [] old s new p s
+cut_so old new p s c executes form passes same none = nothing_done (Waits c) old new p [] s s refl (subst (λ x. KeepsRoom old x) (sym same) record { room = refl; limit = refl; evicted = λ e. absurd e }) (λ h. inl (halted_giving old.stage (subst HasHalted (ap (λ (x : ConnectionValue). x.stage) same) h))) (λ bytes before l spends.
     let by = cut_by_count before old c.op executes form spends passes in
     none_more_waits bytes before new p none (cuts_it bytes before old new c executes same by.0 by.1 l)
     (spends_filled before old new executes same spends))
 
 -- the command is counted first
-pub charged_so : {B : Type 0} (old mid new : ConnectionValue) (p : Option (Pending B)) (s t : SessionSeatValue) (c d : CommandValue) → Executes old.stage → total (charged old.footprint.parts c.op) ≤ old.footprint.limit → mid ≡ record old { footprint = spent old.footprint c.op } → d ≡ c
-    → (Executes mid.stage → DoesWanted (to_append d) (d.op ∷ []) mid s new p t) → DoesWanted (to_append c) [] old s new p t
-charged_so {B} old mid new p s t c d executes fits counted command does =
-    let own : DoesWanted (to_append c) (c.op ∷ []) mid s new p t =
-    subst (λ (x : CommandValue). DoesWanted {B = B} (to_append x) (x.op ∷ []) mid s new p t) command (does (subst Executes (sym (ap (λ (x : ConnectionValue). x.stage) counted)) executes)) in record {
+pub charged_so : (old mid new : ConnectionValue) (p : Option BoxEntry) (s t : SessionSeatValue) (c d : CommandValue) → Executes old.stage → total (charged old.footprint.parts c.op) ≤ old.footprint.limit → mid ≡ record old { footprint = spent old.footprint c.op } → d ≡ c
+    → (Executes mid.stage → DoesUndone (Waits d) (d.op ∷ []) mid s new p t) → DoesUndone (Waits c) [] old s new p t
+charged_so old mid new p s t c d executes fits counted command does =
+    let own : DoesUndone (Waits c) (c.op ∷ []) mid s new p t =
+    subst (λ (x : CommandValue). DoesUndone (Waits x) (x.op ∷ []) mid s new p t) command (does (subst Executes (sym (ap (λ (x : ConnectionValue). x.stage) counted)) executes)) in record {
       effects = own.effects;
       added = own.added;
       none_told = own.none_told;
       keeps = keeps_then old mid new (subst (λ x. KeepsRoom old x) (sym counted) record { room = refl; limit = refl; evicted = λ e. e }) own.keeps;
       halts = λ h. elim (own.halts h) [ inl before ↦ inl (subst HasHalted (ap (λ (x : ConnectionValue). x.stage) counted) before) | inr found ↦ inr found ];
       lives = λ bytes before l spends.
-          own.lives bytes before (subst (λ x. Lives bytes before x (to_append c)) (sym counted) (counts_it bytes before old (spent old.footprint c.op) (to_append c) refl l))
+          own.lives bytes before (subst (λ x. Lives bytes before x (Waits c)) (sym counted) (counts_it bytes before old (spent old.footprint c.op) (Waits c) refl l))
           (spends_charged before old mid c.op executes fits (ap (λ (x : ConnectionValue). x.footprint) counted) spends);
     }
 
-spending : {B : Type 0} (before : List Effect) (c : ConnectionValue) (p : Option (Pending B)) → p ≡ None → Spends before c (waiting_of p) → Spends before c []
+-- an act is done by its command
+pub asked_so : (old new : ConnectionValue) (p : Option BoxEntry) (s t : SessionSeatValue) (op : Op) (receipt : Option (List ℕ)) (c : CommandValue) → Executes old.stage → c ≡ asked old.progress op receipt → IsNext old.progress c
+    → DoesUndone (Waits c) [] old s new p t → DoesUndone (Taken (Do op receipt)) [] old s new p t
+asked_so old new p s t op receipt c executes is next d = record {
+  effects = d.effects;
+  added = d.added;
+  none_told = d.none_told;
+  keeps = d.keeps;
+  halts = d.halts;
+  lives = λ bytes before l spends. d.lives bytes before (asks_it bytes before old op receipt c executes is next l) spends;
+}
+
+-- nothing is to be done for it from outside
+pub passed_so : (old new : ConnectionValue) (p : Option BoxEntry) (s : SessionSeatValue) (act : Act) → Executes old.stage → IsSilent old.progress act → Steady old new → p ≡ None → DoesUndone (Taken act) [] old s new p s
+passed_so old new p s act executes silent steady none = nothing_done (Taken act) old new p [] s s refl (keeps_same old new steady.restaged.footprint) (λ h. inl (steady.halts h))
+    (λ bytes before l spends. none_more_waits bytes before new p none (restays bytes before old new Nothing steady.restaged (passes_it bytes before old act executes silent l)) (spends_on before [] old new steady.restaged.executes steady.restaged.footprint spends))
+
+spending : (before : List Effect) (c : ConnectionValue) (p : Option BoxEntry) → p ≡ None → Spends before c (waiting_of p) → Spends before c []
 spending before c p none s = subst (λ x. Spends before c (waiting_of x)) none s
 
-wanting : {B : Type 0} (bytes : List ℕ) (before : List Effect) (c : ConnectionValue) (p : Option (Pending B)) → p ≡ None → Lives bytes before c (wanted_of p) → Lives bytes before c Rest
-wanting bytes before c p none l = subst (λ x. Lives bytes before c (wanted_of x)) none l
+living : (bytes : List ℕ) (before : List Effect) (c : ConnectionValue) (p : Option BoxEntry) → p ≡ None → Lives bytes before c (undone_of p) → Lives bytes before c Nothing
+living bytes before c p none l = subst (λ x. Lives bytes before c (undone_of x)) none l
 
--- the command of an entry that waited, or the next that was wanted
+-- the command of an entry that waited, or the next act
 goes_doing : {B L : Type 0} (sent : L → Option (List (List ℕ))) (received : L → Option (List ℕ)) (was is : Slot B) (s t : SessionSeatValue) (l : L) (effects : List Effect) → t.own ≡ s.own ++ commands_of effects → told_of effects ≡ []
     → Continues was.connection.progress s is.connection.progress t → Stays was is → KeepsRoom was.connection is.connection → ((bytes : List ℕ) (before : List Effect) → LivesAt bytes before was → LivesAt bytes (before ++ effects) is) → (HasHalted is.connection.stage → FindsEnd t) → GoesOn sent received was s l is t l
 goes_doing sent received was is s t l effects added none_told continues same keeps lives halts = record {
@@ -341,142 +357,106 @@ only_found : (stage : Stage) (t : SessionSeatValue) → Executes stage → HasHa
 only_found stage t executes (inl halted) = absurd (not_halted stage executes halted)
 only_found stage t executes (inr found) = found
 
-pub goes_wanted : {B L : Type 0} (sent : L → Option (List (List ℕ))) (received : L → Option (List ℕ)) (was mid is : Slot B) (s t : SessionSeatValue) (l : L) (wanted : Wanted)
-    → Executes was.connection.stage → Executes mid.connection.stage → was.pending ≡ None → Wants was.connection mid.connection wanted → mid.outbox ≡ was.outbox → mid.kept ≡ was.kept
-    → Continues mid.connection.progress s is.connection.progress t → Stays mid is → DoesWanted wanted [] mid.connection s is.connection is.pending t → GoesOn sent received was s l is t l
-goes_wanted sent received was mid is s t l wanted executes still_so none w outbox kept continues same d =
-    let progress = wants_no_other was.connection mid.connection wanted w in
-    goes_doing sent received was is s t l d.effects d.added d.none_told (subst (λ p. Continues p s is.connection.progress t) progress continues) (restay was mid is progress outbox kept same)
-    (keeps_then was.connection mid.connection is.connection (keeps_same was.connection mid.connection (ap (λ (c : ConnectionValue). c.footprint) w.taken.same)) d.keeps)
-    (λ bytes before x. d.lives bytes before (wants_next bytes before was.connection mid.connection wanted executes w (wanting bytes before was.connection was.pending none x.0))
-    (spends_wanted before [] was.connection mid.connection wanted executes w (spending before was.connection was.pending none x.1)))
-    (λ h. only_found mid.connection.stage t still_so (d.halts h))
+pub still_executes : (old new : ConnectionValue) (act : Option Act) → Takes old new act → Executes old.stage → Executes new.stage
+still_executes old new act t executes = subst Executes (sym (same_taken old new act t)) executes
 
-pub goes_pending : {B L : Type 0} (sent : L → Option (List (List ℕ))) (received : L → Option (List ℕ)) (was mid is : Slot B) (s t : SessionSeatValue) (l : L) (pending : Pending B) → Executes was.connection.stage → was.pending ≡ Some pending
+pub goes_taken : {B L : Type 0} (sent : L → Option (List (List ℕ))) (received : L → Option (List ℕ)) (was mid is : Slot B) (s t : SessionSeatValue) (l : L) (act : Act)
+    → Executes was.connection.stage → was.waiting ≡ None → Takes was.connection mid.connection (Some act) → mid.outbox ≡ was.outbox → mid.kept ≡ was.kept
+    → Continues mid.connection.progress s is.connection.progress t → Stays mid is → DoesUndone (Taken act) [] mid.connection s is.connection is.waiting t → GoesOn sent received was s l is t l
+goes_taken sent received was mid is s t l act executes none w outbox kept continues same d =
+    let progress = takes_no_other was.connection mid.connection (Some act) w in
+    goes_doing sent received was is s t l d.effects d.added d.none_told (subst (λ p. Continues p s is.connection.progress t) progress continues) (restay was mid is progress outbox kept same)
+    (keeps_then was.connection mid.connection is.connection (keeps_same was.connection mid.connection (ap (λ (c : ConnectionValue). c.footprint) w.same)) d.keeps)
+    (λ bytes before x. d.lives bytes before (takes_one bytes before was.connection mid.connection act executes w (living bytes before was.connection was.waiting none x.0))
+    (spends_taken before [] was.connection mid.connection (Some act) executes w (spending before was.connection was.waiting none x.1)))
+    (λ h. only_found mid.connection.stage t (still_executes was.connection mid.connection (Some act) w executes) (d.halts h))
+
+pub goes_waiting : {B L : Type 0} (sent : L → Option (List (List ℕ))) (received : L → Option (List ℕ)) (was mid is : Slot B) (s t : SessionSeatValue) (l : L) (entry : BoxEntry) → Executes was.connection.stage → was.waiting ≡ Some entry
     → mid.connection ≡ was.connection → mid.outbox ≡ was.outbox → mid.kept ≡ was.kept → Continues mid.connection.progress s is.connection.progress t → Stays mid is
-    → DoesWanted (to_append pending.entry.command) (pending.entry.command.op ∷ []) mid.connection s is.connection is.pending t → GoesOn sent received was s l is t l
-goes_pending sent received was mid is s t l pending executes some connection outbox kept continues same d =
+    → DoesUndone (Waits entry.command) (entry.command.op ∷ []) mid.connection s is.connection is.waiting t → GoesOn sent received was s l is t l
+goes_waiting sent received was mid is s t l entry executes some connection outbox kept continues same d =
     let progress = ap (λ (c : ConnectionValue). c.progress) connection in
     goes_doing sent received was is s t l d.effects d.added d.none_told (subst (λ p. Continues p s is.connection.progress t) progress continues) (restay was mid is progress outbox kept same)
     (keeps_then was.connection mid.connection is.connection (keeps_same was.connection mid.connection (ap (λ (c : ConnectionValue). c.footprint) connection)) d.keeps)
-    (λ bytes before x. d.lives bytes before (subst (λ c. Lives bytes before c (to_append pending.entry.command)) (sym connection) (subst (λ p. Lives bytes before was.connection (wanted_of p)) some x.0))
-    (subst (λ c. Spends before c (pending.entry.command.op ∷ [])) (sym connection) (subst (λ p. Spends before was.connection (waiting_of p)) some x.1)))
+    (λ bytes before x. d.lives bytes before (subst (λ c. Lives bytes before c (Waits entry.command)) (sym connection) (subst (λ p. Lives bytes before was.connection (undone_of p)) some x.0))
+    (subst (λ c. Spends before c (entry.command.op ∷ [])) (sym connection) (subst (λ p. Spends before was.connection (waiting_of p)) some x.1)))
     (λ h. only_found mid.connection.stage t (subst (λ (c : ConnectionValue). Executes c.stage) (sym connection) executes) (d.halts h))
 
--- a frame that was wanted to be told
-pub goes_telling : {B L : Type 0} (sent : L → Option (List (List ℕ))) (received : L → Option (List ℕ)) (was mid is : Slot B) (s : SessionSeatValue) (l m : L) (frame : Frame) → Executes was.connection.stage → Executes mid.connection.stage → was.pending ≡ None
-    → Wants was.connection mid.connection (Tell frame) → mid.outbox ≡ was.outbox → mid.kept ≡ was.kept → received m ≡ received l → StaysOrEnds mid.connection.progress is.connection.progress → TellsIt sent frame mid l is m → GoesOn sent received was s l is s m
-goes_telling sent received was mid is s l m frame executes still_so none w outbox kept unread same t =
-    let progress = wants_no_other was.connection mid.connection (Tell frame) w in record {
+-- a frame is told
+pub goes_telling : {B L : Type 0} (sent : L → Option (List (List ℕ))) (received : L → Option (List ℕ)) (was mid is : Slot B) (s : SessionSeatValue) (l m : L) (frame : Frame) → Executes was.connection.stage → was.waiting ≡ None
+    → Takes was.connection mid.connection (Some (Direct frame)) → mid.outbox ≡ was.outbox → mid.kept ≡ was.kept → received m ≡ received l → StaysOrEnds mid.connection.progress is.connection.progress → TellsIt sent frame mid l is m → GoesOn sent received was s l is s m
+goes_telling sent received was mid is s l m frame executes none w outbox kept unread same t =
+    let progress = takes_no_other was.connection mid.connection (Some (Direct frame)) w in
+    let still_so = still_executes was.connection mid.connection (Some (Direct frame)) w executes in record {
       effects = t.effects;
       added = sym (append-nil s.own) ∙ ap (λ x. s.own ++ x) (sym t.none_said);
       continues = ends_so was.connection.progress was.connection.progress is.connection.progress s s (stays was.connection.progress s) (subst (λ p. StaysOrEnds p is.connection.progress) progress same);
       served = reserve sent (told_of t.effects) was mid is l m progress outbox kept t.served;
-      keeps = keeps_then was.connection mid.connection is.connection (keeps_same was.connection mid.connection (ap (λ (c : ConnectionValue). c.footprint) w.taken.same)) t.keeps;
+      keeps = keeps_then was.connection mid.connection is.connection (keeps_same was.connection mid.connection (ap (λ (c : ConnectionValue). c.footprint) w.same)) t.keeps;
       heeds = by_deeds received was is l m t.effects unread
-          (λ bytes before x. t.lives still_so bytes before (wants_next bytes before was.connection mid.connection (Tell frame) executes w (wanting bytes before was.connection was.pending none x.0))
-          (spends_wanted before [] was.connection mid.connection (Tell frame) executes w (spending before was.connection was.pending none x.1)));
+          (λ bytes before x. t.lives still_so bytes before (takes_one bytes before was.connection mid.connection (Direct frame) executes w (living bytes before was.connection was.waiting none x.0))
+          (spends_taken before [] was.connection mid.connection (Some (Direct frame)) executes w (spending before was.connection was.waiting none x.1)));
       halts = λ before h. absurd (not_halted mid.connection.stage still_so (t.halts still_so h));
     }
 
-done_rest : (bytes : List ℕ) (before : List Effect) (c : ConnectionValue) → Lives bytes before c Done → Lives bytes before c Rest
-done_rest bytes before c l = record {
-  heard = l.heard;
-  unheard = l.unheard;
-  whole = l.whole;
-  all = l.all;
-  session = l.session;
-  hears = l.hears;
-  losses = l.losses;
-  are_losses = l.are_losses;
-  done = l.done;
-  left = l.left;
-  split = l.split;
-  reached = l.reached;
-  does = l.does;
-  none_untold = l.none_untold;
-  none_unheard = l.none_unheard;
-  none_lost = l.none_lost;
-  phase = l.phase;
-  rest = l.rest;
-  none_left = l.none_left;
-  stands = l.stands;
-  next = λ e. tt;
-  asked_for = l.asked_for;
-  cut = l.cut;
-  halves = l.halves;
-  cut_for = l.cut_for;
-  none_cut = l.none_cut;
-  stood = l.stood;
-  last = l.last;
-  ended = l.ended;
-}
+-- its session closes
+pub goes_closing : {B L : Type 0} (sent : L → Option (List (List ℕ))) (received : L → Option (List ℕ)) (was is : Slot B) (mid : ConnectionValue) (s : SessionSeatValue) (l : L) (code : CloseCode) → Executes was.connection.stage → was.waiting ≡ None → is.waiting ≡ None → is.outbox ≡ was.outbox → is.kept ≡ was.kept
+    → Takes was.connection mid (Some (Close code)) → is.connection ≡ record mid { stage = closed_by code mid.last mid.progress mid.stage } → GoesOn sent received was s l is s l
+goes_closing sent received was is mid s l code executes none still_none outbox kept w closed =
+    let still_so = still_executes was.connection mid (Some (Close code)) w executes in
+    let steady = closes mid is.connection code still_so closed in
+    let d = passed_so mid is.connection is.waiting s (Close code) still_so tt steady still_none in
+    let progress = ap (λ (c : ConnectionValue). c.progress) closed ∙ takes_no_other was.connection mid (Some (Close code)) w in
+    goes_doing sent received was is s s l d.effects d.added d.none_told (stands was.connection.progress is.connection.progress s s progress refl) (still was is progress outbox kept)
+    (keeps_then was.connection mid is.connection (keeps_same was.connection mid (ap (λ (c : ConnectionValue). c.footprint) w.same)) d.keeps)
+    (λ bytes before x. d.lives bytes before (takes_one bytes before was.connection mid (Close code) executes w (living bytes before was.connection was.waiting none x.0))
+    (spends_taken before [] was.connection mid (Some (Close code)) executes w (spending before was.connection was.waiting none x.1)))
+    (λ h. absurd (not_halted mid.stage still_so (steady.halts h)))
 
--- nothing is to be done from outside
-pub goes_done : {B L : Type 0} (sent : L → Option (List (List ℕ))) (received : L → Option (List ℕ)) (was is : Slot B) (s : SessionSeatValue) (l : L) → Executes was.connection.stage → was.pending ≡ None → is.pending ≡ None → is.outbox ≡ was.outbox → is.kept ≡ was.kept
-    → Wants was.connection is.connection Done → GoesOn sent received was s l is s l
-goes_done sent received was is s l executes none still_none outbox kept w =
-    let progress = wants_no_other was.connection is.connection Done w in
-    goes_doing sent received was is s s l [] (sym (append-nil s.own)) refl (stands was.connection.progress is.connection.progress s s progress refl) (still was is progress outbox kept) (keeps_same was.connection is.connection (ap (λ (c : ConnectionValue). c.footprint) w.taken.same))
-    (λ bytes before x. none_more_waits bytes before is.connection is.pending still_none
-    (done_rest bytes before is.connection (wants_next bytes before was.connection is.connection Done executes w (wanting bytes before was.connection was.pending none x.0)))
-    (spends_wanted before [] was.connection is.connection Done executes w (spending before was.connection was.pending none x.1)))
-    (λ h. absurd (wants_halts was.connection is.connection w.act Done executes w.asked_for h))
-
-pub goes_rest : {B L : Type 0} (sent : L → Option (List (List ℕ))) (received : L → Option (List ℕ)) (was is : Slot B) (s : SessionSeatValue) (l : L) → Executes was.connection.stage → was.pending ≡ None → is.pending ≡ None → is.outbox ≡ was.outbox → is.kept ≡ was.kept
-    → Wants was.connection is.connection Rest → GoesOn sent received was s l is s l
-goes_rest sent received was is s l executes none still_none outbox kept w =
-    let progress = wants_no_other was.connection is.connection Rest w in
-    goes_doing sent received was is s s l [] (sym (append-nil s.own)) refl (stands was.connection.progress is.connection.progress s s progress refl) (still was is progress outbox kept) (keeps_same was.connection is.connection (ap (λ (c : ConnectionValue). c.footprint) w.taken.same))
-    (λ bytes before x. none_more_waits bytes before is.connection is.pending still_none
-    (wants_next bytes before was.connection is.connection Rest executes w (wanting bytes before was.connection was.pending none x.0))
-    (spends_wanted before [] was.connection is.connection Rest executes w (spending before was.connection was.pending none x.1)))
-    (λ h. absurd (wants_halts was.connection is.connection w.act Rest executes w.asked_for h))
+-- no act is left
+pub goes_resting : {B L : Type 0} (sent : L → Option (List (List ℕ))) (received : L → Option (List ℕ)) (was is : Slot B) (mid : ConnectionValue) (s : SessionSeatValue) (l : L) → Executes was.connection.stage → was.waiting ≡ None → is.waiting ≡ None → is.outbox ≡ was.outbox → is.kept ≡ was.kept
+    → Takes was.connection mid None → is.connection ≡ record mid { stage = rested mid.stage } → GoesOn sent received was s l is s l
+goes_resting sent received was is mid s l executes none still_none outbox kept w rest =
+    let still_so = still_executes was.connection mid None w executes in
+    let same = takes_no_other was.connection mid None w in
+    let lost : IsLost mid.stage → IsDone mid.progress = λ lost. subst IsDone (sym same) (none_lost_yet was.connection mid w (subst IsLost (same_taken was.connection mid None w) lost)) in
+    let steady = rests mid is.connection still_so lost rest in
+    let progress = ap (λ (c : ConnectionValue). c.progress) rest ∙ same in
+    goes_doing sent received was is s s l [] (sym (append-nil s.own)) refl (stands was.connection.progress is.connection.progress s s progress refl) (still was is progress outbox kept)
+    (keeps_then was.connection mid is.connection (keeps_same was.connection mid (ap (λ (c : ConnectionValue). c.footprint) w.same)) (keeps_same mid is.connection steady.restaged.footprint))
+    (λ bytes before x. none_more_waits bytes before is.connection is.waiting still_none
+    (restays bytes before mid is.connection Nothing steady.restaged (takes_none bytes before was.connection mid executes w (living bytes before was.connection was.waiting none x.0)))
+    (spends_on before [] mid is.connection steady.restaged.executes steady.restaged.footprint (spends_taken before [] was.connection mid None executes w (spending before was.connection was.waiting none x.1))))
+    (λ h. absurd (not_halted mid.stage still_so (steady.halts h)))
 
 pub not_some : {X : Type 0} (o : Option X) → ((x : X) → o ≡ Some x → ⊥) → o ≡ None
 not_some None other = refl
 not_some (Some x) other = absurd (other x refl)
 
--- from outside something is wanted
-abbrev pub IsOutside : Wanted → Type 0
-IsOutside (Append c said) = Unit {0}
-IsOutside (Tell frame) = Unit {0}
-IsOutside Done = ⊥
-IsOutside Rest = ⊥
-
-same_stage_by : (old new : ConnectionValue) (act : Option Act) (wanted : Wanted) → WantsBy old new act wanted → IsOutside wanted → new.stage ≡ old.stage
-same_stage_by old new (Some (Do op receipt)) wanted by outside = by.1
-same_stage_by old new (Some (Direct frame)) wanted by outside = by.1
-same_stage_by old new (Some (Close code)) wanted by outside = absurd (subst IsOutside by.0 outside)
-same_stage_by old new None wanted by outside = absurd (subst IsOutside by.0 outside)
-
-pub still_executes : (old new : ConnectionValue) (wanted : Wanted) → Executes old.stage → Wants old new wanted → IsOutside wanted → Executes new.stage
-still_executes old new wanted executes w outside = subst Executes (sym (same_stage_by old new w.act wanted w.asked_for outside)) executes
-
 -- ── a frame is told ──
 
--- The link took it; it was over, now or before; or memory was refused, and it is wanted again.
-pub tells_told : {B L : Type 0} (sent : L → Option (List (List ℕ))) (frame : Frame) (was is : Slot B) (l m : L) → was.pending ≡ None → is.pending ≡ was.pending → (Executes was.connection.stage → Steady was.connection is.connection)
+-- The link took it; it was over, now or before; or memory was refused, and it is the next act again.
+pub tells_told : {B L : Type 0} (sent : L → Option (List (List ℕ))) (frame : Frame) (was is : Slot B) (l m : L) → was.waiting ≡ None → is.waiting ≡ was.waiting → (Executes was.connection.stage → Steady was.connection is.connection)
     → KeepsRoom was.connection is.connection → Served sent (frame ∷ []) was l is m → TellsIt sent frame was l is m
-tells_told sent frame was is l m none pending steady keeps s = record {
+tells_told sent frame was is l m none waits steady keeps s = record {
   halts = λ executes. (steady executes).halts;
   keeps = keeps;
   effects = Told frame ∷ [];
   none_said = refl;
   served = s;
-  lives = λ executes. told_so was.connection is.connection is.pending frame (Told frame) executes (steady executes).restaged (inl refl) (λ t. refl) (pending ∙ none);
+  lives = λ executes. told_so was.connection is.connection is.waiting frame (Told frame) executes (steady executes).restaged (inl refl) (λ t. refl) (waits ∙ none);
 }
 
-pub tells_nobody : {B L : Type 0} (sent : L → Option (List (List ℕ))) (frame : Frame) (was is : Slot B) (l m : L) → was.pending ≡ None → is.pending ≡ was.pending → Steady was.connection is.connection
+pub tells_nobody : {B L : Type 0} (sent : L → Option (List (List ℕ))) (frame : Frame) (was is : Slot B) (l m : L) → was.waiting ≡ None → is.waiting ≡ was.waiting → Steady was.connection is.connection
     → (Executes was.connection.stage → HasTold is.connection.stage → ⊥) → Served sent [] was l is m → TellsIt sent frame was l is m
-tells_nobody sent frame was is l m none pending steady over s = record {
+tells_nobody sent frame was is l m none waits steady over s = record {
   halts = λ executes. steady.halts;
   keeps = keeps_same was.connection is.connection steady.restaged.footprint;
   effects = Untold frame ∷ [];
   none_said = refl;
   served = s;
-  lives = λ executes. told_so was.connection is.connection is.pending frame (Untold frame) executes steady.restaged (inr refl) (λ t. absurd (over executes t)) (pending ∙ none);
+  lives = λ executes. told_so was.connection is.connection is.waiting frame (Untold frame) executes steady.restaged (inr refl) (λ t. absurd (over executes t)) (waits ∙ none);
 }
 
-pub tells_later : {B L : Type 0} (sent : L → Option (List (List ℕ))) (frame : Frame) (was is : Slot B) (l m : L) → Served sent [] was l is m → KeepsRoom was.connection is.connection → (HasHalted is.connection.stage → HasHalted was.connection.stage) → (Executes was.connection.stage → LivesOn (Tell frame) [] was.connection is.connection is.pending []) → TellsIt sent frame was l is m
+pub tells_later : {B L : Type 0} (sent : L → Option (List (List ℕ))) (frame : Frame) (was is : Slot B) (l m : L) → Served sent [] was l is m → KeepsRoom was.connection is.connection → (HasHalted is.connection.stage → HasHalted was.connection.stage) → (Executes was.connection.stage → LivesOn (Taken (Direct frame)) [] was.connection is.connection is.waiting []) → TellsIt sent frame was l is m
 tells_later sent frame was is l m s keeps halts lives = record { keeps = keeps; halts = λ executes. halts; effects = []; none_said = refl; served = s; lives = lives }

@@ -3,7 +3,9 @@ pub mod Chaining
 pub mod Counting
 pub mod Doing
 pub mod Evicting
+pub mod Footprints
 pub mod Going
+pub mod Hearing
 pub mod Lists
 pub mod Living
 pub mod Messages

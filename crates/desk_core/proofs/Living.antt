@@ -13,45 +13,42 @@ use Rattle.session_core.specs.declared.act.Act.TheVariants.{Do, Direct, Close}
 use Rattle.session_core.specs.declared.act.CloseCode.{CloseCode}
 use Rattle.session_core.specs.declared.act.CloseCode.TheVariants.{NormalClosure, ProtocolError}
 use Rattle.session_core.specs.Sessions.{Hearing, Hears, IsOver, fresh}
-use Rattle.connection_core.specs.Connections.{ConnectionValue, HearsBytes, IsLost, IsSent, Listens, Takes, Wants, WantsBy, closed_by, loss_of, to_append, unheard, with_appended}
-use Rattle.connection_core.specs.Conversations.{IsDone, IsFinished, IsNext, after, asked, is_farewell, over, role_of, said_of}
-use Rattle.connection_core.specs.Footprints.{FootprintValue, footprint}
-use Rattle.connection_core.specs.declared.footprint.Cut.{Cut}
-use Rattle.connection_core.specs.declared.footprint.Cut.TheVariants as cuts
-use Rattle.connection_core.specs.Histories.{HasHeard}
-use Rattle.connection_core.specs.Stages.{Executes, IsEnding, IsOwnEnd, given_up, lost, parted, rested, stopped}
-use Rattle.connection_core.specs.Tasks.{Tasks, all_of}
-use Rattle.connection_core.specs.declared.ended.Ended.{Ended}
-use Rattle.connection_core.specs.declared.ended.Ended.TheVariants.{Bye, Lost, Bad, Stopped}
+use Rattle.desk_core.specs.Connections.{ConnectionValue, HearsBytes, IsLost, IsSent, Listens, Takes, closed_by, loss_of, unheard, with_appended}
+use Rattle.desk_core.specs.Progress.{IsDone, IsFinished, IsNext, after, asked, is_farewell, is_last, over, role_of}
+use Rattle.desk_core.specs.Footprints.{FootprintValue, footprint}
+use Rattle.desk_core.specs.declared.footprint.Cut.{Cut}
+use Rattle.desk_core.specs.declared.footprint.Cut.TheVariants as cuts
+use Rattle.desk_core.specs.Stages.{Executes, IsEnding, IsOwnEnd, given_up, lost, parted, rested, stopped}
+use Rattle.desk_core.specs.Tasks.{Tasks, all_of}
+use Rattle.desk_core.specs.declared.ended.Ended.{Ended}
+use Rattle.desk_core.specs.declared.ended.Ended.TheVariants.{Bye, Lost, Bad, Stopped}
 use Rattle.frame_core.specs.declared.frame.Verb.{Verb}
 use Rattle.frame_core.specs.declared.frame.Verb.TheVariants as verbs
 use Rattle.std.proofs.lemmas.Bool.{and_parts, cases_eq, eqb-true}
 use Rattle.std.proofs.lemmas.Bool.Decides.{nat_tests}
-use Rattle.connection_core.specs.declared.progress.Role.{Role}
-use Rattle.connection_core.specs.declared.progress.Role.TheVariants.{Opens, Talks, Ends}
-use Rattle.connection_core.specs.declared.progress.Progress.{Progress}
-use Rattle.connection_core.specs.declared.progress.Progress.TheVariants.{New, Open, Ended as Finished, Gone}
-use Rattle.connection_core.specs.declared.said.Wanted.{Wanted}
-use Rattle.connection_core.specs.declared.said.Wanted.TheVariants.{Append, Tell, Done, Rest}
-use Rattle.connection_core.specs.declared.stage.Stage.{Stage}
-use Rattle.connection_core.specs.declared.stage.Stage.TheVariants.{Running, GivingUp, Closing, Parting, Leaving, Over}
+use Rattle.desk_core.specs.declared.progress.Role.{Role}
+use Rattle.desk_core.specs.declared.progress.Role.TheVariants.{Opens, Talks, Ends}
+use Rattle.desk_core.specs.declared.progress.Progress.{Progress}
+use Rattle.desk_core.specs.declared.progress.Progress.TheVariants.{New, Open, Ended as Finished, Gone}
+use Rattle.desk_core.specs.declared.stage.Stage.{Stage}
+use Rattle.desk_core.specs.declared.stage.Stage.TheVariants.{Running, GivingUp, Closing, Parting, Leaving, Over}
 use Rattle.claim_core.specs.Counts.{Pair}
-use Rattle.connection_core.proofs.Footprints.{nothing_by_end}
-use Rattle.connection_core.proofs.Living.{hears_on, lost_or_not, lost_runs, nothing_heard_yet, still_runs}
+use Rattle.desk_core.proofs.Footprints.{nothing_by_end}
+use Rattle.desk_core.proofs.Hearing.{HasHeard, hears_on, nothing_heard_yet}
 use Rattle.desk_core.specs.Conversations.{StaysOrEnds}
 use Rattle.desk_core.specs.Effects.{Effect, Does, Said, Tells, commands_of, untold_of}
-use Rattle.desk_core.specs.Histories.{HasTold, IsAsked, IsBad, IsLast, IsLoss, Lives, Restaged, Steady, act_of}
+use Rattle.desk_core.specs.Histories.{HasTold, IsAsked, IsBad, IsLast, IsLoss, Lives, Nothing, Restaged, Steady, Taken, Undone, Waits, act_of}
 use Rattle.desk_core.specs.Halting.{HasHalted, IsStopped}
 use Rattle.desk_core.specs.Keeping.{WaitsNext, is_next, opens}
-use Rattle.desk_core.specs.declared.pending.Pending.{Pending}
+use Rattle.desk_core.specs.Boxes.{BoxEntry}
 use Rattle.desk_core.specs.Spending.{IsCut, ops_of}
 use Rattle.desk_core.proofs.Doing.{IsSilent, commands_append, does_say, does_silent, does_tell, none_more}
 use Rattle.desk_core.proofs.Lists.{all_append}
 
 -- ── a connection begins ──
 
-pub begins : (limit : ℕ) (c : ConnectionValue) → c ≡ unheard limit → Lives [] [] c Rest
-begins limit c is = subst (λ x. Lives [] [] x Rest) (sym is) record {
+pub begins : (limit : ℕ) (c : ConnectionValue) → c ≡ unheard limit → Lives [] [] c Nothing
+begins limit c is = subst (λ x. Lives [] [] x Nothing) (sym is) record {
   heard = [];
   unheard = [];
   whole = refl;
@@ -129,8 +126,8 @@ cut_as : (f g : FootprintValue) (asked cut done : List Act) (said : List Pair) �
 cut_as f g asked cut done said same c = subst (λ (x : FootprintValue). IsCut x.cut asked cut done said) (sym same) c
 
 -- with bytes that came and were not heard, where it does not run
-pub restages : (bytes got : List ℕ) (effects : List Effect) (old new : ConnectionValue) (wanted : Wanted) → Restaged old new → (new.stage ≡ Running → got ≡ []) → Lives bytes effects old wanted → Lives (bytes ++ got) effects new wanted
-restages bytes got effects old new wanted r none l = record {
+pub restages : (bytes got : List ℕ) (effects : List Effect) (old new : ConnectionValue) (undone : Undone) → Restaged old new → (new.stage ≡ Running → got ≡ []) → Lives bytes effects old undone → Lives (bytes ++ got) effects new undone
+restages bytes got effects old new undone r none l = record {
   heard = l.heard;
   unheard = l.unheard ++ got;
   whole = ap (λ b. b ++ got) l.whole ∙ append_assoc l.heard l.unheard got;
@@ -144,7 +141,7 @@ restages bytes got effects old new wanted r none l = record {
   are_losses = l.are_losses;
   done = l.done;
   left = l.left;
-  split = l.split ∙ ap (λ (t : Tasks). l.done ++ (act_of wanted ++ (l.left ++ all_of t))) (sym r.acts);
+  split = l.split ∙ ap (λ (t : Tasks). l.done ++ (act_of undone ++ (l.left ++ all_of t))) (sym r.acts);
   cut_for = cut_as old.footprint new.footprint l.asked_for l.cut l.done (commands_of effects) r.footprint l.cut_for;
   reached = l.reached;
   does = l.does;
@@ -162,11 +159,11 @@ restages bytes got effects old new wanted r none l = record {
   ended = r.ended l.last l.ended;
 }
 
-as_bytes : (bytes : List ℕ) (effects : List Effect) (c : ConnectionValue) (wanted : Wanted) → Lives (bytes ++ []) effects c wanted → Lives bytes effects c wanted
-as_bytes bytes effects c wanted l = subst (λ b. Lives b effects c wanted) (append-nil bytes) l
+as_bytes : (bytes : List ℕ) (effects : List Effect) (c : ConnectionValue) (undone : Undone) → Lives (bytes ++ []) effects c undone → Lives bytes effects c undone
+as_bytes bytes effects c undone l = subst (λ b. Lives b effects c undone) (append-nil bytes) l
 
-pub restays : (bytes : List ℕ) (effects : List Effect) (old new : ConnectionValue) (wanted : Wanted) → Restaged old new → Lives bytes effects old wanted → Lives bytes effects new wanted
-restays bytes effects old new wanted r l = as_bytes bytes effects new wanted (restages bytes [] effects old new wanted r (λ run. refl) l)
+pub restays : (bytes : List ℕ) (effects : List Effect) (old new : ConnectionValue) (undone : Undone) → Restaged old new → Lives bytes effects old undone → Lives bytes effects new undone
+restays bytes effects old new undone r l = as_bytes bytes effects new undone (restages bytes [] effects old new undone r (λ run. refl) l)
 
 -- by the stage alone
 pub by_stage : (old : ConnectionValue) (stage : Stage) → (stage ≡ Running → old.stage ≡ Running) → (HasTold stage → HasTold old.stage) → (Executes stage → Executes old.stage) → (IsEnding stage → IsEnding old.stage)
@@ -189,7 +186,7 @@ as_restaged old new it is r = subst (λ x. Restaged old x) (sym is) r
 
 -- ── it hears ──
 
-pub hears_more : (bytes got : List ℕ) (effects : List Effect) (old new : ConnectionValue) → Listens old → HearsBytes old got new → Lives bytes effects old Rest → Lives (bytes ++ got) effects new Rest
+pub hears_more : (bytes got : List ℕ) (effects : List Effect) (old new : ConnectionValue) → Listens old → HearsBytes old got new → Lives bytes effects old Nothing → Lives (bytes ++ got) effects new Nothing
 hears_more bytes got effects old new listens is l = record {
   heard = l.heard ++ got;
   unheard = [];
@@ -320,156 +317,138 @@ last_said p last (ops.Nack delivery) receipt ticket on l = inl (none_before p la
 last_said p last (ops.Commit members) receipt ticket on l = inl (none_before p last on l)
 last_said p last ops.Note receipt ticket on l = inl (none_before p last on l)
 
--- ── it wants what is next ──
+-- ── an act is taken ──
 
--- lists of what is done, wanted and left, one act further
+-- lists of what is done, undone and left, one act further
 one_further : (all losses done left acts others : List Act) (act : Act) → all ++ losses ≡ done ++ ([] ++ (left ++ acts)) → left ≡ [] → acts ≡ act ∷ others → all ++ losses ≡ done ++ (act ∷ [] ++ ([] ++ others))
 one_further all losses done left acts others act split none first = split ∙ ap (λ l. done ++ l) (ap (λ l. l ++ acts) none ∙ first)
 
-done_further : (all losses done others : List Act) (act : Act) → all ++ losses ≡ done ++ (act ∷ [] ++ ([] ++ others)) → all ++ losses ≡ (done ++ act ∷ []) ++ ([] ++ ([] ++ others))
-done_further all losses done others act split = split ∙ sym (append_assoc done (act ∷ []) others)
-
--- what stands behind the next act
-record Next (bytes : List ℕ) (effects : List Effect) (old new : ConnectionValue) (act : Act) : Type 0 where
-  lives : Lives bytes effects old Rest
-  losses : List Act
-  are_losses : AllByRecursion IsLoss losses
-  split : lives.asked_for ++ losses ≡ lives.done ++ (act ∷ [] ++ ([] ++ all_of new.acts))
-  told : HasTold new.stage → HasTold old.stage
-  none_unheard : new.stage ≡ Running → lives.unheard ≡ []
-  none_lost : new.stage ≡ Running → losses ≡ []
-  none_cut : new.stage ≡ Running → lives.cut ≡ []
-  phase : new.stage ≡ Running → lives.session.phase ≡ new.session.phase
-  rest : new.stage ≡ Running → (IsOver new.session.phase → ⊥) → lives.session ≡ new.session
-  progress : new.progress ≡ lives.reached
-  footprint : new.footprint ≡ old.footprint
-  last : IsLast new
-  ended : IsEnding new.stage → IsDone new.progress
-
-wants_it : (bytes : List ℕ) (effects : List Effect) (old new : ConnectionValue) (act : Act) (wanted : Wanted) → Next bytes effects old new act → act_of wanted ≡ act ∷ [] → ((p : Progress) → p ≡ old.progress → IsAsked p wanted) → old.progress ≡ new.progress
-    → Lives bytes effects new wanted
-wants_it bytes effects old new act wanted n is asked_for same = record {
-  heard = n.lives.heard;
-  unheard = n.lives.unheard;
-  whole = n.lives.whole;
-  all = n.lives.all;
-  session = n.lives.session;
-  hears = n.lives.hears;
-  asked_for = n.lives.asked_for;
-  cut = n.lives.cut;
-  halves = n.lives.halves;
-  losses = n.losses;
-  are_losses = n.are_losses;
-  done = n.lives.done;
-  cut_for = cut_as old.footprint new.footprint n.lives.asked_for n.lives.cut n.lives.done (commands_of effects) n.footprint n.lives.cut_for;
+-- one more loss may have been asked for
+takes_it : (bytes : List ℕ) (effects : List Effect) (old new : ConnectionValue) (undone : Undone) (l : Lives bytes effects old Nothing) (losses : List Act) → Executes old.stage → new.stage ≡ old.stage → new.session ≡ old.session → new.progress ≡ old.progress
+    → new.footprint ≡ old.footprint → new.last ≡ old.last → AllByRecursion IsLoss losses → (new.stage ≡ Running → losses ≡ []) → (Executes new.stage → IsAsked l.reached undone)
+    → l.asked_for ++ losses ≡ l.done ++ (act_of undone ++ ([] ++ all_of new.acts)) → Lives bytes effects new undone
+takes_it bytes effects old new undone l losses executes stage session progress footprint last are_losses none_lost next split = record {
+  heard = l.heard;
+  unheard = l.unheard;
+  whole = l.whole;
+  all = l.all;
+  session = l.session;
+  hears = l.hears;
+  asked_for = l.asked_for;
+  cut = l.cut;
+  halves = l.halves;
+  losses = losses;
+  are_losses = are_losses;
+  done = l.done;
+  cut_for = cut_as old.footprint new.footprint l.asked_for l.cut l.done (commands_of effects) footprint l.cut_for;
   left = [];
-  split = n.split ∙ ap (λ l. n.lives.done ++ (l ++ ([] ++ all_of new.acts))) (sym is);
-  reached = n.lives.reached;
-  does = n.lives.does;
-  none_untold = λ t. n.lives.none_untold (n.told t);
-  none_unheard = n.none_unheard;
-  none_lost = n.none_lost;
-  none_cut = n.none_cut;
-  phase = n.phase;
-  rest = n.rest;
+  split = split;
+  reached = l.reached;
+  does = l.does;
+  none_untold = λ t. l.none_untold (subst HasTold stage t);
+  none_unheard = λ r. l.none_unheard (sym stage ∙ r);
+  none_lost = none_lost;
+  none_cut = λ r. l.none_cut (sym stage ∙ r);
+  phase = λ r. l.phase (sym stage ∙ r) ∙ ap (λ (h : Hearing). h.phase) (sym session);
+  rest = λ r on. l.rest (sym stage ∙ r) (λ over. on (subst (λ (h : Hearing). IsOver h.phase) (sym session) over)) ∙ sym session;
   none_left = λ e. refl;
-  stands = λ e. n.progress;
-  next = λ e. asked_for n.lives.reached (sym n.progress ∙ sym same);
-  stood = inl n.progress;
-  last = n.last;
-  ended = n.ended;
-}
-
-passes_it : (bytes : List ℕ) (effects : List Effect) (old new : ConnectionValue) (act : Act) (wanted : Wanted) → Next bytes effects old new act → act_of wanted ≡ [] → ((p : Progress) → IsAsked p wanted) → ((p : Progress) → p ≡ old.progress → IsSilent p act) → old.progress ≡ new.progress
-    → Lives bytes effects new wanted
-passes_it bytes effects old new act wanted n is asked_for silent same = record {
-  heard = n.lives.heard;
-  unheard = n.lives.unheard;
-  whole = n.lives.whole;
-  all = n.lives.all;
-  session = n.lives.session;
-  hears = n.lives.hears;
-  asked_for = n.lives.asked_for;
-  cut = n.lives.cut;
-  halves = n.lives.halves;
-  losses = n.losses;
-  are_losses = n.are_losses;
-  done = n.lives.done ++ act ∷ [];
-  cut_for = cut_more new.footprint.cut n.lives.asked_for n.lives.cut n.lives.done (act ∷ []) (commands_of effects) (commands_of effects) refl
-      (cut_as old.footprint new.footprint n.lives.asked_for n.lives.cut n.lives.done (commands_of effects) n.footprint n.lives.cut_for);
-  left = [];
-  split = done_further n.lives.asked_for n.losses n.lives.done (all_of new.acts) act n.split ∙ ap (λ l. (n.lives.done ++ act ∷ []) ++ (l ++ ([] ++ all_of new.acts))) (sym is);
-  reached = n.lives.reached;
-  does = does_silent New n.lives.done effects n.lives.reached act n.lives.does (silent n.lives.reached (sym n.progress ∙ sym same));
-  none_untold = λ t. n.lives.none_untold (n.told t);
-  none_unheard = n.none_unheard;
-  none_lost = n.none_lost;
-  none_cut = n.none_cut;
-  phase = n.phase;
-  rest = n.rest;
-  none_left = λ e. refl;
-  stands = λ e. n.progress;
-  next = λ e. asked_for n.lives.reached;
-  stood = inl n.progress;
-  last = n.last;
-  ended = n.ended;
-}
-
--- by what an act asks for
-by_act : (bytes : List ℕ) (effects : List Effect) (old new : ConnectionValue) (act : Act) (wanted : Wanted) → Next bytes effects old new act → WantsBy old new (Some act) wanted → old.progress ≡ new.progress → Lives bytes effects new wanted
-by_act bytes effects old new (Do op receipt) (Append c said) n by same =
-    let asks : c ≡ asked old.progress op receipt = by.0.0 in
-    wants_it bytes effects old new (Do op receipt) (Append c said) n (ap (λ (x : CommandValue). Do x.op x.receipt ∷ []) asks)
-    (λ p e. subst (λ q. IsAsked q (Append c said)) (sym e) (by.0.1, subst (λ (x : CommandValue). x ≡ asked old.progress x.op x.receipt) (sym asks) refl)) same
-by_act bytes effects old new (Do op receipt) (Tell frame) n by same = absurd by.0
-by_act bytes effects old new (Do op receipt) Done n by same = passes_it bytes effects old new (Do op receipt) Done n refl (λ p. tt) (λ p e. subst (λ q. IsNext q (asked q op receipt) → ⊥) (sym e) by.0) same
-by_act bytes effects old new (Do op receipt) Rest n by same = absurd by.0
-by_act bytes effects old new (Direct frame) wanted n by same = subst (λ w. Lives bytes effects new w) (sym by.0) (wants_it bytes effects old new (Direct frame) (Tell frame) n refl (λ p e. tt) same)
-by_act bytes effects old new (Close code) wanted n by same = subst (λ w. Lives bytes effects new w) (sym by.0) (passes_it bytes effects old new (Close code) Done n refl (λ p. tt) (λ p e. tt) same)
-
-first_next : (bytes : List ℕ) (effects : List Effect) (old new : ConnectionValue) (act : Act) (others : List Act) → Lives bytes effects old Rest → Executes old.stage → all_of old.acts ≡ act ∷ others → all_of new.acts ≡ others → new.session ≡ old.session
-    → (new.stage ≡ Running → old.stage ≡ Running) → (HasTold new.stage → HasTold old.stage) → new.progress ≡ old.progress → new.last ≡ old.last → (IsEnding new.stage → IsDone old.progress) → new.footprint ≡ old.footprint → Next bytes effects old new act
-first_next bytes effects old new act others l executes first now session runs told progress last ended same = record {
-  footprint = same;
-  lives = l;
-  losses = l.losses;
-  are_losses = l.are_losses;
-  split = one_further l.asked_for l.losses l.done l.left (all_of old.acts) others act l.split (l.none_left executes) first ∙ ap (λ o. l.done ++ (act ∷ o)) (sym now);
-  told = told;
-  none_unheard = λ r. l.none_unheard (runs r);
-  none_lost = λ r. l.none_lost (runs r);
-  none_cut = λ r. l.none_cut (runs r);
-  phase = λ r. l.phase (runs r) ∙ ap (λ (h : Hearing). h.phase) (sym session);
-  rest = λ r on. l.rest (runs r) (λ over. on (subst (λ (h : Hearing). IsOver h.phase) (sym session) over)) ∙ sym session;
-  progress = progress ∙ l.stands executes;
+  stands = λ e. progress ∙ l.stands executes;
+  next = next;
+  stood = inl (progress ∙ l.stands executes);
   last = last_then old new last (inl progress) l.last;
-  ended = λ e. subst IsDone (sym progress) (ended e);
+  ended = λ e. absurd (goes_on_then old.stage executes (subst IsEnding stage e));
 }
 
-loss_next : (bytes : List ℕ) (effects : List Effect) (old new : ConnectionValue) (act : Act) → Lives bytes effects old Rest → Executes old.stage → IsLoss act → all_of old.acts ≡ [] → all_of new.acts ≡ []
-    → (new.stage ≡ Running → ⊥) → (HasTold new.stage → HasTold old.stage) → new.progress ≡ old.progress → new.last ≡ old.last → (IsEnding new.stage → IsDone old.progress) → new.footprint ≡ old.footprint → Next bytes effects old new act
-loss_next bytes effects old new act l executes loss none now lost told progress last ended same = record {
-  footprint = same;
-  lives = l;
-  losses = l.losses ++ act ∷ [];
-  are_losses = all_append IsLoss l.losses (act ∷ []) l.are_losses (loss, tt);
-  split = sym (append_assoc l.asked_for l.losses (act ∷ [])) ∙ ap (λ a. a ++ act ∷ []) (l.split ∙ ap (λ a. l.done ++ a) (ap (λ a. a ++ all_of old.acts) (l.none_left executes) ∙ none) ∙ append-nil l.done)
-      ∙ ap (λ o. l.done ++ (act ∷ o)) (sym now);
-  told = told;
-  none_unheard = λ r. absurd (lost r);
-  none_lost = λ r. absurd (lost r);
-  none_cut = λ r. absurd (lost r);
-  phase = λ r. absurd (lost r);
-  rest = λ r on. absurd (lost r);
-  progress = progress ∙ l.stands executes;
-  last = last_then old new last (inl progress) l.last;
-  ended = λ e. subst IsDone (sym progress) (ended e);
-}
+lost_runs : (stage : Stage) → IsLost stage → stage ≡ Running → ⊥
+lost_runs Running lost e = lost
+lost_runs GivingUp lost e = cc
+lost_runs (Closing ended) lost e = cc
+lost_runs (Parting ended) lost e = cc
+lost_runs Leaving lost e = cc
+lost_runs (Over ended) lost e = cc
 
--- nothing was next
-rests_so : (bytes : List ℕ) (effects : List Effect) (old new : ConnectionValue) (wanted : Wanted) → Lives bytes effects old Rest → Executes old.stage → WantsBy old new None wanted → all_of old.acts ≡ [] → all_of new.acts ≡ []
-    → (new.stage ≡ Running → (old.stage ≡ Running) × (new.session ≡ old.session)) → (HasTold new.stage → HasTold old.stage) → new.progress ≡ old.progress → new.last ≡ old.last → (IsEnding new.stage → IsDone old.progress) → new.footprint ≡ old.footprint → Lives bytes effects new wanted
-rests_so bytes effects old new wanted l executes by none now runs told progress last ended same = subst (λ w. Lives bytes effects new w) (sym by.0) record {
+lost_or_not : (stage : Stage) → IsLost stage ⊎ (IsLost stage → ⊥)
+lost_or_not Running = inr (λ e. e)
+lost_or_not GivingUp = inl tt
+lost_or_not (Closing ended) = inr (λ e. e)
+lost_or_not (Parting ended) = inr (λ e. e)
+lost_or_not Leaving = inl tt
+lost_or_not (Over ended) = inr (λ e. e)
+
+loss_is : (p : Progress) (act : Act) → Some act ≡ loss_of p → IsLoss act
+loss_is New act e = absurd (let never : Some act ≡ None = e in cc)
+loss_is (Open number) act e = let both : Some act ≡ Some (Do (ops.End ends.Lost) None) = e in cc
+loss_is (Finished number) act e = absurd (let never : Some act ≡ None = e in cc)
+loss_is Gone act e = absurd (let never : Some act ≡ None = e in cc)
+
+loss_none : (p : Progress) → None ≡ loss_of p → IsDone p
+loss_none New e = tt
+loss_none (Open number) e = absurd (let never : None ≡ Some (Do (ops.End ends.Lost) None) = e in cc)
+loss_none (Finished number) e = tt
+loss_none Gone e = tt
+
+same_one : {X : Type 0} (x y : X) → Some x ≡ Some y → x ≡ y
+same_one x y e = cc
+
+pub same_taken : (old new : ConnectionValue) (act : Option Act) → Takes old new act → new.stage ≡ old.stage
+same_taken old new act t = ap (λ (c : ConnectionValue). c.stage) t.same
+
+-- the next act, or the loss
+pub takes_one : (bytes : List ℕ) (effects : List Effect) (old new : ConnectionValue) (act : Act) → Executes old.stage → Takes old new (Some act) → Lives bytes effects old Nothing → Lives bytes effects new (Taken act)
+takes_one bytes effects old new act executes t l = by_list (all_of old.acts) refl
+  where
+    stage : new.stage ≡ old.stage
+    stage = same_taken old new (Some act) t
+
+    taken : (losses : List Act) → new.session ≡ old.session → AllByRecursion IsLoss losses → (new.stage ≡ Running → losses ≡ []) → l.asked_for ++ losses ≡ l.done ++ (act ∷ [] ++ ([] ++ all_of new.acts)) → Lives bytes effects new (Taken act)
+    taken losses session are_losses none_lost split = takes_it bytes effects old new (Taken act) l losses executes stage session
+        (ap (λ (c : ConnectionValue). c.progress) t.same) (ap (λ (c : ConnectionValue). c.footprint) t.same) (ap (λ (c : ConnectionValue). c.last) t.same) are_losses none_lost (λ e. tt) split
+
+    by_list : (a : List Act) → all_of old.acts ≡ a → Lives bytes effects new (Taken act)
+    by_list (one ∷ others) e =
+        let is = t.first one others e in
+        taken l.losses is.2 l.are_losses (λ r. l.none_lost (sym stage ∙ r))
+        (one_further l.asked_for l.losses l.done l.left (all_of old.acts) others act l.split (l.none_left executes) (e ∙ ap (λ x. x ∷ others) (sym (same_one act one is.0))) ∙ ap (λ o. l.done ++ (act ∷ o)) (sym is.1))
+    by_list [] e = elim (lost_or_not old.stage) [
+      | inl lost ↦
+          let is = t.loss e lost in
+          taken (l.losses ++ act ∷ []) is.2 (all_append IsLoss l.losses (act ∷ []) l.are_losses (loss_is old.progress act is.0, tt)) (λ r. absurd (lost_runs old.stage lost (sym stage ∙ r)))
+          (sym (append_assoc l.asked_for l.losses (act ∷ [])) ∙ ap (λ a. a ++ act ∷ []) (l.split ∙ ap (λ a. l.done ++ a) (ap (λ a. a ++ all_of old.acts) (l.none_left executes) ∙ e) ∙ append-nil l.done)
+          ∙ ap (λ o. l.done ++ (act ∷ o)) (sym is.1))
+      | inr goes ↦ absurd (let never : Some act ≡ None = (t.none e goes).0 in cc)
+    ]
+
+-- no act is left
+pub takes_none : (bytes : List ℕ) (effects : List Effect) (old new : ConnectionValue) → Executes old.stage → Takes old new None → Lives bytes effects old Nothing → Lives bytes effects new Nothing
+takes_none bytes effects old new executes t l = by_list (all_of old.acts) refl
+  where
+    stage : new.stage ≡ old.stage
+    stage = same_taken old new None t
+
+    by_none : all_of old.acts ≡ [] → all_of new.acts ≡ [] → new.session ≡ old.session → Lives bytes effects new Nothing
+    by_none none now session = takes_it bytes effects old new Nothing l l.losses executes stage session
+        (ap (λ (c : ConnectionValue). c.progress) t.same) (ap (λ (c : ConnectionValue). c.footprint) t.same) (ap (λ (c : ConnectionValue). c.last) t.same) l.are_losses (λ r. l.none_lost (sym stage ∙ r)) (λ e. tt)
+        (l.split ∙ ap (λ a. l.done ++ a) (ap (λ a. a ++ all_of old.acts) (l.none_left executes) ∙ none ∙ sym now))
+
+    by_list : (a : List Act) → all_of old.acts ≡ a → Lives bytes effects new Nothing
+    by_list (one ∷ others) e = absurd (let never : None ≡ Some one = (t.first one others e).0 in cc)
+    by_list [] e = elim (lost_or_not old.stage) [
+      | inl lost ↦ let is = t.loss e lost in by_none e is.1 is.2
+      | inr goes ↦ let is = t.none e goes in by_none e is.1 is.2
+    ]
+
+-- and if it is lost, its session has ended
+pub none_lost_yet : (old new : ConnectionValue) → Takes old new None → IsLost old.stage → IsDone old.progress
+none_lost_yet old new t lost = by_list (all_of old.acts) refl
+  where
+    by_list : (a : List Act) → all_of old.acts ≡ a → IsDone old.progress
+    by_list (one ∷ others) e = absurd (let never : None ≡ Some one = (t.first one others e).0 in cc)
+    by_list [] e = loss_none old.progress (t.loss e lost).0
+
+-- its command is the next of the conversation
+pub asks_it : (bytes : List ℕ) (effects : List Effect) (c : ConnectionValue) (op : Op) (receipt : Option (List ℕ)) (command : CommandValue) → Executes c.stage → command ≡ asked c.progress op receipt → IsNext c.progress command
+    → Lives bytes effects c (Taken (Do op receipt)) → Lives bytes effects c (Waits command)
+asks_it bytes effects c op receipt command executes is next l = record {
   heard = l.heard;
   unheard = l.unheard;
   whole = l.whole;
@@ -482,136 +461,67 @@ rests_so bytes effects old new wanted l executes by none now runs told progress 
   losses = l.losses;
   are_losses = l.are_losses;
   done = l.done;
-  left = [];
-  cut_for = cut_as old.footprint new.footprint l.asked_for l.cut l.done (commands_of effects) same l.cut_for;
-  split = l.split ∙ ap (λ a. l.done ++ a) (ap (λ a. a ++ all_of old.acts) (l.none_left executes) ∙ none ∙ sym now);
+  cut_for = l.cut_for;
+  left = l.left;
+  split = l.split ∙ ap (λ (x : CommandValue). l.done ++ (Do x.op x.receipt ∷ (l.left ++ all_of c.acts))) (sym is);
   reached = l.reached;
   does = l.does;
-  none_untold = λ t. l.none_untold (told t);
-  none_unheard = λ r. l.none_unheard (runs r).0;
-  none_lost = λ r. l.none_lost (runs r).0;
-  none_cut = λ r. l.none_cut (runs r).0;
-  phase = λ r. l.phase (runs r).0 ∙ ap (λ (h : Hearing). h.phase) (sym (runs r).1);
-  rest = λ r on. l.rest (runs r).0 (λ over. on (subst (λ (h : Hearing). IsOver h.phase) (sym (runs r).1) over)) ∙ sym (runs r).1;
-  none_left = λ e. refl;
-  stands = λ e. progress ∙ l.stands executes;
-  next = λ e. tt;
-  stood = inl (progress ∙ l.stands executes);
-  last = last_then old new last (inl progress) l.last;
-  ended = λ e. subst IsDone (sym progress) (ended e);
+  none_untold = l.none_untold;
+  none_unheard = l.none_unheard;
+  none_lost = l.none_lost;
+  none_cut = l.none_cut;
+  phase = l.phase;
+  rest = l.rest;
+  none_left = l.none_left;
+  stands = l.stands;
+  next = λ e. subst (λ p. IsNext p command × (command ≡ asked p command.op command.receipt)) (l.stands executes) (next, subst (λ (x : CommandValue). x ≡ asked c.progress x.op x.receipt) (sym is) refl);
+  stood = l.stood;
+  last = l.last;
+  ended = l.ended;
 }
 
-still_told : (old new : ConnectionValue) (act : Option Act) (wanted : Wanted) → WantsBy old new act wanted → HasTold new.stage → HasTold old.stage
-still_told old new (Some (Do op receipt)) wanted by told = subst HasTold by.1 told
-still_told old new (Some (Direct frame)) wanted by told = subst HasTold by.1 told
-still_told old new (Some (Close code)) wanted by told = by_code code old.last old.progress old.stage (subst HasTold by.1 told)
-  where
-    by_code : (code : CloseCode) (last : Option ℕ) (progress : Progress) (stage : Stage) → HasTold (closed_by code last progress stage) → HasTold stage
-    by_code NormalClosure None New stage t = absurd t
-    by_code NormalClosure None (Open number) stage t = t
-    by_code NormalClosure None (Finished number) stage t = absurd t
-    by_code NormalClosure None Gone stage t = absurd t
-    by_code NormalClosure (Some number) progress stage t = t
-    by_code ProtocolError last progress stage t = t
-still_told old new None wanted by told = by_rest old.stage (subst HasTold by.1 told)
-  where
-    by_rest : (stage : Stage) → HasTold (rested stage) → HasTold stage
-    by_rest Running t = t
-    by_rest GivingUp t = tt
-    by_rest (Closing ended) t = t
-    by_rest (Parting ended) t = t
-    by_rest Leaving t = absurd t
-    by_rest (Over ended) t = t
+-- nothing is to be done for it
+pub passes_it : (bytes : List ℕ) (effects : List Effect) (c : ConnectionValue) (act : Act) → Executes c.stage → IsSilent c.progress act → Lives bytes effects c (Taken act) → Lives bytes effects c Nothing
+passes_it bytes effects c act executes silent l = record {
+  heard = l.heard;
+  unheard = l.unheard;
+  whole = l.whole;
+  all = l.all;
+  session = l.session;
+  hears = l.hears;
+  asked_for = l.asked_for;
+  cut = l.cut;
+  halves = l.halves;
+  losses = l.losses;
+  are_losses = l.are_losses;
+  done = l.done ++ act ∷ [];
+  cut_for = cut_more c.footprint.cut l.asked_for l.cut l.done (act ∷ []) (commands_of effects) (commands_of effects) refl l.cut_for;
+  left = l.left;
+  split = l.split ∙ sym (append_assoc l.done (act ∷ []) (l.left ++ all_of c.acts));
+  reached = l.reached;
+  does = does_silent New l.done effects l.reached act l.does (subst (λ p. IsSilent p act) (l.stands executes) silent);
+  none_untold = l.none_untold;
+  none_unheard = l.none_unheard;
+  none_lost = l.none_lost;
+  none_cut = l.none_cut;
+  phase = l.phase;
+  rest = l.rest;
+  none_left = l.none_left;
+  stands = l.stands;
+  next = λ e. tt;
+  stood = l.stood;
+  last = l.last;
+  ended = l.ended;
+}
 
--- it ends so only once its session has
-still_ends : (old new : ConnectionValue) (act : Option Act) (wanted : Wanted) → Executes old.stage → WantsBy old new act wanted → (act ≡ None → IsLost old.stage → IsDone old.progress) → IsEnding new.stage → IsDone old.progress
-still_ends old new (Some (Do op receipt)) wanted executes by none ending = absurd (goes_on_then old.stage executes (subst IsEnding by.1 ending))
-still_ends old new (Some (Direct frame)) wanted executes by none ending = absurd (goes_on_then old.stage executes (subst IsEnding by.1 ending))
-still_ends old new (Some (Close code)) wanted executes by none ending = by_code code old.last old.progress old.stage executes (subst IsEnding by.1 ending)
-  where
-    by_code : (code : CloseCode) (last : Option ℕ) (progress : Progress) (stage : Stage) → Executes stage → IsEnding (closed_by code last progress stage) → IsDone progress
-    by_code NormalClosure None New stage e i = tt
-    by_code NormalClosure None (Open number) stage e i = absurd (goes_on_then stage e i)
-    by_code NormalClosure None (Finished number) stage e i = tt
-    by_code NormalClosure None Gone stage e i = tt
-    by_code NormalClosure (Some number) progress stage e i = absurd (goes_on_then stage e i)
-    by_code ProtocolError last progress stage e i = absurd (goes_on_then stage e i)
-still_ends old new None wanted executes by none ending = by_rest old.stage executes (none refl) (subst IsEnding by.1 ending)
-  where
-    by_rest : (stage : Stage) → Executes stage → (IsLost stage → IsDone old.progress) → IsEnding (rested stage) → IsDone old.progress
-    by_rest Running e lost i = absurd i
-    by_rest GivingUp e lost i = lost tt
-    by_rest (Closing ended) e lost i = absurd e
-    by_rest (Parting ended) e lost i = absurd e
-    by_rest Leaving e lost i = lost tt
-    by_rest (Over ended) e lost i = absurd e
+-- ── it is done ──
 
-loss_none : (p : Progress) → loss_of p ≡ None → IsDone p
-loss_none New e = tt
-loss_none (Open number) e = absurd (let never : Some (Do (ops.End ends.Lost) None) ≡ None = e in cc)
-loss_none (Finished number) e = tt
-loss_none Gone e = tt
-
-none_lost_yet : (old new : ConnectionValue) (act : Option Act) → Takes old new act → act ≡ None → IsLost old.stage → IsDone old.progress
-none_lost_yet old new act t none lost = by_list (all_of old.acts) refl
-  where
-    by_list : (a : List Act) → all_of old.acts ≡ a → IsDone old.progress
-    by_list (one ∷ others) e = absurd (let never : None ≡ Some one = sym none ∙ (t.first one others e).0 in cc)
-    by_list [] e = loss_none old.progress (sym (t.loss e lost).0 ∙ none)
-
-pub wants_next : (bytes : List ℕ) (effects : List Effect) (old new : ConnectionValue) (wanted : Wanted) → Executes old.stage → Wants old new wanted → Lives bytes effects old Rest → Lives bytes effects new wanted
-wants_next bytes effects old new wanted executes w l = by_list (all_of old.acts) refl
-  where
-    progress : new.progress ≡ old.progress
-    progress = ap (λ (c : ConnectionValue). c.progress) w.taken.same
-
-    runs : new.stage ≡ Running → old.stage ≡ Running
-    runs = still_runs old new w.act wanted w.asked_for
-
-    told : HasTold new.stage → HasTold old.stage
-    told = still_told old new w.act wanted w.asked_for
-
-    last : new.last ≡ old.last
-    last = ap (λ (c : ConnectionValue). c.last) w.taken.same
-
-    same : new.footprint ≡ old.footprint
-    same = ap (λ (c : ConnectionValue). c.footprint) w.taken.same
-
-    ended : IsEnding new.stage → IsDone old.progress
-    ended = still_ends old new w.act wanted executes w.asked_for (none_lost_yet old (record new { stage = old.stage }) w.act w.taken)
-
-    rests : all_of old.acts ≡ [] → all_of new.acts ≡ [] → (new.stage ≡ Running → ⊥) → w.act ≡ None → Lives bytes effects new wanted
-    rests none now lost is = rests_so bytes effects old new wanted l executes (subst (λ a. WantsBy old new a wanted) is w.asked_for) none now (λ r. absurd (lost r)) told progress last ended same
-
-    by_loss : (p : Progress) → all_of old.acts ≡ [] → all_of new.acts ≡ [] → (new.stage ≡ Running → ⊥) → w.act ≡ loss_of p → Lives bytes effects new wanted
-    by_loss New none now lost is = rests none now lost is
-    by_loss (Open number) none now lost is =
-        by_act bytes effects old new (Do (ops.End ends.Lost) None) wanted (loss_next bytes effects old new (Do (ops.End ends.Lost) None) l executes refl none now lost told progress last ended same)
-        (subst (λ a. WantsBy old new a wanted) is w.asked_for) (sym progress)
-    by_loss (Finished number) none now lost is = rests none now lost is
-    by_loss Gone none now lost is = rests none now lost is
-
-    by_list : (a : List Act) → all_of old.acts ≡ a → Lives bytes effects new wanted
-    by_list (act ∷ others) e =
-        let is = w.taken.first act others e in
-        by_act bytes effects old new act wanted (first_next bytes effects old new act others l executes e is.1 is.2 runs told progress last ended same) (subst (λ a. WantsBy old new a wanted) is.0 w.asked_for) (sym progress)
-    by_list [] e = elim (lost_or_not old.stage) [
-      | inl lost ↦
-          let is = w.taken.loss e lost in
-          by_loss old.progress e is.1 (λ r. lost_runs old.stage lost (runs r)) is.0
-      | inr goes ↦
-          let is = w.taken.none e goes in
-          rests_so bytes effects old new wanted l executes (subst (λ a. WantsBy old new a wanted) is.0 w.asked_for) e is.1 (λ r. (runs r, is.2)) told progress last ended same
-    ]
-
--- ── what is wanted is done ──
-
-pub says_it : (bytes : List ℕ) (effects : List Effect) (old new : ConnectionValue) (c : CommandValue) (ticket : ℕ) → Executes old.stage → new ≡ with_appended old (said_of c) ticket → Lives bytes effects old (to_append c)
-    → Lives bytes (effects ++ Said (ticket, c) ∷ []) new Rest
+pub says_it : (bytes : List ℕ) (effects : List Effect) (old new : ConnectionValue) (c : CommandValue) (ticket : ℕ) → Executes old.stage → new ≡ with_appended old (role_of c.op) (is_last c) ticket → Lives bytes effects old (Waits c)
+    → Lives bytes (effects ++ Said (ticket, c) ∷ []) new Nothing
 says_it bytes effects old new c ticket executes is l =
     let next = l.next executes in
     let command : c ≡ asked l.reached c.op c.receipt = next.1 in
-    subst (λ x. Lives bytes (effects ++ Said (ticket, c) ∷ []) x Rest) (sym is) record {
+    subst (λ x. Lives bytes (effects ++ Said (ticket, c) ∷ []) x Nothing) (sym is) record {
       heard = l.heard;
       unheard = l.unheard;
       whole = l.whole;
@@ -646,9 +556,9 @@ says_it bytes effects old new c ticket executes is l =
     }
 
 -- it is left undone, where nothing more is appended
-pub leaves_it : (bytes : List ℕ) (effects : List Effect) (old new : ConnectionValue) (wanted : Wanted) → Restaged old new → (Executes new.stage → ⊥) → Lives bytes effects old wanted → Lives bytes effects new Rest
-leaves_it bytes effects old new wanted r over m =
-    let l : Lives bytes effects new wanted = restays bytes effects old new wanted r m in record {
+pub leaves_it : (bytes : List ℕ) (effects : List Effect) (old new : ConnectionValue) (undone : Undone) → Restaged old new → (Executes new.stage → ⊥) → Lives bytes effects old undone → Lives bytes effects new Nothing
+leaves_it bytes effects old new undone r over m =
+    let l : Lives bytes effects new undone = restays bytes effects old new undone r m in record {
       heard = l.heard;
       unheard = l.unheard;
       whole = l.whole;
@@ -662,8 +572,8 @@ leaves_it bytes effects old new wanted r over m =
       are_losses = l.are_losses;
       done = l.done;
       cut_for = l.cut_for;
-      left = act_of wanted ++ l.left;
-      split = l.split ∙ ap (λ a. l.done ++ a) (sym (append_assoc (act_of wanted) l.left (all_of new.acts)));
+      left = act_of undone ++ l.left;
+      split = l.split ∙ ap (λ a. l.done ++ a) (sym (append_assoc (act_of undone) l.left (all_of new.acts)));
       reached = l.reached;
       does = l.does;
       none_untold = l.none_untold;
@@ -682,9 +592,9 @@ leaves_it bytes effects old new wanted r over m =
 
 -- a frame was told, or was not, since its link was over
 pub tells_it : (bytes : List ℕ) (effects : List Effect) (old new : ConnectionValue) (frame : Frame) (effect : Effect) → Restaged old new → Executes old.stage → Tells frame effect → (HasTold new.stage → untold_of (effect ∷ []) ≡ [])
-    → Lives bytes effects old (Tell frame) → Lives bytes (effects ++ effect ∷ []) new Rest
+    → Lives bytes effects old (Taken (Direct frame)) → Lives bytes (effects ++ effect ∷ []) new Nothing
 tells_it bytes effects old new frame effect r executes tells none m =
-    let l : Lives bytes effects new (Tell frame) = restays bytes effects old new (Tell frame) r m in record {
+    let l : Lives bytes effects new (Taken (Direct frame)) = restays bytes effects old new (Taken (Direct frame)) r m in record {
       heard = l.heard;
       unheard = l.unheard;
       whole = l.whole;
@@ -717,9 +627,9 @@ tells_it bytes effects old new frame effect r executes tells none m =
     }
 
 -- memory was refused: it is the next again
-pub again_next : (bytes : List ℕ) (effects : List Effect) (old new : ConnectionValue) (wanted : Wanted) (act : Act) → Executes old.stage → old.acts.again ≡ None → act_of wanted ≡ act ∷ [] → new ≡ record old { acts = record old.acts { again = Some act } }
-    → Lives bytes effects old wanted → Lives bytes effects new Rest
-again_next bytes effects old new wanted act executes first is_act is l = subst (λ x. Lives bytes effects x Rest) (sym is) record {
+pub again_next : (bytes : List ℕ) (effects : List Effect) (old new : ConnectionValue) (undone : Undone) (act : Act) → Executes old.stage → old.acts.again ≡ None → act_of undone ≡ act ∷ [] → new ≡ record old { acts = record old.acts { again = Some act } }
+    → Lives bytes effects old undone → Lives bytes effects new Nothing
+again_next bytes effects old new undone act executes first is_act is l = subst (λ x. Lives bytes effects x Nothing) (sym is) record {
   heard = l.heard;
   unheard = l.unheard;
   whole = l.whole;
@@ -866,28 +776,105 @@ not_halted (Closing ended) e h = e
 not_halted (Parting ended) e h = e
 not_halted (Over ended) e h = e
 
--- what is wanted next stops nothing
-pub wants_halts : (old new : ConnectionValue) (act : Option Act) (wanted : Wanted) → Executes old.stage → WantsBy old new act wanted → HasHalted new.stage → ⊥
-wants_halts old new (Some (Do op receipt)) wanted executes by h = not_halted old.stage executes (subst HasHalted by.1 h)
-wants_halts old new (Some (Direct frame)) wanted executes by h = not_halted old.stage executes (subst HasHalted by.1 h)
-wants_halts old new (Some (Close code)) wanted executes by h = by_code code old.last old.progress old.stage executes (subst HasHalted by.1 h)
-  where
-    by_code : (code : CloseCode) (last : Option ℕ) (progress : Progress) (stage : Stage) → Executes stage → HasHalted (closed_by code last progress stage) → ⊥
-    by_code NormalClosure None New stage e h = h
-    by_code NormalClosure None (Open number) stage e h = not_halted stage e h
-    by_code NormalClosure None (Finished number) stage e h = h
-    by_code NormalClosure None Gone stage e h = h
-    by_code NormalClosure (Some number) progress stage e h = not_halted stage e h
-    by_code ProtocolError last progress stage e h = not_halted stage e h
-wants_halts old new None wanted executes by h = by_rest old.stage executes (subst HasHalted by.1 h)
-  where
-    by_rest : (stage : Stage) → Executes stage → HasHalted (rested stage) → ⊥
-    by_rest Running e h = h
-    by_rest GivingUp e h = h
-    by_rest (Closing ended) e h = e
-    by_rest (Parting ended) e h = e
-    by_rest Leaving e h = h
-    by_rest (Over ended) e h = e
+-- a session's close
+runs_closing : (code : CloseCode) (last : Option ℕ) (progress : Progress) (stage : Stage) → closed_by code last progress stage ≡ Running → stage ≡ Running
+runs_closing NormalClosure None New stage e = cc
+runs_closing NormalClosure None (Open number) stage e = e
+runs_closing NormalClosure None (Finished number) stage e = cc
+runs_closing NormalClosure None Gone stage e = cc
+runs_closing NormalClosure (Some number) progress stage e = e
+runs_closing ProtocolError last progress stage e = e
+
+told_closing : (code : CloseCode) (last : Option ℕ) (progress : Progress) (stage : Stage) → HasTold (closed_by code last progress stage) → HasTold stage
+told_closing NormalClosure None New stage t = absurd t
+told_closing NormalClosure None (Open number) stage t = t
+told_closing NormalClosure None (Finished number) stage t = absurd t
+told_closing NormalClosure None Gone stage t = absurd t
+told_closing NormalClosure (Some number) progress stage t = t
+told_closing ProtocolError last progress stage t = t
+
+ends_closing : (code : CloseCode) (last : Option ℕ) (progress : Progress) (stage : Stage) → Executes stage → IsEnding (closed_by code last progress stage) → IsDone progress
+ends_closing NormalClosure None New stage e i = tt
+ends_closing NormalClosure None (Open number) stage e i = absurd (goes_on_then stage e i)
+ends_closing NormalClosure None (Finished number) stage e i = tt
+ends_closing NormalClosure None Gone stage e i = tt
+ends_closing NormalClosure (Some number) progress stage e i = absurd (goes_on_then stage e i)
+ends_closing ProtocolError last progress stage e i = absurd (goes_on_then stage e i)
+
+halts_closing : (code : CloseCode) (last : Option ℕ) (progress : Progress) (stage : Stage) → Executes stage → HasHalted (closed_by code last progress stage) → ⊥
+halts_closing NormalClosure None New stage e h = h
+halts_closing NormalClosure None (Open number) stage e h = not_halted stage e h
+halts_closing NormalClosure None (Finished number) stage e h = h
+halts_closing NormalClosure None Gone stage e h = h
+halts_closing NormalClosure (Some number) progress stage e h = not_halted stage e h
+halts_closing ProtocolError last progress stage e h = not_halted stage e h
+
+pub closes : (old new : ConnectionValue) (code : CloseCode) → Executes old.stage → new ≡ record old { stage = closed_by code old.last old.progress old.stage } → Steady old new
+closes old new code executes is = record {
+  restaged = as_restaged old new _ is (record {
+    acts = refl;
+    session = λ r. refl;
+    runs = runs_closing code old.last old.progress old.stage;
+    told = told_closing code old.last old.progress old.stage;
+    executes = λ e. executes;
+    progress = λ e. refl;
+    footprint = refl;
+    last = refl;
+    stood = inl refl;
+    ended = λ last before e. ends_closing code old.last old.progress old.stage executes e;
+  });
+  halts = λ h. absurd (halts_closing code old.last old.progress old.stage executes (subst HasHalted (ap (λ (c : ConnectionValue). c.stage) is) h));
+}
+
+-- nothing is left to be done
+runs_resting : (stage : Stage) → rested stage ≡ Running → stage ≡ Running
+runs_resting Running e = refl
+runs_resting GivingUp e = cc
+runs_resting (Closing ended) e = cc
+runs_resting (Parting ended) e = cc
+runs_resting Leaving e = cc
+runs_resting (Over ended) e = cc
+
+told_resting : (stage : Stage) → HasTold (rested stage) → HasTold stage
+told_resting Running t = t
+told_resting GivingUp t = tt
+told_resting (Closing ended) t = t
+told_resting (Parting ended) t = t
+told_resting Leaving t = absurd t
+told_resting (Over ended) t = t
+
+ends_resting : (stage : Stage) (D : Type 0) → Executes stage → (IsLost stage → D) → IsEnding (rested stage) → D
+ends_resting Running D e lost i = absurd i
+ends_resting GivingUp D e lost i = lost tt
+ends_resting (Closing ended) D e lost i = absurd e
+ends_resting (Parting ended) D e lost i = absurd e
+ends_resting Leaving D e lost i = lost tt
+ends_resting (Over ended) D e lost i = absurd e
+
+halts_resting : (stage : Stage) → Executes stage → HasHalted (rested stage) → ⊥
+halts_resting Running e h = h
+halts_resting GivingUp e h = h
+halts_resting (Closing ended) e h = e
+halts_resting (Parting ended) e h = e
+halts_resting Leaving e h = h
+halts_resting (Over ended) e h = e
+
+pub rests : (old new : ConnectionValue) → Executes old.stage → (IsLost old.stage → IsDone old.progress) → new ≡ record old { stage = rested old.stage } → Steady old new
+rests old new executes lost is = record {
+  restaged = as_restaged old new _ is (record {
+    acts = refl;
+    session = λ r. refl;
+    runs = runs_resting old.stage;
+    told = told_resting old.stage;
+    executes = λ e. executes;
+    progress = λ e. refl;
+    footprint = refl;
+    last = refl;
+    stood = inl refl;
+    ended = λ last before e. ends_resting old.stage (IsDone old.progress) executes lost e;
+  });
+  halts = λ h. absurd (halts_resting old.stage executes (subst HasHalted (ap (λ (c : ConnectionValue). c.stage) is) h));
+}
 
 pub loses : (old new : ConnectionValue) → new ≡ record old { stage = lost old.stage } → Steady old new
 loses old new is = record {
@@ -1034,18 +1021,18 @@ so_next (Open number) c is =
 so_next (Finished number) c is = absurd is
 so_next Gone c is = absurd is
 
-pub waits_still : {B : Type 0} (old new : ConnectionValue) (p q : Option (Pending B)) → Restaged old new → q ≡ p → WaitsNext old p → WaitsNext new q
+pub waits_still : (old new : ConnectionValue) (p q : Option BoxEntry) → Restaged old new → q ≡ p → WaitsNext old p → WaitsNext new q
 waits_still old new p q r same w = λ it some executes.
-    subst (λ x. is_next x it.entry.command ≡ true) (sym (r.progress executes)) (w it (sym same ∙ some) (r.executes executes))
+    subst (λ x. is_next x it.command ≡ true) (sym (r.progress executes)) (w it (sym same ∙ some) (r.executes executes))
 
-pub waits_kept : {B : Type 0} (c : ConnectionValue) (p : Option (Pending B)) (pending : Pending B) → p ≡ Some pending → IsNext c.progress pending.entry.command → WaitsNext c p
-waits_kept {B} c p pending is next = λ it some executes.
-    let both : Some pending ≡ Some it = sym is ∙ some in
-    let same : pending ≡ it = cc in
-    subst (λ (x : Pending B). is_next c.progress x.entry.command ≡ true) same (so_next c.progress pending.entry.command next)
+pub waits_kept : (c : ConnectionValue) (p : Option BoxEntry) (entry : BoxEntry) → p ≡ Some entry → IsNext c.progress entry.command → WaitsNext c p
+waits_kept c p entry is next = λ it some executes.
+    let both : Some entry ≡ Some it = sym is ∙ some in
+    let same : entry ≡ it = cc in
+    subst (λ (x : BoxEntry). is_next c.progress x.command ≡ true) same (so_next c.progress entry.command next)
 
-pub none_waits_next : {B : Type 0} (c : ConnectionValue) (p : Option (Pending B)) → p ≡ None → WaitsNext c p
-none_waits_next {B} c p none = λ it some executes. absurd (let both : Some it ≡ None = sym some ∙ none in cc)
+pub none_waits_next : (c : ConnectionValue) (p : Option BoxEntry) → p ≡ None → WaitsNext c p
+none_waits_next c p none = λ it some executes. absurd (let both : Some it ≡ None = sym some ∙ none in cc)
 
 pub same_stage : (old new : ConnectionValue) → new ≡ old → Steady old new
 same_stage old new is = record {

@@ -8,11 +8,11 @@ use Rattle.frame_core.specs.declared.frame.Verb.TheVariants as verbs
 use Rattle.frame_core.specs.Written.{written}
 use Rattle.ws_core.specs.Sending.{with_message}
 use Rattle.outbox_core.specs.Boxes.{TakerValue}
-use Rattle.connection_core.specs.Connections.{ConnectionValue, Wants}
-use Rattle.connection_core.specs.declared.said.Wanted.{Wanted}
-use Rattle.connection_core.specs.Conversations.{number_in}
-use Rattle.connection_core.specs.declared.progress.Progress.{Progress}
-use Rattle.connection_core.specs.declared.stage.Stage.TheVariants.{Running}
+use Rattle.session_core.specs.declared.act.Act.{Act}
+use Rattle.desk_core.specs.Connections.{ConnectionValue, Takes}
+use Rattle.desk_core.specs.Progress.{number_in}
+use Rattle.desk_core.specs.declared.progress.Progress.{Progress}
+use Rattle.desk_core.specs.declared.stage.Stage.TheVariants.{Running}
 use Rattle.desk_core.specs.Conversations.{StaysOrEnds}
 use Rattle.desk_core.specs.Keeping.{KeepsOwn}
 use Rattle.desk_core.specs.declared.kept.Kept.{Kept}
@@ -260,5 +260,5 @@ restay was mid is progress outbox kept s = record {
 pub reserve : {B L : Type 0} (sent : L → Option (List (List ℕ))) (f : List Frame) (was mid is : Slot B) (l m : L) → mid.connection.progress ≡ was.connection.progress → mid.outbox ≡ was.outbox → mid.kept ≡ was.kept → Served sent f mid l is m → Served sent f was l is m
 reserve sent f was mid is l m progress outbox kept s = served sent [] f was mid is l l m (quiet sent was mid l l (still was mid progress outbox kept) refl) s
 
-pub wants_no_other : (old new : ConnectionValue) (wanted : Wanted) → Wants old new wanted → new.progress ≡ old.progress
-wants_no_other old new wanted w = ap (λ (c : ConnectionValue). c.progress) w.taken.same
+pub takes_no_other : (old new : ConnectionValue) (act : Option Act) → Takes old new act → new.progress ≡ old.progress
+takes_no_other old new act t = ap (λ (c : ConnectionValue). c.progress) t.same

@@ -10,18 +10,16 @@ use Rattle.command_core.specs.declared.command.End.TheVariants as ends
 use Rattle.claim_core.specs.Counts.{Pair}
 use Rattle.session_core.specs.declared.act.Act.{Act}
 use Rattle.session_core.specs.declared.act.Act.TheVariants.{Do}
-use Rattle.connection_core.specs.Connections.{ConnectionValue, Wants, filled, to_append, with_room}
-use Rattle.connection_core.specs.Footprints.{FootprintValue, IsFootprint, IsWithin, charged, footprint, none_standing, settled, spent, standing, total}
-use Rattle.connection_core.specs.Stages.{Executes, IsEnding, given_up}
-use Rattle.connection_core.specs.Tasks.{all_of}
-use Rattle.connection_core.specs.declared.footprint.Part.{Part}
-use Rattle.connection_core.specs.declared.said.Wanted.{Wanted}
-use Rattle.connection_core.specs.declared.said.Wanted.TheVariants.{Rest}
-use Rattle.connection_core.specs.declared.stage.Stage.{Stage}
-use Rattle.connection_core.specs.declared.stage.Stage.TheVariants.{Running, GivingUp, Closing, Parting, Leaving, Over}
-use Rattle.connection_core.proofs.Footprints.{charges, within_less, within_more, within_none}
+use Rattle.desk_core.specs.Connections.{ConnectionValue, Takes, filled, with_room}
+use Rattle.desk_core.specs.Footprints.{FootprintValue, IsFootprint, IsWithin, charged, footprint, none_standing, settled, spent, standing, total}
+use Rattle.desk_core.specs.Stages.{Executes, IsEnding, given_up}
+use Rattle.desk_core.specs.Tasks.{all_of}
+use Rattle.desk_core.specs.declared.footprint.Part.{Part}
+use Rattle.desk_core.specs.declared.stage.Stage.{Stage}
+use Rattle.desk_core.specs.declared.stage.Stage.TheVariants.{Running, GivingUp, Closing, Parting, Leaving, Over}
+use Rattle.desk_core.proofs.Footprints.{charges, within_less, within_more, within_none}
 use Rattle.desk_core.specs.Effects.{Effect, Said, commands_of}
-use Rattle.desk_core.specs.Histories.{IsLoss, Lives}
+use Rattle.desk_core.specs.Histories.{IsLoss, Lives, Nothing, Undone, Waits}
 use Rattle.desk_core.specs.Spending.{IsCut, Spends, ops_of}
 use Rattle.desk_core.proofs.Doing.{commands_append}
 use Rattle.desk_core.proofs.Living.{untold_giving}
@@ -49,8 +47,8 @@ spends_as effects others waiting c same s = record {
   counted = subst (λ l. footprint (ops_of l) ≤ c.footprint.counted) (sym same) s.counted;
 }
 
-pub spends_wanted : (effects : List Effect) (waiting : List Op) (old new : ConnectionValue) (wanted : Wanted) → Executes old.stage → Wants old new wanted → Spends effects old waiting → Spends effects new waiting
-spends_wanted effects waiting old new wanted executes w s = spends_on effects waiting old new (λ e. executes) (ap (λ (c : ConnectionValue). c.footprint) w.taken.same) s
+pub spends_taken : (effects : List Effect) (waiting : List Op) (old new : ConnectionValue) (act : Option Act) → Executes old.stage → Takes old new act → Spends effects old waiting → Spends effects new waiting
+spends_taken effects waiting old new act executes t s = spends_on effects waiting old new (λ e. executes) (ap (λ (c : ConnectionValue). c.footprint) t.same) s
 
 -- the command that is counted is appended
 pub spends_said : (effects : List Effect) (old new : ConnectionValue) (c : CommandValue) (ticket : ℕ) → Executes old.stage → new.footprint ≡ settled old.footprint → Spends effects old (c.op ∷ []) → Spends (effects ++ Said (ticket, c) ∷ []) new []
@@ -143,12 +141,12 @@ no_loss room all op receipt fits passes loss =
     absurd (omega (arith, same, more, fits))
 
 pub cuts_it : (bytes : List ℕ) (effects : List Effect) (old new : ConnectionValue) (c : CommandValue) → Executes old.stage → new ≡ filled old
-    → footprint (ops_of (commands_of effects)) ≤ old.footprint.room → old.footprint.room < footprint (ops_of (commands_of effects) ++ c.op ∷ []) → Lives bytes effects old (to_append c) → Lives bytes effects new Rest
+    → footprint (ops_of (commands_of effects)) ≤ old.footprint.room → old.footprint.room < footprint (ops_of (commands_of effects) ++ c.op ∷ []) → Lives bytes effects old (Waits c) → Lives bytes effects new Nothing
 cuts_it bytes effects old new c executes is fits passes l =
     let act : Act = Do c.op c.receipt in
     let split : l.asked_for ++ l.losses ≡ l.done ++ (act ∷ (l.left ++ all_of old.acts)) = l.split in
     let rest = stands_in l.asked_for l.losses l.done (l.left ++ all_of old.acts) act l.are_losses (no_loss old.footprint.room (ops_of (commands_of effects)) c.op c.receipt fits passes) split in
-    subst (λ x. Lives bytes effects x Rest) (sym is) record {
+    subst (λ x. Lives bytes effects x Nothing) (sym is) record {
       heard = l.heard;
       unheard = l.unheard;
       whole = l.whole;
@@ -192,8 +190,8 @@ cut_by_count effects old op executes form s passes =
 
 -- ── what is counted has changed, and nothing else ──
 
-pub counts_it : (bytes : List ℕ) (effects : List Effect) (old : ConnectionValue) (f : FootprintValue) (wanted : Wanted) → f.cut ≡ old.footprint.cut → Lives bytes effects old wanted → Lives bytes effects (record old { footprint = f }) wanted
-counts_it bytes effects old f wanted same l = record {
+pub counts_it : (bytes : List ℕ) (effects : List Effect) (old : ConnectionValue) (f : FootprintValue) (undone : Undone) → f.cut ≡ old.footprint.cut → Lives bytes effects old undone → Lives bytes effects (record old { footprint = f }) undone
+counts_it bytes effects old f undone same l = record {
   heard = l.heard;
   unheard = l.unheard;
   whole = l.whole;

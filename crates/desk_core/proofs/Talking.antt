@@ -11,11 +11,11 @@ use Rattle.claim_core.specs.Seats.{SessionSeatValue, with_seen}
 use Rattle.claim_core.specs.Appends.{Appends, Refuses}
 use Rattle.claim_core.specs.declared.refusals.Refused.{Refused}
 use Rattle.claim_core.specs.declared.refusals.Refused.TheVariants.{Stopped, Exhausted, Busy}
-use Rattle.connection_core.specs.Conversations.{IsNext, after, number_in, over, role_of}
-use Rattle.connection_core.specs.declared.progress.Progress.{Progress}
-use Rattle.connection_core.specs.declared.progress.Progress.TheVariants.{New, Open, Ended, Gone}
-use Rattle.connection_core.specs.declared.progress.Role.{Role}
-use Rattle.connection_core.specs.declared.progress.Role.TheVariants.{Opens, Talks, Ends}
+use Rattle.desk_core.specs.Progress.{IsNext, after, number_in, over, role_of}
+use Rattle.desk_core.specs.declared.progress.Progress.{Progress}
+use Rattle.desk_core.specs.declared.progress.Progress.TheVariants.{New, Open, Ended, Gone}
+use Rattle.desk_core.specs.declared.progress.Role.{Role}
+use Rattle.desk_core.specs.declared.progress.Role.TheVariants.{Opens, Talks, Ends}
 use Rattle.desk_core.specs.Continues.{Continues}
 use Rattle.desk_core.specs.Conversations.{IsTalk, IsSession, IsOpened, IsPart, Speaks, StaysOrEnds, holds, number_of, numbered, opens, part_of}
 use Rattle.desk_core.proofs.Lists.{AreBelow, all_append, all_filter, all_right, all_weaker, below, cond_other, cond_same}

@@ -2,15 +2,15 @@
 use Rattle.std.specs.Prelude.{◌≡◌, ◌<◌, ℕ, List, [], Bool, true, false, Option, None, IsSome, length}
 use Rattle.command_core.specs.Outs.{OutValue}
 use Rattle.claim_core.specs.Seats.{SessionSeatValue}
-use Rattle.connection_core.specs.Tasks.{all_of}
-use Rattle.connection_core.specs.declared.ended.Ended.{Ended}
-use Rattle.connection_core.specs.declared.stage.Stage.{Stage}
-use Rattle.connection_core.specs.declared.stage.Stage.TheVariants.{Running, GivingUp, Closing, Parting, Leaving, Over}
-use Rattle.desk_core.specs.declared.appending.Step.{Step}
-use Rattle.desk_core.specs.declared.appending.Step.TheVariants as steps
+use Rattle.desk_core.specs.Tasks.{all_of}
+use Rattle.desk_core.specs.declared.ended.Ended.{Ended}
+use Rattle.desk_core.specs.declared.stage.Stage.{Stage}
+use Rattle.desk_core.specs.declared.stage.Stage.TheVariants.{Running, GivingUp, Closing, Parting, Leaving, Over}
+use Rattle.desk_core.specs.declared.step.Step.{Step}
+use Rattle.desk_core.specs.declared.step.Step.TheVariants as steps
 use Rattle.desk_core.specs.declared.kept.Kept.{Kept}
 use Rattle.desk_core.specs.declared.kept.Kept.TheVariants as kept
-use Rattle.desk_core.specs.declared.pending.Pending.{Pending}
+use Rattle.desk_core.specs.Boxes.{BoxEntry}
 use Rattle.desk_core.specs.declared.slot.Slot.{Slot}
 use Rattle.desk_core.specs.declared.turned.Next.{Next}
 use Rattle.desk_core.specs.declared.turned.Next.TheVariants as next
@@ -41,7 +41,7 @@ WaitsFor mark it = (out : OutValue) × (it ≡ kept.Waits out) × (mark ≡ out.
 
 -- nothing of what its client asked for is left to be done
 abbrev pub IsSatisfied : {B : Type 0} → Slot B → Type 0
-IsSatisfied slot = (slot.pending ≡ None) × (all_of slot.connection.acts ≡ [])
+IsSatisfied slot = (slot.waiting ≡ None) × (all_of slot.connection.acts ≡ [])
 
 -- What a connection waits for if that is said. It has ended exactly if that is said. It waits for room only if an entry does. It waits for
 -- a mark over its next output only if that output is kept. It waits for that, or for bytes of its client, only if it runs and nothing of
@@ -51,7 +51,7 @@ abbrev pub Awaits : {B : Type 0} → Next → Slot B → Type 0
 Awaits next.Go slot = GoesOnYet slot.connection.stage
 Awaits next.Read slot = (slot.connection.stage ≡ Running) × IsSatisfied slot
 Awaits next.Write slot = slot.connection.stage ≡ Running
-Awaits (next.Room mark) slot = GoesOnYet slot.connection.stage × IsSome slot.pending
+Awaits (next.Room mark) slot = GoesOnYet slot.connection.stage × IsSome slot.waiting
 Awaits (next.Output mark) slot = (slot.connection.stage ≡ Running) × IsSatisfied slot × WaitsFor mark slot.kept
 Awaits next.Memory slot = GoesOnYet slot.connection.stage
 Awaits next.Close slot = (ended : Ended) × (slot.connection.stage ≡ Parting ended)
@@ -67,32 +67,32 @@ pub record Answers {B L : Type 0} (received : L → Option (List ℕ)) (turned :
 abbrev pub Grows : Step → SessionSeatValue → SessionSeatValue → Type 0
 Grows steps.Appended old new = length old.own < length new.own
 Grows steps.Done old new = new.own ≡ old.own
-Grows (steps.Full mark) old new = new.own ≡ old.own
-Grows steps.Short old new = new.own ≡ old.own
+Grows (steps.Room mark) old new = new.own ≡ old.own
+Grows steps.Memory old new = new.own ≡ old.own
 Grows steps.Rest old new = new.own ≡ old.own
 
 -- no entry was handled
 abbrev pub IsQuiet : Step → Type 0
 IsQuiet steps.Done = Unit {0}
-IsQuiet steps.Short = Unit {0}
+IsQuiet steps.Memory = Unit {0}
 IsQuiet steps.Appended = ⊥
-IsQuiet (steps.Full mark) = ⊥
+IsQuiet (steps.Room mark) = ⊥
 IsQuiet steps.Rest = ⊥
 
 -- what the last act of a turn came to: if it found no room, an entry waits
-abbrev pub Leaves : {B : Type 0} → Step → Option (Pending B) → Type 0
-Leaves (steps.Full mark) pending = IsSome pending
-Leaves steps.Appended pending = Unit {0}
-Leaves steps.Done pending = Unit {0}
-Leaves steps.Short pending = Unit {0}
-Leaves steps.Rest pending = Unit {0}
+abbrev pub Leaves : Step → Option BoxEntry → Type 0
+Leaves (steps.Room mark) waiting = IsSome waiting
+Leaves steps.Appended waiting = Unit {0}
+Leaves steps.Done waiting = Unit {0}
+Leaves steps.Memory waiting = Unit {0}
+Leaves steps.Rest waiting = Unit {0}
 
 -- what a connection waits for, by what the last act of its turn came to
 abbrev pub AwaitsBy : {B : Type 0} → Next → Step → Slot B → Type 0
 AwaitsBy next.Go last slot = GoesOnYet slot.connection.stage
 AwaitsBy next.Read last slot = (slot.connection.stage ≡ Running) × IsSatisfied slot
 AwaitsBy next.Write last slot = slot.connection.stage ≡ Running
-AwaitsBy (next.Room mark) last slot = GoesOnYet slot.connection.stage × (last ≡ steps.Full mark)
+AwaitsBy (next.Room mark) last slot = GoesOnYet slot.connection.stage × (last ≡ steps.Room mark)
 AwaitsBy (next.Output mark) last slot = (slot.connection.stage ≡ Running) × IsSatisfied slot × WaitsFor mark slot.kept
 AwaitsBy next.Memory last slot = GoesOnYet slot.connection.stage
 AwaitsBy next.Close last slot = (ended : Ended) × (slot.connection.stage ≡ Parting ended)
@@ -102,7 +102,7 @@ AwaitsBy (next.Over ended) last slot = slot.connection.stage ≡ Over ended
 abbrev pub IsPressing : Next → Step → Type 0
 IsPressing next.Go last = Unit {0}
 IsPressing next.Memory last = Unit {0}
-IsPressing (next.Room mark) last = last ≡ steps.Full mark
+IsPressing (next.Room mark) last = last ≡ steps.Room mark
 IsPressing (next.Output mark) last = ⊥
 IsPressing next.Read last = ⊥
 IsPressing next.Write last = ⊥

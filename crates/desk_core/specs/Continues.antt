@@ -3,8 +3,8 @@ use Rattle.std.specs.Prelude.{◌≡◌, ℕ, List, ◌∷◌, ◌++◌, Some}
 use Rattle.std.specs.List.{AllByRecursion}
 use Rattle.claim_core.specs.Counts.{Pair}
 use Rattle.claim_core.specs.Seats.{SessionSeatValue}
-use Rattle.connection_core.specs.Conversations.{number_in}
-use Rattle.connection_core.specs.declared.progress.Progress.{Progress}
+use Rattle.desk_core.specs.Progress.{number_in}
+use Rattle.desk_core.specs.declared.progress.Progress.{Progress}
 use Rattle.desk_core.specs.Conversations.{Speaks, number_of}
 
 -- what was said belongs to the conversation's session alone

@@ -3,11 +3,11 @@ use Rattle.std.specs.Prelude.{◌≡◌, ◌⊎◌, ◌≤◌, ◌==◌, ℕ, Li
 use Rattle.std.specs.List.{AllByRecursion, sum_by}
 use Rattle.claim_core.specs.Counts.{Pair}
 use Rattle.command_core.specs.Commands.{CommandValue}
-use Rattle.connection_core.specs.Conversations.{over, role_of}
-use Rattle.connection_core.specs.declared.progress.Progress.{Progress}
-use Rattle.connection_core.specs.declared.progress.Progress.TheVariants.{New, Open, Ended, Gone}
-use Rattle.connection_core.specs.declared.progress.Role.{Role}
-use Rattle.connection_core.specs.declared.progress.Role.TheVariants.{Opens, Talks, Ends}
+use Rattle.desk_core.specs.Progress.{over, role_of}
+use Rattle.desk_core.specs.declared.progress.Progress.{Progress}
+use Rattle.desk_core.specs.declared.progress.Progress.TheVariants.{New, Open, Ended, Gone}
+use Rattle.desk_core.specs.declared.progress.Role.{Role}
+use Rattle.desk_core.specs.declared.progress.Role.TheVariants.{Opens, Talks, Ends}
 
 -- the number of a command's session: an Open's is its ticket
 abbrev pub numbered : Role → ℕ → ℕ → ℕ

@@ -4,8 +4,8 @@ use Rattle.frame_core.specs.declared.frame.Frame.{Frame}
 use Rattle.claim_core.specs.Counts.{Pair}
 use Rattle.session_core.specs.declared.act.Act.{Act}
 use Rattle.session_core.specs.declared.act.Act.TheVariants.{Do, Direct, Close}
-use Rattle.connection_core.specs.Conversations.{IsNext, after, asked, role_of}
-use Rattle.connection_core.specs.declared.progress.Progress.{Progress}
+use Rattle.desk_core.specs.Progress.{IsNext, after, asked, role_of}
+use Rattle.desk_core.specs.declared.progress.Progress.{Progress}
 
 -- A command was appended with its ticket; a frame was told at once; or a frame was not told, because the link was over.
 pub data Effect : Type 0 where

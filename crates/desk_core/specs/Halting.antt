@@ -4,10 +4,10 @@ use Rattle.claim_core.specs.Rule.{far}
 use Rattle.claim_core.specs.Seats.{SessionSeatValue}
 use Rattle.claim_core.specs.declared.refusals.Refused.{Refused}
 use Rattle.claim_core.specs.declared.refusals.Refused.TheVariants as refusals
-use Rattle.connection_core.specs.declared.ended.Ended.{Ended}
-use Rattle.connection_core.specs.declared.ended.Ended.TheVariants.{Bye, Bad, Lost, Stopped}
-use Rattle.connection_core.specs.declared.stage.Stage.{Stage}
-use Rattle.connection_core.specs.declared.stage.Stage.TheVariants.{Running, GivingUp, Closing, Parting, Leaving, Over}
+use Rattle.desk_core.specs.declared.ended.Ended.{Ended}
+use Rattle.desk_core.specs.declared.ended.Ended.TheVariants.{Bye, Bad, Lost, Stopped}
+use Rattle.desk_core.specs.declared.stage.Stage.{Stage}
+use Rattle.desk_core.specs.declared.stage.Stage.TheVariants.{Running, GivingUp, Closing, Parting, Leaving, Over}
 
 abbrev pub IsStopped : Ended → Type 0
 IsStopped Bye = ⊥

@@ -1,47 +1,51 @@
 -- What a connection at a seat has appended of all that its client's bytes ask for.
 use Rattle.std.specs.Prelude.{◌≡◌, ◌⊎◌, ◌∷◌, ◌++◌, ℕ, List, [], Option, Some, None, option_map}
 use Rattle.std.specs.List.{AllByRecursion}
+use Rattle.command_core.specs.Commands.{CommandValue}
 use Rattle.command_core.specs.declared.command.Op.{Op}
 use Rattle.command_core.specs.declared.command.Op.TheVariants as ops
 use Rattle.command_core.specs.declared.command.End.TheVariants as ends
 use Rattle.claim_core.specs.Seats.{SessionSeatValue}
 use Rattle.session_core.specs.declared.act.Act.{Act}
-use Rattle.session_core.specs.declared.act.Act.TheVariants.{Do, Direct}
+use Rattle.session_core.specs.declared.act.Act.TheVariants.{Do}
 use Rattle.session_core.specs.Sessions.{Hearing, Hears, IsOver, fresh}
-use Rattle.connection_core.specs.Connections.{ConnectionValue, to_append}
-use Rattle.connection_core.specs.Conversations.{IsDone, IsFinished, IsNext, asked}
-use Rattle.connection_core.specs.Stages.{Executes, IsEnding}
-use Rattle.connection_core.specs.Tasks.{all_of}
-use Rattle.connection_core.specs.declared.progress.Progress.{Progress}
-use Rattle.connection_core.specs.declared.progress.Progress.TheVariants.{New}
-use Rattle.connection_core.specs.declared.said.Wanted.{Wanted}
-use Rattle.connection_core.specs.declared.said.Wanted.TheVariants.{Append, Tell, Done, Rest}
-use Rattle.connection_core.specs.declared.ended.Ended.{Ended}
-use Rattle.connection_core.specs.declared.ended.Ended.TheVariants.{Bye, Lost, Bad, Stopped}
-use Rattle.connection_core.specs.declared.stage.Stage.{Stage}
-use Rattle.connection_core.specs.declared.stage.Stage.TheVariants.{Running, GivingUp, Closing, Parting, Leaving, Over}
+use Rattle.desk_core.specs.Connections.{ConnectionValue}
+use Rattle.desk_core.specs.Progress.{IsDone, IsFinished, IsNext, asked}
+use Rattle.desk_core.specs.Stages.{Executes, IsEnding}
+use Rattle.desk_core.specs.Tasks.{all_of}
+use Rattle.desk_core.specs.declared.progress.Progress.{Progress}
+use Rattle.desk_core.specs.declared.progress.Progress.TheVariants.{New}
+use Rattle.desk_core.specs.declared.ended.Ended.{Ended}
+use Rattle.desk_core.specs.declared.ended.Ended.TheVariants.{Bye, Lost, Bad, Stopped}
+use Rattle.desk_core.specs.declared.stage.Stage.{Stage}
+use Rattle.desk_core.specs.declared.stage.Stage.TheVariants.{Running, GivingUp, Closing, Parting, Leaving, Over}
+use Rattle.desk_core.specs.Boxes.{BoxEntry}
 use Rattle.desk_core.specs.Conversations.{StaysOrEnds}
 use Rattle.desk_core.specs.Effects.{Effect, Does, commands_of, told_of, untold_of}
 use Rattle.desk_core.specs.Halting.{FindsEnd, HasHalted}
 use Rattle.desk_core.specs.Spending.{IsCut, KeepsRoom, Spends, waiting_of}
-use Rattle.desk_core.specs.declared.pending.Pending.{Pending}
 use Rattle.desk_core.specs.declared.slot.Slot.{Slot}
 
 -- the session's end, which a connection that is lost asks for
 abbrev pub IsLoss : Act → Type 0
 IsLoss act = act ≡ Do (ops.End ends.Lost) None
 
--- the act of what was wanted and is not done yet
-abbrev pub act_of : Wanted → List Act
-act_of (Append c said) = Do c.op c.receipt ∷ []
-act_of (Tell frame) = Direct frame ∷ []
-act_of Done = []
-act_of Rest = []
+-- what was taken of the acts and is not done yet: nothing, an act, or the command of one, whose entry waits for room
+pub data Undone : Type 0 where
+  Nothing : Undone
+  Taken : Act → Undone
+  Waits : CommandValue → Undone
 
--- a command that is wanted is what the conversation has next
-abbrev pub IsAsked : Progress → Wanted → Type 0
-IsAsked p (Append c said) = IsNext p c × (c ≡ asked p c.op c.receipt)
-IsAsked p wanted = Unit {0}
+-- its act
+abbrev pub act_of : Undone → List Act
+act_of Nothing = []
+act_of (Taken act) = act ∷ []
+act_of (Waits c) = Do c.op c.receipt ∷ []
+
+-- a command that waits is what the conversation has next
+abbrev pub IsAsked : Progress → Undone → Type 0
+IsAsked p (Waits c) = IsNext p c × (c ≡ asked p c.op c.receipt)
+IsAsked p undone = Unit {0}
 
 -- it ends after an ERROR
 abbrev pub IsBad : Ended → Type 0
@@ -65,10 +69,10 @@ IsLast c = (c.last ≡ None) ⊎ IsFinished c.progress
 
 -- These bytes came of its client. Of all that they ask for this was done: what the first acts ask for, and, if the connection was lost, its
 -- session's end. While it runs, no byte is left out. While it may append, no act is left out, but for those that are cut off: its
--- session would pass what it may have, or it was evicted. The others wait, first the one that is wanted. While it runs or is given up, and if it ends because an
+-- session would pass what it may have, or it was evicted. The others wait, first the one that was taken. While it runs or is given up, and if it ends because an
 -- ERROR was sent, no frame was left untold. If it ends, its session has ended: none was opened, its End was appended, or its client was
 -- sent an ERROR.
-pub record Lives (bytes : List ℕ) (effects : List Effect) (c : ConnectionValue) (wanted : Wanted) : Type 0 where
+pub record Lives (bytes : List ℕ) (effects : List Effect) (c : ConnectionValue) (undone : Undone) : Type 0 where
   pub heard : List ℕ
   pub unheard : List ℕ
   pub whole : bytes ≡ heard ++ unheard
@@ -82,7 +86,7 @@ pub record Lives (bytes : List ℕ) (effects : List Effect) (c : ConnectionValue
   pub are_losses : AllByRecursion IsLoss losses
   pub done : List Act
   pub left : List Act
-  pub split : asked_for ++ losses ≡ done ++ (act_of wanted ++ (left ++ all_of c.acts))
+  pub split : asked_for ++ losses ≡ done ++ (act_of undone ++ (left ++ all_of c.acts))
   pub cut_for : IsCut c.footprint.cut asked_for cut done (commands_of effects)
   pub reached : Progress
   pub does : Does New done effects reached
@@ -94,19 +98,19 @@ pub record Lives (bytes : List ℕ) (effects : List Effect) (c : ConnectionValue
   pub rest : c.stage ≡ Running → (IsOver c.session.phase → ⊥) → session ≡ c.session
   pub none_left : Executes c.stage → left ≡ []
   pub stands : Executes c.stage → c.progress ≡ reached
-  pub next : Executes c.stage → IsAsked reached wanted
+  pub next : Executes c.stage → IsAsked reached undone
   pub stood : StaysOrEnds reached c.progress
   pub last : IsLast c
   pub ended : IsEnding c.stage → IsDone c.progress
 
--- what a slot's connection wants, if an entry waits for room
-abbrev pub wanted_of : {B : Type 0} → Option (Pending B) → Wanted
-wanted_of None = Rest
-wanted_of (Some pending) = to_append pending.entry.command
+-- what is undone between the turns of a slot: the command of an entry that waits for room
+abbrev pub undone_of : Option BoxEntry → Undone
+undone_of None = Nothing
+undone_of (Some entry) = Waits entry.command
 
 -- a slot has come so far, and keeps within the bytes of its desk
 abbrev pub LivesAt : {B : Type 0} → List ℕ → List Effect → Slot B → Type 0
-LivesAt bytes effects slot = Lives bytes effects slot.connection (wanted_of slot.pending) × Spends effects slot.connection (waiting_of slot.pending)
+LivesAt bytes effects slot = Lives bytes effects slot.connection (undone_of slot.waiting) × Spends effects slot.connection (waiting_of slot.waiting)
 
 -- Nothing of what is to be done has changed. The connection neither runs nor appends if it did not before, nor ends before its session has.
 pub record Restaged (old new : ConnectionValue) : Type 0 where
@@ -138,17 +142,17 @@ pub record Idles {B L : Type 0} (received : L → Option (List ℕ)) (was : Slot
   pub footprint : is.connection.footprint ≡ was.connection.footprint
   pub halts : HasHalted is.connection.stage → HasHalted was.connection.stage
 
--- it goes on so from where it wants this, and this is counted beside what was appended, with these effects
-abbrev pub LivesOn : {B : Type 0} → Wanted → List Op → ConnectionValue → ConnectionValue → Option (Pending B) → List Effect → Type 0
-LivesOn wanted waiting old new pending effects =
-    (bytes : List ℕ) (before : List Effect) → Lives bytes before old wanted → Spends before old waiting
-    → Lives bytes (before ++ effects) new (wanted_of pending) × Spends (before ++ effects) new (waiting_of pending)
+-- it goes on so from where this is undone, and this is counted beside what was appended, with these effects
+abbrev pub LivesOn : Undone → List Op → ConnectionValue → ConnectionValue → Option BoxEntry → List Effect → Type 0
+LivesOn undone counted old new waiting effects =
+    (bytes : List ℕ) (before : List Effect) → Lives bytes before old undone → Spends before old counted
+    → Lives bytes (before ++ effects) new (undone_of waiting) × Spends (before ++ effects) new (waiting_of waiting)
 
 -- with the commands that its seat got, and no frame
-pub record DoesWanted {B : Type 0} (wanted : Wanted) (waiting : List Op) (old : ConnectionValue) (was : SessionSeatValue) (new : ConnectionValue) (pending : Option (Pending B)) (is : SessionSeatValue) : Type 0 where
+pub record DoesUndone (undone : Undone) (counted : List Op) (old : ConnectionValue) (was : SessionSeatValue) (new : ConnectionValue) (waiting : Option BoxEntry) (is : SessionSeatValue) : Type 0 where
   pub effects : List Effect
   pub added : is.own ≡ was.own ++ commands_of effects
   pub none_told : told_of effects ≡ []
   pub keeps : KeepsRoom old new
   pub halts : HasHalted new.stage → HasHalted old.stage ⊎ FindsEnd is
-  pub lives : LivesOn wanted waiting old new pending effects
+  pub lives : LivesOn undone counted old new waiting effects

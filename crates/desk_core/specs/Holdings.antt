@@ -1,22 +1,22 @@
 -- What is kept for a connection, and counts as its memory.
 use Rattle.std.specs.Prelude.{◌≡◌, ◌≤◌, ◌+◌, ◌-◌, ◌^◌, ℕ, true, false, Option, Some, None, min}
-use Rattle.connection_core.specs.Connections.{kept_in}
-use Rattle.connection_core.specs.Weights.{op_weight}
+use Rattle.desk_core.specs.Connections.{kept_in}
+use Rattle.desk_core.specs.Weights.{op_weight}
 use Rattle.outbox_core.specs.Boxes.{TakerValue}
 use Rattle.outbox_core.specs.Weights.{most_waiting}
-use Rattle.desk_core.specs.declared.pending.Pending.{Pending}
+use Rattle.desk_core.specs.Boxes.{BoxEntry}
 use Rattle.desk_core.specs.declared.place.Seated.{Seated}
 use Rattle.desk_core.specs.declared.slot.Slot.{Slot}
 use Rattle.desk_core.specs.Places.{has_no_link}
 
 -- what an entry counts for that waits for room
-abbrev pub entry_weight : {B : Type 0} → Option (Pending B) → ℕ
+abbrev pub entry_weight : Option BoxEntry → ℕ
 entry_weight None = 0
-entry_weight (Some pending) = op_weight pending.entry.command.op pending.entry.command.receipt
+entry_weight (Some entry) = op_weight entry.command.op entry.command.receipt
 
 -- what is kept of what its client said, with the entry that waits for room
 abbrev pub kept_by : {B : Type 0} → Slot B → ℕ
-kept_by slot = kept_in slot.connection + entry_weight slot.pending
+kept_by slot = kept_in slot.connection + entry_weight slot.waiting
 
 -- so many bytes may wait in an outbox, if there is one
 abbrev pub MayWait : Option TakerValue → ℕ → Type 0

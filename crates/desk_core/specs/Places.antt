@@ -1,10 +1,10 @@
 -- What is done at a place of a desk.
 use Rattle.std.specs.Prelude.{◌≡◌, ◌≤◌, ◌+◌, ◌++◌, ℕ, List, Bool, true, false, Option, Some, None, is_some}
-use Rattle.connection_core.specs.Connections.{ConnectionValue}
-use Rattle.connection_core.specs.declared.footprint.Cut.{Cut}
-use Rattle.connection_core.specs.declared.footprint.Cut.TheVariants as cuts
-use Rattle.connection_core.specs.declared.progress.Progress.{Progress}
-use Rattle.connection_core.specs.declared.progress.Progress.TheVariants.{Gone}
+use Rattle.desk_core.specs.Connections.{ConnectionValue}
+use Rattle.desk_core.specs.declared.footprint.Cut.{Cut}
+use Rattle.desk_core.specs.declared.footprint.Cut.TheVariants as cuts
+use Rattle.desk_core.specs.declared.progress.Progress.{Progress}
+use Rattle.desk_core.specs.declared.progress.Progress.TheVariants.{Gone}
 use Rattle.desk_core.specs.declared.place.Seated.{Seated}
 use Rattle.claim_core.specs.Seats.{SessionSeatValue}
 use Rattle.desk_core.specs.declared.turned.Turned.{Turned}
@@ -13,8 +13,8 @@ use Rattle.desk_core.specs.Effects.{Effect, commands_of, told_of}
 use Rattle.desk_core.specs.Halting.{FindsEnd, HasHalted}
 use Rattle.desk_core.specs.Histories.{Heeds, Idles}
 use Rattle.desk_core.specs.Spending.{IsEvicted}
-use Rattle.connection_core.specs.declared.stage.Stage.{Stage}
-use Rattle.connection_core.specs.declared.stage.Stage.TheVariants.{Running, GivingUp, Closing, Parting, Leaving, Over}
+use Rattle.desk_core.specs.declared.stage.Stage.{Stage}
+use Rattle.desk_core.specs.declared.stage.Stage.TheVariants.{Running, GivingUp, Closing, Parting, Leaving, Over}
 use Rattle.desk_core.specs.Slots.{Served, Unserved, number_at}
 use Rattle.ws_core.specs.Sending.{IsPinged}
 use Rattle.ws_core.specs.declared.fault.LinkFault.{LinkFault}
@@ -89,7 +89,8 @@ is_open_at (Some seated) = is_some (number_at seated.slot)
 -- a connection is changed so, and nothing else of what sits there
 pub record IsChanged {B L : Type 0} (f : ConnectionValue → ConnectionValue) (was is : Seated B L) : Type 0 where
   pub connection : is.slot.connection ≡ f was.slot.connection
-  pub pending : is.slot.pending ≡ was.slot.pending
+  pub waiting : is.slot.waiting ≡ was.slot.waiting
+  pub opening : is.slot.opening ≡ was.slot.opening
   pub outbox : is.slot.outbox ≡ was.slot.outbox
   pub kept : is.slot.kept ≡ was.slot.kept
   pub link : is.link ≡ was.link

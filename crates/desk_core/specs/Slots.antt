@@ -7,8 +7,8 @@ use Rattle.frame_core.specs.declared.frame.Frame.{Frame}
 use Rattle.frame_core.specs.declared.frame.Verb.TheVariants as verbs
 use Rattle.frame_core.specs.Written.{written}
 use Rattle.outbox_core.specs.Boxes.{TakerValue}
-use Rattle.connection_core.specs.Connections.{unheard}
-use Rattle.connection_core.specs.Conversations.{number_in}
+use Rattle.desk_core.specs.Connections.{unheard}
+use Rattle.desk_core.specs.Progress.{number_in}
 use Rattle.desk_core.specs.declared.kept.Kept.{Kept}
 use Rattle.desk_core.specs.declared.kept.Kept.TheVariants as kept
 use Rattle.desk_core.specs.declared.slot.Slot.{Slot}
@@ -16,7 +16,8 @@ use Rattle.desk_core.specs.declared.slot.Slot.{Slot}
 -- a connection that was not heard yet: nothing waits for the ring, and there is no outbox
 pub record IsNew {B : Type 0} (limit : ℕ) (slot : Slot B) : Type 0 where
   pub connection : slot.connection ≡ unheard limit
-  pub pending : slot.pending ≡ None
+  pub waiting : slot.waiting ≡ None
+  pub opening : slot.opening ≡ None
   pub outbox : slot.outbox ≡ None
   pub kept : slot.kept ≡ kept.Nothing
 
@@ -100,7 +101,8 @@ pub record Stays {B : Type 0} (was is : Slot B) : Type 0 where
 -- The same, with its link: nothing was sent, and the conversation stands where it stood, with the entry that waits.
 pub record Unserved {B L : Type 0} (told : L → Option (List (List ℕ))) (was : Slot B) (before : L) (is : Slot B) (after : L) : Type 0 where
   pub progress : is.connection.progress ≡ was.connection.progress
-  pub pending : is.pending ≡ was.pending
+  pub waiting : is.waiting ≡ was.waiting
+  pub opening : is.opening ≡ was.opening
   pub outbox : is.outbox ≡ was.outbox
   pub kept : is.kept ≡ was.kept
   pub sent : told after ≡ told before

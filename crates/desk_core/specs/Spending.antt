@@ -4,22 +4,22 @@ use Rattle.command_core.specs.declared.command.Op.{Op}
 use Rattle.claim_core.specs.Counts.{Pair}
 use Rattle.session_core.specs.declared.act.Act.{Act}
 use Rattle.session_core.specs.declared.act.Act.TheVariants.{Do}
-use Rattle.connection_core.specs.Connections.{ConnectionValue}
-use Rattle.connection_core.specs.Footprints.{IsWithin, footprint, standing}
-use Rattle.connection_core.specs.Stages.{Executes}
-use Rattle.connection_core.specs.declared.footprint.Cut.{Cut}
-use Rattle.connection_core.specs.declared.footprint.Cut.TheVariants as cuts
+use Rattle.desk_core.specs.Connections.{ConnectionValue}
+use Rattle.desk_core.specs.Footprints.{IsWithin, footprint, standing}
+use Rattle.desk_core.specs.Stages.{Executes}
+use Rattle.desk_core.specs.declared.footprint.Cut.{Cut}
+use Rattle.desk_core.specs.declared.footprint.Cut.TheVariants as cuts
 use Rattle.desk_core.specs.Effects.{Effect, commands_of}
-use Rattle.desk_core.specs.declared.pending.Pending.{Pending}
+use Rattle.desk_core.specs.Boxes.{BoxEntry}
 
 -- what commands ask for
 abbrev pub ops_of : List Pair → List Op
 ops_of said = map (λ (p : Pair). p.1.op) said
 
 -- what an entry that waits for room asks for
-abbrev pub waiting_of : {B : Type 0} → Option (Pending B) → List Op
+abbrev pub waiting_of : Option BoxEntry → List Op
 waiting_of None = []
-waiting_of (Some pending) = pending.entry.command.op ∷ []
+waiting_of (Some entry) = entry.command.op ∷ []
 
 -- The session keeps within the bytes of its desk after each of the commands that were appended, and after what waits. What stands is what
 -- these leave standing, for as long as more may be appended. No less is counted than what was appended leaves standing.

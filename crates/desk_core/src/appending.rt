@@ -1,18 +1,23 @@
-//! What a connection wants is done.
+//! What a client asked for is done.
 
 ghost use Rattle.std.specs.Prelude.{◌≡◌, ◌≢◌, None, true, false};
-ghost use Rattle.connection_core.specs.Connections.{HasWantedForm, to_append};
-ghost use Rattle.connection_core.specs.Conversations.{IsNext};
+ghost use Rattle.command_core.specs.Entries.{EntryValue};
+ghost use Rattle.session_core.specs.Sessions.{HasForm};
+ghost use Rattle.session_core.specs.declared.act.Act.TheVariants as acts;
+ghost use Rattle.desk_core.specs.Boxes.{HasBox};
+ghost use Rattle.desk_core.specs.Histories.{Taken, Waits};
+ghost use Rattle.desk_core.specs.Progress.{IsNext};
 
-use crate::pending::{Pending, charge};
+use crate::entries::charge;
 use crate::ringers::Ringers;
 use crate::slot::Slot;
 use crate::speaking::speak;
+use crate::stage::Stage;
+use crate::step::{Step, also_appended};
 use claim_core::{BrokerRing, BrokerSeat, Refused};
-use command_core::Command;
-use connection_core::{Said, Stage, Wanted};
+use command_core::{Entry, HeaderText, Op};
 use outbox_core::{Bell, OutSender};
-use session_core::Notice;
+use session_core::{Act, Notice};
 use std::alloc::Global;
 use ws_core::{Link, LinkFault};
 
@@ -20,66 +25,20 @@ use ws_core::{Link, LinkFault};
 // to say leaves room for the next one, if the whole window is free.
 const ACTS: u32 = 8;
 
-/// What one act, or the entry that is kept, came to.
-#[derive(Clone, Copy)]
-pub enum Step {
-    /// A command was appended.
-    Appended,
-    /// The act is done, and no command was appended.
-    Done,
-    /// The window is full at that mark; the entry is kept.
-    Full(u64),
-    /// Memory was refused, and the act is kept.
-    Short,
-    /// Nothing is left to be done.
-    Rest,
-}
-
-/// What the acts of a turn came to.
-#[derive(Clone, Copy)]
-pub struct Executed {
-    /// A command was appended.
-    pub appended: bool,
-    /// What the last one came to: `Appended` or `Done` if more may be done at once.
-    pub last: Step,
-}
-
-impl Executed {
-    ghost use Rattle.claim_core.specs.Seats.{SessionSeatValue};
-    ghost use Rattle.desk_core.specs.Answers.{Appended, Grows};
-
-    // One act more.
-    fn with(self, step: Step) -> Executed
-        ensures last { result.last ≡ step }
-        ensures grows { (s t u : SessionSeatValue) → Appended self.appended s t → Grows step t u → Appended result.appended s u }
-    {
-        match step {
-            Step::Appended => Executed {
-                appended: true,
-                last: step,
-            },
-            _ => Executed {
-                appended: self.appended,
-                last: step,
-            },
-        }
-    }
-}
-
 impl<B: Bell> Slot<B> {
     ghost use Rattle.std.specs.Prelude.{◌∷◌, ◌⊎◌, [], Some};
     ghost use Rattle.outbox_core.specs.Boxes.{TakerValue};
     ghost use Rattle.desk_core.specs.Answers.{Appended, IsQuiet, Leaves};
-    ghost use Rattle.connection_core.specs.declared.said.Wanted.TheVariants.{Append};
     ghost use Rattle.desk_core.specs.Continues.{Continues};
     ghost use Rattle.desk_core.specs.Conversations.{StaysOrEnds};
     ghost use Rattle.desk_core.specs.Halting.{HasHalted, IsFinal};
-    ghost use Rattle.desk_core.specs.Holding.{Holds};
+    ghost use Rattle.desk_core.specs.Refusals.{WaitsIfFull};
     ghost use Rattle.desk_core.specs.Steps.{CarriesOut, GoesOn, IsUnsaid, MayAppend, TakesStep, TellsIt};
     ghost use Rattle.desk_core.specs.Histories.{LivesOn};
     ghost use Rattle.desk_core.specs.Slots.{Stays};
 
-    // Does what the connection wants, in order, until something has to wait or `ACTS` are done.
+    // Does what its client asked for, in order, until something has to wait or `ACTS` are done. Answers whether a command was appended,
+    // and what the last act came to.
     pub(crate) fn execute<M: Ringers<B>, L: Link>(
         &mut self,
         alloc: Global,
@@ -87,28 +46,25 @@ impl<B: Bell> Slot<B> {
         seat: &mut BrokerSeat<OutSender<B>>,
         link: &mut L,
         ringers: &M,
-    ) -> Executed
+    ) -> (bool, Step)
         requires { seat.old.ring ≡ ring.now }
         ensures goes { GoesOn L.sent L.received self.old seat.old link.old self.new seat.new link.new }
-        ensures grows { Appended result.appended seat.old seat.new }
-        ensures leaves { Leaves result.last self.new.pending }
+        ensures grows { Appended result.0 seat.old seat.new }
+        ensures leaves { Leaves result.1 self.new.waiting }
         ensures unread { L.received link.new ≡ L.received link.old }
     {
-        let mut executed = Executed {
-            appended: false,
-            last: Step::Done,
-        };
+        let mut appended = false;
         for _ in 0..ACTS {
             let step = self.step(alloc, ring, seat, link, ringers);
-            executed = executed.with(step);
-            if matches!(step, Step::Full(_) | Step::Short | Step::Rest) {
-                return executed;
+            appended = also_appended(appended, step);
+            if matches!(step, Step::Room(_) | Step::Memory | Step::Rest) {
+                return (appended, step);
             }
         }
-        executed
+        (appended, Step::Done)
     }
 
-    // The entry that waits, or else the next that the connection wants.
+    // Appends the entry that waits, or else does the next act.
     fn step<M: Ringers<B>, L: Link>(
         &mut self,
         alloc: Global,
@@ -119,55 +75,66 @@ impl<B: Bell> Slot<B> {
     ) -> Step
         requires { seat.old.ring ≡ ring.now }
         ensures goes { GoesOn L.sent L.received self.old seat.old link.old self.new seat.new link.new }
-        ensures takes { TakesStep result seat.old seat.new self.new.pending }
+        ensures takes { TakesStep result seat.old seat.new self.new.waiting }
         ensures unread { L.received link.new ≡ L.received link.old }
     {
         if !self.connection.stage().executes() {
             return Step::Rest;
         }
-        if let Some(pending) = self.pending.take() {
-            return self.append(ring, seat, ringers, pending);
+        if let Some(entry) = self.waiting.take() {
+            return self.append(ring, seat, ringers, entry);
         }
         match self.connection.next() {
-            Wanted::Append(command, said) => {
-                self.prepare(alloc, ring, seat, ringers, command, said)
+            Some(Act::Do(op, receipt)) => self.request(alloc, ring, seat, ringers, op, receipt),
+            Some(Act::Direct(notice)) => self.tell(alloc, link, notice),
+            Some(Act::Close(code)) => {
+                self.connection.close(code);
+                Step::Done
             }
-            Wanted::Tell(notice) => self.tell(alloc, link, notice),
-            Wanted::Done => Step::Done,
-            Wanted::Rest => Step::Rest,
+            None => {
+                self.connection.rest();
+                Step::Rest
+            }
         }
     }
 
-    // Makes the entry of a command and appends it. If memory is refused, the connection wants the command again. If its session would
-    // pass what it may have by the command, the connection is given up: the command is dropped, with all that waits after it.
-    fn prepare<M: Ringers<B>>(
+    // Appends the command of an operation, unless it may not be the next of the conversation. If memory is refused, it is the next act
+    // again. If its session would pass what it may have by the command, the connection is given up: the command is dropped, with all that
+    // waits after it.
+    fn request<M: Ringers<B>>(
         &mut self,
         alloc: Global,
         ring: &BrokerRing<OutSender<B>>,
         seat: &mut BrokerSeat<OutSender<B>>,
         ringers: &M,
-        command: Command,
-        said: Said,
+        op: Op,
+        receipt: Option<HeaderText>,
     ) -> Step
         requires ring { seat.old.ring ≡ ring.now }
-        requires form { HasWantedForm self.old.connection.progress (Append command said) }
-        requires first { self.old.connection.acts.again ≡ None }
-        requires nothing { self.old.pending ≡ None }
+        requires form { HasForm (acts.Do op receipt) }
+        requires taken { (self.old.connection.acts.again ≡ None) × (self.old.waiting ≡ None) }
         ensures continues { Continues self.old.connection.progress seat.old self.new.connection.progress seat.new }
         ensures stays { Stays self.old self.new }
-        ensures lives { CarriesOut (to_append command) [] self.old seat.old self.new seat.new }
-        ensures takes { TakesStep result seat.old seat.new self.new.pending }
+        ensures lives { CarriesOut (Taken (acts.Do op receipt)) [] self.old seat.old self.new seat.new }
+        ensures takes { TakesStep result seat.old seat.new self.new.waiting }
     {
+        let Some(command) = self.connection.ask(op, receipt) else {
+            return Step::Done;
+        };
         if !self.connection.affords(command.op()) {
             drop(command);
             self.connection.cut_off(alloc);
             return Step::Done;
         }
-        match charge(alloc, ringers, &mut self.connection, command, said) {
-            Ok(pending) => self.append(ring, seat, ringers, pending),
+        match charge(alloc, ringers, &mut self.connection, command) {
+            Ok((entry, taker)) => {
+                self.opening = taker;
+                self.append(ring, seat, ringers, entry)
+            }
             Err(command) => {
-                self.connection.retry(command);
-                Step::Short
+                let (_, op, receipt) = command.into_parts();
+                self.connection.put_back(Act::Do(op, receipt));
+                Step::Memory
             }
         }
     }
@@ -178,60 +145,48 @@ impl<B: Bell> Slot<B> {
         ring: &BrokerRing<OutSender<B>>,
         seat: &mut BrokerSeat<OutSender<B>>,
         ringers: &M,
-        pending: Pending<B>,
+        entry: Entry<OutSender<B>>,
     ) -> Step
         requires ring { seat.old.ring ≡ ring.now }
-        requires may { MayAppend self.old pending }
+        requires may { MayAppend self.old entry }
         ensures continues { Continues self.old.connection.progress seat.old self.new.connection.progress seat.new }
         ensures stays { Stays self.old self.new }
-        ensures taker { (taker : TakerValue) → pending.taker ≡ Some taker → result ≡ Step.Appended → self.new.outbox ≡ Some taker }
-        ensures lives { CarriesOut (to_append pending.entry.command) (pending.entry.command.op ∷ []) self.old seat.old self.new seat.new }
-        ensures takes { TakesStep result seat.old seat.new self.new.pending }
+        ensures taker { (taker : TakerValue) → self.old.opening ≡ Some taker → result ≡ Step.Appended → self.new.outbox ≡ Some taker }
+        ensures lives { CarriesOut (Waits entry.command) (entry.command.op ∷ []) self.old seat.old self.new seat.new }
+        ensures takes { TakesStep result seat.old seat.new self.new.waiting }
     {
-        let window = ringers.window(pending.entry.command().op());
-        let Pending {
-            entry,
-            said,
-            taker,
-            bytes,
-        } = pending;
-        match speak(ring, seat, &mut self.connection, entry, said, window) {
+        let window = ringers.window(entry.command().op());
+        match speak(ring, seat, &mut self.connection, entry, window) {
             Ok(ticket) => {
                 ringers.appended(ticket);
-                if let Some(taker) = taker {
+                if let Some(taker) = self.opening.take() {
                     self.outbox = Some(taker);
                 }
                 Step::Appended
             }
-            Err((entry, refused)) => self.hold(
-                Pending {
-                    entry,
-                    said,
-                    taker,
-                    bytes,
-                },
-                refused,
-            ),
+            Err((entry, refused)) => self.handle_refusal(entry, refused),
         }
     }
 
     // An entry that the ring refused is kept for as long as the window is full. A ring that takes nothing more ends the
     // connection.
-    fn hold(&mut self, pending: Pending<B>, refused: Refused) -> Step
-        requires { IsNext self.old.connection.progress pending.entry.command }
+    fn handle_refusal(&mut self, entry: Entry<OutSender<B>>, refused: Refused) -> Step
+        requires next { IsNext self.old.connection.progress entry.command }
+        requires boxed { HasBox entry self.old.opening }
         ensures same { IsUnsaid self.old.connection self.new.connection }
         ensures stays { (self.new.outbox ≡ self.old.outbox) × (self.new.kept ≡ self.old.kept) }
-        ensures holds { Holds pending refused self.new.pending result }
+        ensures waits { WaitsIfFull entry refused self.new.waiting result }
         ensures halts { HasHalted self.new.connection.stage → HasHalted self.old.connection.stage ⊎ IsFinal refused }
-        ensures lives { self.old.pending ≡ None → LivesOn (to_append pending.entry.command) (pending.entry.command.op ∷ []) self.old.connection self.new.connection self.new.pending [] }
+        ensures lives { self.old.waiting ≡ None → LivesOn (Waits entry.command) (entry.command.op ∷ []) self.old.connection self.new.connection self.new.waiting [] }
     {
         match refused {
             Refused::Busy(mark) => {
-                drop(self.pending.replace(pending));
-                Step::Full(mark)
+                drop(self.waiting.replace(entry));
+                Step::Room(mark)
             }
             Refused::Stopped | Refused::Exhausted => {
-                drop(pending);
+                drop(entry);
+                drop(self.opening.take());
                 self.connection.stop();
                 Step::Rest
             }
@@ -241,7 +196,7 @@ impl<B: Bell> Slot<B> {
     // Sends the client an ERROR that doesn't wait for the broker, as the last frame. Nothing is sent if its link is over.
     fn tell<L: Link>(&mut self, alloc: Global, link: &mut L, notice: Notice) -> Step
         requires first { self.old.connection.acts.again ≡ None }
-        requires nothing { self.old.pending ≡ None }
+        requires nothing { self.old.waiting ≡ None }
         ensures ends { StaysOrEnds self.old.connection.progress self.new.connection.progress }
         ensures unread { L.received link.new ≡ L.received link.old }
         ensures tells { TellsIt L.sent notice self.old link.old self.new link.new }
@@ -262,8 +217,8 @@ impl<B: Bell> Slot<B> {
                 self.connection.lose();
             }
             Err(LinkFault::Memory) => {
-                self.connection.retry_telling(notice);
-                return Step::Short;
+                self.connection.put_back(Act::Direct(notice));
+                return Step::Memory;
             }
         }
         Step::Done

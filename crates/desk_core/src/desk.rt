@@ -2,15 +2,15 @@
 
 ghost use Rattle.std.specs.Prelude.{◌≡◌, IfErr, IfSome, IsNone, OnOk, is_some, length};
 
-use crate::place::{NotAdmitted, Place, Seated};
-use crate::placing::{
-    add_places, evict_at, give_up_at, lose_at, ping_at, take_place, trim, turn_at, vacate,
+use crate::footprint::Cut;
+use crate::place::{
+    NotAdmitted, Place, Seated, evict_at, give_up_at, lose_at, ping_at, take_place, turn_at, vacate,
 };
+use crate::places::{add_places, trim};
 use crate::ringers::Ringers;
 use crate::slot::Slot;
 use crate::turned::Turned;
 use claim_core::{BrokerRing, BrokerSeat};
-use connection_core::Cut;
 use outbox_core::{Bell, OutSender};
 use std::alloc::Global;
 use std::marker::Model;
@@ -49,7 +49,7 @@ impl<B: Bell, L: Link + Drop> Desk<B, L> {
     ghost use Rattle.std.specs.Prelude.{◌≤◌};
     ghost use Rattle.claim_core.specs.Seats.{with_seen};
     ghost use Rattle.desk_core.specs.Conversations.{Converse};
-    ghost use Rattle.connection_core.specs.Connections.{evicted, with_given_up, with_lost};
+    ghost use Rattle.desk_core.specs.Connections.{evicted, with_given_up, with_lost};
     ghost use Rattle.desk_core.specs.Desks.{Admits, Changes, IsWhy, Leaves, Others, TalkApart, Turns, Touches, desk, seated_at};
     ghost use Rattle.desk_core.specs.Places.{PingedAt, cut_at, is_open_at, is_over_at};
 

@@ -2,24 +2,34 @@
 
 #![tactic(auto)]
 
+mod acts;
 mod appending;
+mod connection;
 mod desk;
+mod ended;
+mod entries;
+mod footprint;
 mod holding;
 mod kept;
 mod laws;
 mod lending;
 mod passing;
-mod pending;
 mod place;
-mod placing;
+mod places;
+mod progress;
 mod relaying;
 mod ringers;
 mod slot;
 mod speaking;
+mod stage;
+mod step;
 mod turned;
 mod turning;
+mod weights;
 
 pub use desk::Desk;
+pub use ended::Ended;
+pub use footprint::{Cut, SESSION_BYTES};
 pub use kept::{Kept, Relayed};
 pub use laws::a_connection_at_a_desk_lives_one_life;
 pub use place::{NotAdmitted, Seated};

@@ -5,11 +5,13 @@ ghost use Rattle.desk_core.specs.Conversations.{StaysOrEnds};
 ghost use Rattle.desk_core.specs.Histories.{Steady};
 ghost use Rattle.desk_core.specs.Relays.{ReadsMark};
 
+use crate::connection::Connection;
 use crate::kept::Relayed;
 use crate::relaying::relay;
 use crate::slot::Slot;
+use crate::stage::Stage;
+use crate::step::Step;
 use claim_core::{BrokerRing, BrokerSeat};
-use connection_core::{Connection, Stage};
 use outbox_core::{Bell, OutSender};
 use std::alloc::Global;
 use ws_core::{Link, LinkFault};
@@ -20,49 +22,39 @@ const RELAYS: u32 = 32;
 
 const RELAYED_BYTES: usize = 131_072;
 
-/// What became of the outputs of a turn.
-#[derive(Clone, Copy, PartialEq, Eq)]
-pub enum PassedOn {
-    /// All that may leave was sent.
-    All,
-    /// There may be more to send at once.
-    More,
-    /// Memory was refused for one, which is kept.
-    Short,
-}
-
 impl<B: Bell> Slot<B> {
     ghost use Rattle.std.specs.Prelude.{[]};
     ghost use Rattle.desk_core.specs.Steps.{GoesOn};
     ghost use Rattle.desk_core.specs.Histories.{Idles};
     ghost use Rattle.desk_core.specs.Slots.{Served};
 
-    // Sends what may leave, until nothing more may or so much was sent. A link that has not taken all before gets nothing more.
+    // Sends what may leave, until nothing more may or so much was sent. A link that has not taken all before gets nothing more. Answers
+    // `Step::Rest` if nothing more may leave.
     pub(crate) fn pass_on<L: Link>(
         &mut self,
         alloc: Global,
         ring: &BrokerRing<OutSender<B>>,
         seat: &mut BrokerSeat<OutSender<B>>,
         link: &mut L,
-    ) -> PassedOn
+    ) -> Step
         requires { seat.old.ring ≡ ring.now }
         ensures goes { GoesOn L.sent L.received self.old seat.old link.old self.new seat.new link.new }
-        ensures pending { self.new.pending ≡ self.old.pending }
+        ensures waiting { self.new.waiting ≡ self.old.waiting }
         ensures own { seat.new.own ≡ seat.old.own }
         ensures unread { L.received link.new ≡ L.received link.old }
     {
         let mut bytes = 0usize;
         for _ in 0..RELAYS {
             if bytes >= RELAYED_BYTES || link.waits() {
-                return PassedOn::More;
+                return Step::Done;
             }
             match self.pass_one(alloc, ring, seat, link) {
                 Ok(Some(sent)) => bytes = bytes.saturating_add(sent),
-                Ok(None) => return PassedOn::All,
-                Err(_) => return PassedOn::Short,
+                Ok(None) => return Step::Rest,
+                Err(_) => return Step::Memory,
             }
         }
-        PassedOn::More
+        Step::Done
     }
 
     // Sends one output, and answers how many bytes its body has; nothing if none may leave. Once the connection no longer runs, none may.
@@ -78,7 +70,7 @@ impl<B: Bell> Slot<B> {
         ensures reads { ReadsMark seat.old seat.new }
         ensures served { Served L.sent [] self.old link.old self.new link.new }
         ensures lives { Idles L.received self.old link.old self.new link.new }
-        ensures pending { self.new.pending ≡ self.old.pending }
+        ensures waiting { self.new.waiting ≡ self.old.waiting }
         ensures unread { L.received link.new ≡ L.received link.old }
     {
         if !runs(self.connection.stage()) {

@@ -1,8 +1,18 @@
-//! A place at a desk.
+//! A place at a desk, and what is done there.
 
+ghost use Rattle.std.specs.Prelude.{◌≡◌, ◌+◌, ◌-◌, Some, None, IfSome, IsNone, IsSome, true};
+ghost use Rattle.desk_core.specs.Connections.{evicted, with_given_up, with_lost};
+ghost use Rattle.desk_core.specs.Continues.{Continues};
+ghost use Rattle.desk_core.specs.Places.{ChangedAt, KeepsWithin, PingedAt, Recounts, ServedAt, UnservedAt, counted_at, is_over_at, progress_at};
+
+use crate::ringers::Ringers;
 use crate::slot::Slot;
-use connection_core::Stage;
-use outbox_core::Bell;
+use crate::stage::Stage;
+use crate::turned::Turned;
+use claim_core::{BrokerRing, BrokerSeat};
+use outbox_core::{Bell, OutSender};
+use std::alloc::Global;
+use std::mem;
 use ws_core::Link;
 
 /// A connection at a desk, with its link.
@@ -25,30 +35,7 @@ pub enum NotAdmitted {
 pub(crate) type Place<B, L> = Option<Seated<B, L>>;
 
 impl<B: Bell, L: Link> Seated<B, L> {
-    ghost use Rattle.connection_core.specs.Connections.{with_given_up, with_lost};
-    ghost use Rattle.desk_core.specs.Histories.{Idles};
     ghost use Rattle.desk_core.specs.Holdings.{IsHeld};
-    ghost use Rattle.desk_core.specs.Places.{IsChanged};
-    ghost use Rattle.desk_core.specs.Slots.{Unserved};
-    ghost use Rattle.ws_core.specs.Sending.{IsPinged};
-
-    // Its link is over.
-    pub(crate) fn lose(&mut self)
-        ensures is { IsChanged with_lost self.old self.new }
-        ensures unserved { Unserved L.sent self.old.slot self.old.link self.new.slot self.new.link }
-        ensures lives { Idles L.received self.old.slot self.old.link self.new.slot self.new.link }
-    {
-        self.slot.connection.lose();
-    }
-
-    // It is given up.
-    pub(crate) fn give_up(&mut self)
-        ensures is { IsChanged with_given_up self.old self.new }
-        ensures unserved { Unserved L.sent self.old.slot self.old.link self.new.slot self.new.link }
-        ensures lives { Idles L.received self.old.slot self.old.link self.new.slot self.new.link }
-    {
-        self.slot.connection.give_up();
-    }
 
     // How many bytes are kept for it, and none once its link is over.
     pub(crate) fn held(&self) -> u64
@@ -59,14 +46,108 @@ impl<B: Bell, L: Link> Seated<B, L> {
             _ => self.slot.held().saturating_add(self.link.held()),
         }
     }
+}
 
-    // Sends its client a ping.
-    pub(crate) fn ping(&mut self)
-        ensures pinged { IsPinged L.pings L.refuses L.flushes self.old.link self.new.link }
-        ensures unserved { Unserved L.sent self.old.slot self.old.link self.new.slot self.new.link }
-        ensures lives { Idles L.received self.old.slot self.old.link self.new.slot self.new.link }
-    {
-        let _ = self.link.ping();
-        let _ = self.link.flush();
+// A turn of the connection that sits there, if one does. Its session may have what the others of the desk leave: so many bytes are counted
+// for all of them, which may have `limit`.
+pub fn turn_at<B: Bell, M: Ringers<B>, L: Link>(
+    alloc: Global,
+    ring: &BrokerRing<OutSender<B>>,
+    seat: &mut BrokerSeat<OutSender<B>>,
+    place: &mut Place<B, L>,
+    ringers: &M,
+    counted: &mut u64,
+    limit: u64,
+) -> Option<Turned>
+    requires ring { seat.old.ring ≡ ring.now }
+    requires keeps { KeepsWithin limit counted.old place.old }
+    ensures continues { Continues (progress_at place.old) seat.old (progress_at place.new) seat.new }
+    ensures served { IfSome result (λ turned. ServedAt L.sent L.received (limit - counted.old + counted_at place.old) place.old seat.old place.new seat.new turned) }
+    ensures counts { Recounts limit counted.old place.old counted.new place.new }
+    ensures none { IsNone result → (place.new ≡ place.old) × (seat.new ≡ seat.old) }
+    ensures some { IsSome place.old → IsSome result }
+{
+    match place {
+        Some(seated) => {
+            let before = seated.slot.counted();
+            let others = *counted - before;
+            seated.slot.allow(limit - others);
+            let turned = seated
+                .slot
+                .turn(alloc, ring, seat, &mut seated.link, ringers);
+            *counted = others + seated.slot.counted();
+            Some(turned)
+        }
+        None => None,
     }
+}
+
+// The link there is over.
+pub fn lose_at<B: Bell, L: Link>(place: &mut Place<B, L>)
+    ensures is { ChangedAt with_lost place.old place.new }
+    ensures unserved { UnservedAt L.sent L.received place.old place.new }
+{
+    if let Some(seated) = place {
+        seated.slot.connection.lose();
+    }
+}
+
+// The connection there is given up.
+pub fn give_up_at<B: Bell, L: Link>(place: &mut Place<B, L>)
+    ensures is { ChangedAt with_given_up place.old place.new }
+    ensures unserved { UnservedAt L.sent L.received place.old place.new }
+{
+    if let Some(seated) = place {
+        seated.slot.connection.give_up();
+    }
+}
+
+// The connection there is evicted.
+pub fn evict_at<B: Bell, L>(alloc: Global, place: &mut Place<B, L>)
+    ensures { ChangedAt evicted place.old place.new }
+{
+    if let Some(seated) = place {
+        seated.slot.evict(alloc);
+    }
+}
+
+// Sends the client there a ping.
+pub fn ping_at<B: Bell, L: Link>(place: &mut Place<B, L>)
+    ensures pinged { PingedAt L.pings L.refuses L.flushes place.old place.new }
+    ensures unserved { UnservedAt L.sent L.received place.old place.new }
+{
+    if let Some(seated) = place {
+        let _ = seated.link.ping();
+        let _ = seated.link.flush();
+    }
+}
+
+// If a connection there has ended, it sits there no more.
+pub fn vacate<B: Bell, L>(place: &mut Place<B, L>) -> Place<B, L>
+    ensures taken { IsSome result → (result ≡ place.old) × (place.new ≡ None) × (is_over_at place.old ≡ true) }
+    ensures left { IsNone result → place.new ≡ place.old }
+    ensures over { is_over_at place.old ≡ true → IsSome result }
+{
+    if is_over(place) {
+        mem::take(place)
+    } else {
+        None
+    }
+}
+
+// Whether a connection there has ended.
+fn is_over<B: Bell, L>(place: &Place<B, L>) -> bool
+    ensures { result ≡ is_over_at place.now }
+{
+    match place {
+        Some(seated) => seated.slot.is_over(),
+        None => false,
+    }
+}
+
+// From now on that connection sits there.
+pub fn take_place<B: Bell, L: Drop>(place: &mut Place<B, L>, seated: Seated<B, L>)
+    ensures { place.new ≡ Some seated }
+{
+    drop(mem::replace(place, Some(seated)));
 }

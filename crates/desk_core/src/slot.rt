@@ -1,33 +1,41 @@
 //! One connection at a seat, with its outbox.
 
-ghost use Rattle.std.specs.Prelude.{◌≡◌, None};
-ghost use Rattle.connection_core.specs.Conversations.{number_in};
+ghost use Rattle.std.specs.Prelude.{◌≡◌, None, Some};
+ghost use Rattle.desk_core.specs.Progress.{number_in};
+ghost use Rattle.command_core.specs.Entries.{EntryValue};
+ghost use Rattle.outbox_core.specs.Boxes.{SenderValue};
+ghost use Rattle.desk_core.specs.Boxes.{HasBox};
 ghost use Rattle.desk_core.specs.Keeping.{KeepsOwn, WaitsNext};
 
+use crate::connection::Connection;
 use crate::kept::Kept;
-use crate::pending::Pending;
-use connection_core::{Connection, Stage};
-use outbox_core::{Bell, OutTaker};
+use crate::stage::Stage;
+use crate::weights::weigh_op;
+use command_core::Entry;
+use outbox_core::{Bell, OutSender, OutTaker};
 use std::alloc::Global;
 
 /// One connection at a seat, with its outbox. Its link is lent to each turn.
 #[derive(Drop)]
 pub struct Slot<B: Bell> {
     pub(crate) connection: Connection,
-    // An entry that found the window full.
-    pub(crate) pending: Option<Pending<B>>,
+    // The entry of the next command, which found the window full.
+    pub(crate) waiting: Option<Entry<OutSender<B>>>,
+    // The taking end of its box, if it is an Open's.
+    pub(crate) opening: Option<OutTaker>,
     // Where its outputs wait, once its Open is appended.
     pub(crate) outbox: Option<OutTaker>,
     pub(crate) kept: Kept,
     ghost opened: { number_in connection.progress ≡ None → outbox ≡ None },
     ghost own: { KeepsOwn connection kept },
-    ghost next: { WaitsNext connection pending },
+    ghost next: { WaitsNext connection waiting },
+    ghost boxed: { (entry : EntryValue SenderValue) → waiting ≡ Some entry → HasBox entry opening },
 }
 
 impl<B: Bell> Slot<B> {
     ghost use Rattle.std.specs.Prelude.{◌≤◌};
-    ghost use Rattle.connection_core.specs.Connections.{evicted, with_room};
-    ghost use Rattle.connection_core.specs.Footprints.{IsFootprint};
+    ghost use Rattle.desk_core.specs.Connections.{evicted, with_room};
+    ghost use Rattle.desk_core.specs.Footprints.{IsFootprint};
     ghost use Rattle.desk_core.specs.Holdings.{IsKept, MayWait, entry_weight};
     ghost use Rattle.desk_core.specs.Places.{is_over};
     ghost use Rattle.desk_core.specs.Slots.{IsNew};
@@ -39,7 +47,8 @@ impl<B: Bell> Slot<B> {
     {
         Slot {
             connection: Connection::new(alloc, limit),
-            pending: None,
+            waiting: None,
+            opening: None,
             outbox: None,
             kept: Kept::Nothing,
         }
@@ -58,7 +67,7 @@ impl<B: Bell> Slot<B> {
         requires least { self.old.connection.footprint.counted ≤ room }
         requires most { room ≤ self.old.connection.footprint.limit }
         ensures allows { self.new.connection ≡ with_room room self.old.connection }
-        ensures same { (self.new.pending ≡ self.old.pending) × (self.new.outbox ≡ self.old.outbox) × (self.new.kept ≡ self.old.kept) }
+        ensures same { (self.new.waiting ≡ self.old.waiting) × (self.new.opening ≡ self.old.opening) × (self.new.outbox ≡ self.old.outbox) × (self.new.kept ≡ self.old.kept) }
     {
         self.connection.allow(room);
     }
@@ -84,10 +93,10 @@ impl<B: Bell> Slot<B> {
 
     // What the entry counts for that waits.
     fn entry_bytes(&self) -> u64
-        ensures { result ≡ entry_weight self.now.pending }
+        ensures { result ≡ entry_weight self.now.waiting }
     {
-        match &self.pending {
-            Some(pending) => pending.bytes,
+        match &self.waiting {
+            Some(entry) => weigh_op(entry.command().op(), entry.command().receipt()),
             None => 0,
         }
     }
@@ -95,7 +104,7 @@ impl<B: Bell> Slot<B> {
     // It is evicted: its link is over, and what its client has asked for is dropped, but for the entry that waits.
     pub(crate) fn evict(&mut self, alloc: Global)
         ensures evicted { self.new.connection ≡ evicted self.old.connection }
-        ensures same { (self.new.pending ≡ self.old.pending) × (self.new.outbox ≡ self.old.outbox) × (self.new.kept ≡ self.old.kept) }
+        ensures same { (self.new.waiting ≡ self.old.waiting) × (self.new.opening ≡ self.old.opening) × (self.new.outbox ≡ self.old.outbox) × (self.new.kept ≡ self.old.kept) }
     {
         self.connection.evict(alloc);
     }

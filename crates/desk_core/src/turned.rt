@@ -1,6 +1,6 @@
 //! What a turn of a connection came to.
 
-use connection_core::Ended;
+use crate::ended::Ended;
 
 /// What a turn of a connection came to, and what it waits for.
 #[derive(Clone, Copy)]

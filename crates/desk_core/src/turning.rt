@@ -3,35 +3,23 @@
 ghost use Rattle.std.specs.Prelude.{◌≡◌, ◌≢◌, false};
 ghost use Rattle.desk_core.specs.Answers.{IsPressing};
 
-use crate::appending::Step;
-use crate::passing::PassedOn;
+use crate::ended::Ended;
 use crate::ringers::Ringers;
 use crate::slot::Slot;
+use crate::stage::Stage;
+use crate::step::Step;
 use crate::turned::{Next, Turned};
 use claim_core::{BrokerRing, BrokerSeat};
-use connection_core::{Ended, Stage};
 use outbox_core::{Bell, OutSender};
 use std::alloc::Global;
 use ws_core::{CloseReason, Link, LinkFault, Received};
 
-// What a turn has heard of its client.
-#[derive(Clone, Copy)]
-enum Hearing {
-    /// Something came.
-    Something,
-    /// Its link has nothing to give now.
-    Nothing,
-    /// It was not read, since something else was to be done first.
-    Unread,
-}
-
 impl<B: Bell> Slot<B> {
     ghost use Rattle.std.specs.Prelude.{◌≢◌, None, true};
-    ghost use Rattle.desk_core.specs.Answers.{Answers, AwaitsBy, IsRest, IsSatisfied};
-    ghost use Rattle.desk_core.specs.declared.appending.Step.{Step};
-    ghost use Rattle.desk_core.specs.declared.turning.Hearing.TheVariants.{Something};
-    ghost use Rattle.connection_core.specs.Connections.{Listens};
-    ghost use Rattle.connection_core.specs.declared.stage.Stage.TheVariants.{Running};
+    ghost use Rattle.desk_core.specs.Answers.{Answers, AwaitsBy, Heard, IsRest, IsSatisfied};
+    ghost use Rattle.desk_core.specs.declared.step.Step.{Step};
+    ghost use Rattle.desk_core.specs.Connections.{Listens};
+    ghost use Rattle.desk_core.specs.declared.stage.Stage.TheVariants.{Running};
     ghost use Rattle.desk_core.specs.Steps.{GoesOn};
     ghost use Rattle.desk_core.specs.Histories.{Idles};
     ghost use Rattle.desk_core.specs.Slots.{Unserved};
@@ -53,82 +41,83 @@ impl<B: Bell> Slot<B> {
         ensures goes { GoesOn L.sent L.received self.old seat.old link.old self.new seat.new link.new }
         ensures answers { Answers L.received result seat.old link.old self.new seat.new link.new }
     {
-        let heard = self.read(alloc, link);
-        let executed = self.execute(alloc, ring, seat, link, ringers);
-        let passed_on = self.pass_on(alloc, ring, seat, link);
+        let (heard, read) = self.read(alloc, link);
+        let (appended, acted) = self.execute(alloc, ring, seat, link, ringers);
+        let passed = self.pass_on(alloc, ring, seat, link);
         let is_short = self.finish(link);
-        let lacks = is_short || passed_on == PassedOn::Short;
+        let lacks = is_short || matches!(passed, Step::Memory);
         // A client that was not read may have sent something of which nothing will tell again.
-        let more = !matches!(heard, Hearing::Nothing) || passed_on == PassedOn::More;
+        let more = !matches!(read, Step::Rest) || matches!(passed, Step::Done);
         Turned {
-            appended: executed.appended,
-            heard: is_something(heard),
-            next: self.next(lacks, more, executed.last, link.waits()),
+            appended,
+            heard,
+            next: self.next(lacks, more, acted, link.waits()),
         }
     }
 
-    // Reads once, if nothing else is to be done first, and answers what came. After its own close it waits for the peer's.
-    fn read<L: Link>(&mut self, alloc: Global, link: &mut L) -> Hearing
+    // Reads once, if nothing else is to be done first. Answers whether something came, and `Step::Rest` if its link has nothing to give
+    // now. After its own close it waits for the peer's.
+    fn read<L: Link>(&mut self, alloc: Global, link: &mut L) -> (bool, Step)
         ensures unserved { Unserved L.sent self.old link.old self.new link.new }
         ensures lives { Idles L.received self.old link.old self.new link.new }
-        ensures heard { result ≢ Something → L.received link.new ≡ L.received link.old }
+        ensures heard { Heard L.received result.0 link.old link.new }
     {
         if matches!(self.connection.stage(), Stage::Parting(_)) {
             return self.await_close(alloc, link);
         }
-        if !self.connection.listens() || self.pending.is_some() {
-            return Hearing::Unread;
+        if !self.connection.listens() || self.waiting.is_some() {
+            return (false, Step::Done);
         }
         if self.kept.is_unsent() || link.waits() {
-            return Hearing::Unread;
+            return (false, Step::Done);
         }
         self.listen(alloc, link)
     }
 
     // Hears what came.
-    fn listen<L: Link>(&mut self, alloc: Global, link: &mut L) -> Hearing
+    fn listen<L: Link>(&mut self, alloc: Global, link: &mut L) -> (bool, Step)
         requires listens { Listens self.old.connection }
-        requires nothing { self.old.pending ≡ None }
+        requires nothing { self.old.waiting ≡ None }
         ensures unserved { Unserved L.sent self.old link.old self.new link.new }
         ensures lives { Idles L.received self.old link.old self.new link.new }
-        ensures heard { result ≢ Something → L.received link.new ≡ L.received link.old }
+        ensures heard { Heard L.received result.0 link.old link.new }
     {
         match link.receive(alloc) {
             Received::Bytes(bytes) => {
                 let _ = self.connection.hear(alloc, bytes.as_slice());
-                Hearing::Something
+                (true, Step::Done)
             }
-            Received::Skipped => Hearing::Something,
-            Received::Nothing => Hearing::Nothing,
+            Received::Skipped => (true, Step::Done),
+            Received::Nothing => (false, Step::Rest),
             Received::Failed => {
                 self.connection.give_up();
-                Hearing::Something
+                (true, Step::Done)
             }
             Received::Closed => {
                 self.connection.lose();
-                Hearing::Nothing
+                (false, Step::Rest)
             }
         }
     }
 
     // Drops what came after its own close.
-    fn await_close<L: Link>(&mut self, alloc: Global, link: &mut L) -> Hearing
+    fn await_close<L: Link>(&mut self, alloc: Global, link: &mut L) -> (bool, Step)
         requires { self.old.connection.stage ≢ Running }
         ensures unserved { Unserved L.sent self.old link.old self.new link.new }
         ensures lives { Idles L.received self.old link.old self.new link.new }
-        ensures heard { result ≢ Something → L.received link.new ≡ L.received link.old }
+        ensures heard { Heard L.received result.0 link.old link.new }
     {
         match link.receive(alloc) {
             Received::Closed => {
                 self.connection.lose();
-                Hearing::Nothing
+                (false, Step::Rest)
             }
-            Received::Nothing => Hearing::Nothing,
-            Received::Skipped => Hearing::Something,
-            Received::Failed => Hearing::Something,
+            Received::Nothing => (false, Step::Rest),
+            Received::Skipped => (true, Step::Done),
+            Received::Failed => (true, Step::Done),
             Received::Bytes(bytes) => {
                 drop(bytes);
-                Hearing::Something
+                (true, Step::Done)
             }
         }
     }
@@ -205,7 +194,7 @@ impl<B: Bell> Slot<B> {
     fn is_satisfied(&self) -> bool
         ensures { result ≡ true → IsSatisfied self.now }
     {
-        self.pending.is_none() && self.connection.listens()
+        self.waiting.is_none() && self.connection.listens()
     }
 
     // What a connection that runs and has nothing to do waits for.
@@ -228,17 +217,10 @@ fn pressing(lacks: bool, last: Step) -> Next
         return Next::Memory;
     }
     match last {
-        Step::Short => Next::Memory,
-        Step::Full(mark) => Next::Room(mark),
+        Step::Memory => Next::Memory,
+        Step::Room(mark) => Next::Room(mark),
         Step::Appended | Step::Done | Step::Rest => Next::Go,
     }
-}
-
-// Whether something came.
-fn is_something(heard: Hearing) -> bool
-    ensures { result ≡ false → heard ≢ Hearing.Something }
-{
-    matches!(heard, Hearing::Something)
 }
 
 // Why a connection that ends so is closed (RFC 6455, section 7.4.1).

@@ -3,13 +3,13 @@ use Rattle.std.proofs.Common.{◌≡◌, ◌++◌, ◌∷◌, [], ℕ, List, Opt
 use Rattle.std.specs.List.{AllByRecursion}
 use Rattle.claim_core.specs.Counts.{Pair}
 use Rattle.claim_core.specs.Seats.{SessionSeatValue}
-use Rattle.connection_core.specs.Connections.{ConnectionValue}
-use Rattle.connection_core.specs.Conversations.{number_in}
-use Rattle.connection_core.specs.declared.ended.Ended as connections
-use Rattle.connection_core.specs.declared.ended.Ended.TheVariants as ends
-use Rattle.connection_core.specs.declared.progress.Progress.{Progress}
-use Rattle.connection_core.specs.declared.progress.Progress.TheVariants.{New}
-use Rattle.connection_core.specs.declared.stage.Stage.TheVariants.{Over}
+use Rattle.desk_core.specs.Connections.{ConnectionValue}
+use Rattle.desk_core.specs.Progress.{number_in}
+use Rattle.desk_core.specs.declared.ended.Ended as connections
+use Rattle.desk_core.specs.declared.ended.Ended.TheVariants as ends
+use Rattle.desk_core.specs.declared.progress.Progress.{Progress}
+use Rattle.desk_core.specs.declared.progress.Progress.TheVariants.{New}
+use Rattle.desk_core.specs.declared.stage.Stage.TheVariants.{Over}
 use Rattle.desk_core.specs.Answers.{Awaits, GoesOnYet}
 use Rattle.desk_core.specs.declared.turned.Next.{Next}
 use Rattle.desk_core.specs.declared.turned.Next.TheVariants as nexts

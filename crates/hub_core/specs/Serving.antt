@@ -2,9 +2,9 @@
 use Rattle.std.specs.Prelude.{◌≡◌, ◌++◌, ℕ, List, Option, Some, map, option_map}
 use Rattle.std.specs.List.{AllByRecursion}
 use Rattle.claim_core.specs.Seats.{SessionSeatValue}
-use Rattle.connection_core.specs.declared.ended.Ended as connections
-use Rattle.connection_core.specs.declared.ended.Ended.TheVariants as ends
-use Rattle.connection_core.specs.declared.stage.Stage.TheVariants.{Over}
+use Rattle.desk_core.specs.declared.ended.Ended as connections
+use Rattle.desk_core.specs.declared.ended.Ended.TheVariants as ends
+use Rattle.desk_core.specs.declared.stage.Stage.TheVariants.{Over}
 use Rattle.desk_core.specs.Answers.{GoesOnYet}
 use Rattle.desk_core.specs.Conversations.{IsConversation}
 use Rattle.desk_core.specs.Effects.{Effect, commands_of, told_of}

@@ -20,14 +20,14 @@ pub enum Ended {
 
 impl Ended {
     // That of a worker whose connection has ended so.
-    pub(crate) fn of(ended: connection_core::Ended) -> Ended
+    pub(crate) fn of(ended: desk_core::Ended) -> Ended
         ensures { result ≡ end_of ended }
     {
         match ended {
-            connection_core::Ended::Bye => Ended::Bye,
-            connection_core::Ended::Lost => Ended::Lost,
-            connection_core::Ended::Bad => Ended::Bad,
-            connection_core::Ended::Stopped => Ended::Stopped,
+            desk_core::Ended::Bye => Ended::Bye,
+            desk_core::Ended::Lost => Ended::Lost,
+            desk_core::Ended::Bad => Ended::Bad,
+            desk_core::Ended::Stopped => Ended::Stopped,
         }
     }
 }

@@ -20,7 +20,7 @@ use crate::wakeups::Wakeups;
 use crate::worker::WorkerThread;
 use crate::worker_setup::WorkerSetup;
 use claim_core::SEATS;
-use connection_core::SESSION_BYTES;
+use desk_core::SESSION_BYTES;
 use disk_core::FileDisk;
 use event_log::{Event, ServeFault, Start};
 use flush_core::FlushFault;

@@ -25,9 +25,9 @@ use Rattle.broker_state.proofs.Lookups.{none_found}
 use Rattle.broker_laws.proofs.Ordered.{step_in_order}
 use Rattle.broker_laws.proofs.SubscriptionLimits.{step_limits}
 use Rattle.broker_laws.proofs.Walk.{Gives}
-use Rattle.connection_core.specs.declared.footprint.Part.{Part}
-use Rattle.connection_core.specs.Footprints.{charged, footprint, has_id, parts_of, standing}
-use Rattle.connection_core.proofs.Footprints.{charges}
+use Rattle.desk_core.specs.declared.footprint.Part.{Part}
+use Rattle.desk_core.specs.Footprints.{charged, footprint, has_id, parts_of, standing}
+use Rattle.desk_core.proofs.Footprints.{charges}
 use Rattle.snapshot_room.specs.Desks.{operations_of, session_of}
 use Rattle.snapshot_room.specs.Sessions.{bytes_of_session, subscribing_of}
 use Rattle.snapshot_room.proofs.Taken.{Ids, of_session, of_subscription, others, taken, weigh, weight, weight_left}

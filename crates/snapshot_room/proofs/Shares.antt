@@ -2,7 +2,7 @@
 use Rattle.std.proofs.Common.{◌≡◌, ◌≤◌, ◌+◌, ◌*◌, ◌-◌, ◌/◌, ℕ, inl, inr, max, min, subst, arith}
 use Rattle.std.proofs.lemmas.Bool.{cases_lt}
 use Rattle.std.proofs.Math.Nat.{mul-div-le}
-use Rattle.connection_core.specs.declared.footprint.TheConstants.{SESSION_BYTES}
+use Rattle.desk_core.specs.declared.footprint.TheConstants.{SESSION_BYTES}
 use Rattle.snapshot_room.specs.Desks.{limit_of}
 use Rattle.snapshot_room.specs.declared.limit.TheConstants.{HELD_BYTES}
 

@@ -34,7 +34,7 @@ use Rattle.broker_laws.proofs.Counts.{sum_mapped, sum_with_first}
 use Rattle.broker_laws.proofs.Deliveries.{made, settling_keeps, sum_picked}
 use Rattle.broker_laws.proofs.Picked.{picked_nothing}
 use Rattle.broker_laws.proofs.Walk.{Gives}
-use Rattle.connection_core.specs.Footprints.{parts_of}
+use Rattle.desk_core.specs.Footprints.{parts_of}
 use Rattle.snapshot_room.specs.Sessions.{subscribing_of}
 use Rattle.snapshot_room.proofs.Taken.{Ids, all_others, less_filtered, less_removed, more_inserted, none_left, of_session, of_subscription, others, taken, weight}
 

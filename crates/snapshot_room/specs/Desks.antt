@@ -3,8 +3,8 @@ use Rattle.std.specs.Prelude.{◌==◌, ◌+◌, ◌*◌, ◌-◌, ◌/◌, ◌<
 use Rattle.std.specs.List.{sum_by}
 use Rattle.command_core.specs.declared.command.Op.{Op}
 use Rattle.command_core.specs.Commands.{CommandValue}
-use Rattle.connection_core.specs.declared.footprint.TheConstants.{SESSION_BYTES}
-use Rattle.connection_core.specs.Footprints.{footprint}
+use Rattle.desk_core.specs.declared.footprint.TheConstants.{SESSION_BYTES}
+use Rattle.desk_core.specs.Footprints.{footprint}
 use Rattle.broker_state.specs.Steps.{is_opening}
 use Rattle.broker_state.specs.States.{State}
 use Rattle.snapshot_room.specs.declared.limit.TheConstants.{HELD_BYTES}

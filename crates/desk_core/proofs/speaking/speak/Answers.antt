@@ -1,8 +1,7 @@
 use Rattle.std.proofs.Common.{◌≡◌, ◌∙◌, ap, sym, subst}
-use Rattle.connection_core.specs.Connections.{ConnectionValue, with_appended}
-use Rattle.connection_core.specs.Conversations.{after, role_of}
-use Rattle.connection_core.specs.declared.progress.Progress.{Progress}
-use Rattle.connection_core.specs.declared.said.Said.{Said}
+use Rattle.desk_core.specs.Connections.{ConnectionValue, with_appended}
+use Rattle.desk_core.specs.Progress.{after, is_last, role_of}
+use Rattle.desk_core.specs.declared.progress.Progress.{Progress}
 use Rattle.desk_core.specs.Continues.{Continues}
 use Rattle.desk_core.proofs.Answering.{wider}
 use Rattle.desk_core.proofs.Talking.{said, unsaid}
@@ -12,8 +11,7 @@ pub returns-in-Ok-clause-continues : goal.returns-in-Ok-clause-continues
 returns-in-Ok-clause-continues g c =
     let was = c.args.connection.now.progress in
     let command = c.args.entry.command in
-    let role : c.args.said.role ≡ role_of command.op = ap (λ (s : Said). s.role) c.requires.said in
-    let is : c.appended.new.self.progress ≡ after was (role_of command.op) c.in-Ok.ticket = ap (λ (x : ConnectionValue). x.progress) c.appended.ensures ∙ ap (λ r. after was r c.in-Ok.ticket) role in
+    let is : c.appended.new.self.progress ≡ after was (role_of command.op) c.in-Ok.ticket = ap (λ (x : ConnectionValue). x.progress) c.appended.ensures in
     subst (λ (p : Progress). Continues was c.args.seat.now p c.append_within.new.seat) (sym is) (said was c.in-Ok.ticket _ command c.args.seat.now c.append_within.new.seat c.requires.next c.in-Ok.ensures.ok)
 
 pub returns-in-Err-clause-continues : goal.returns-in-Err-clause-continues
@@ -23,5 +21,5 @@ pub returns-in-Ok-clause-spoken : goal.returns-in-Ok-clause-spoken
 returns-in-Ok-clause-spoken g c = record {
   appends = wider c.args.window _ c.args.seat.now c.append_within.new.seat c.in-Ok.ticket c.args.entry.command c.requires.window c.in-Ok.ensures.ok;
   next = c.requires.next;
-  connection = c.appended.ensures ∙ ap (λ (s : Said). with_appended c.args.connection.now s c.in-Ok.ticket) c.requires.said;
+  connection = c.appended.ensures;
 }

@@ -1,5 +1,5 @@
 use Rattle.std.proofs.Common.{ap, arith, refl, subst, ◌∙◌}
-use Rattle.connection_core.specs.Connections.{ConnectionValue}
+use Rattle.desk_core.specs.Connections.{ConnectionValue}
 use Rattle.desk_core.specs.Places.{progress_at}
 use Rattle.desk_core.specs.Desks.{DeskValue, seated_at}
 use Rattle.desk_core.specs.Slots.{IsNew}

@@ -1,5 +1,5 @@
 use Rattle.std.proofs.Common.{ap, arith, length, refl}
-use Rattle.connection_core.specs.Connections.{evicted}
+use Rattle.desk_core.specs.Connections.{evicted}
 use Rattle.desk_core.specs.Desks.{DeskValue}
 use Rattle.desk_core.proofs.Counting.{as_changed, counted_same}
 use Rattle.desk_core.proofs.Standing.{changed_progress, changes, changes_none, unmoved}

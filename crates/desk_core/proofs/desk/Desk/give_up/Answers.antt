@@ -1,5 +1,5 @@
 use Rattle.std.proofs.Common.{ap, arith, length, refl}
-use Rattle.connection_core.specs.Connections.{with_given_up}
+use Rattle.desk_core.specs.Connections.{with_given_up}
 use Rattle.desk_core.specs.Desks.{DeskValue}
 use Rattle.desk_core.proofs.Counting.{as_changed, counted_same}
 use Rattle.desk_core.proofs.Standing.{changes, changes_none, same_progress, touches, touches_none, unmoved}

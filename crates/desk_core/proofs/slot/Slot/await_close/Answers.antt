@@ -20,10 +20,10 @@ pub returns-in-Bytes-clause-lives : goal.returns-in-Bytes-clause-lives
 returns-in-Bytes-clause-lives g c = heeds_unheard g.L.Outgoing.received c.args.self.now _ _ _ c.in-Bytes.bytes.items c.in-Bytes.ensures.read c.requires (same_stage _ _ refl) refl
 
 pub returns-in-Closed-clause-heard : goal.returns-in-Closed-clause-heard
-returns-in-Closed-clause-heard g c = λ other. no_more _ _ c.in-Closed.ensures.read
+returns-in-Closed-clause-heard g c = no_more _ _ c.in-Closed.ensures.read
 
 pub returns-in-Nothing-clause-heard : goal.returns-in-Nothing-clause-heard
-returns-in-Nothing-clause-heard g c = λ other. no_more _ _ c.in-Nothing.ensures.read
+returns-in-Nothing-clause-heard g c = no_more _ _ c.in-Nothing.ensures.read
 
 pub invariant_of-self-clause-next : goal.invariant_of-self-clause-next
 invariant_of-self-clause-next g c = waits_still _ _ _ _ (loses _ _ c.lose.ensures).restaged refl c.args.self.now.next

@@ -1,6 +1,6 @@
 use Rattle.std.proofs.Common.{ap, sym, ◌∙◌}
-use Rattle.connection_core.specs.Connections.{ConnectionValue}
-use Rattle.connection_core.specs.Conversations.{number_in}
+use Rattle.desk_core.specs.Connections.{ConnectionValue}
+use Rattle.desk_core.specs.Progress.{number_in}
 use Rattle.desk_core.proofs.Evicting.{evicted_own, evicted_waits}
 use Rattle.desk_core.proofs.slot.Slot.evict.Goals as goal
 

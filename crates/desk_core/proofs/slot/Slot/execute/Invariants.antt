@@ -1,12 +1,11 @@
 use Rattle.std.proofs.Common.{◌≡◌}
-use Rattle.desk_core.specs.Answers.{Appended, Leaves}
+use Rattle.desk_core.specs.Answers.{Appended}
 use Rattle.desk_core.specs.Steps.{GoesOn}
 use Rattle.desk_core.proofs.slot.Slot.execute.Given as goal
 
 abbrev pub invariant-loop : goal.invariant-loop
 invariant-loop g l = record {
   goes : GoesOn g.L.Outgoing.sent g.L.Outgoing.received l.fn.self l.fn.seat l.fn.link l.self l.seat l.link;
-  grows : Appended l.executed.appended l.fn.seat l.seat;
-  leaves : Leaves l.executed.last l.self.pending;
+  grows : Appended l.appended l.fn.seat l.seat;
   unread : g.L.Outgoing.received l.link ≡ g.L.Outgoing.received l.fn.link;
 }

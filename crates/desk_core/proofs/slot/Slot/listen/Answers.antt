@@ -1,6 +1,6 @@
 use Rattle.std.proofs.Common.{refl, subst, List, ℕ}
 use Rattle.std.specs.Prelude.{OnOk}
-use Rattle.connection_core.specs.Connections.{HearsBytes}
+use Rattle.desk_core.specs.Connections.{HearsBytes}
 use Rattle.desk_core.proofs.Answering.{no_more}
 use Rattle.desk_core.proofs.Going.{heeds_bytes, heeds_silence}
 use Rattle.desk_core.proofs.Living.{gives_up, loses, same_stage}
@@ -24,7 +24,7 @@ pub returns-in-Closed-clause-lives : goal.returns-in-Closed-clause-lives
 returns-in-Closed-clause-lives g c = heeds_silence g.L.Outgoing.received _ _ _ _ c.in-Closed.ensures.read (loses _ _ c.lose.ensures) refl
 
 pub returns-in-Closed-clause-heard : goal.returns-in-Closed-clause-heard
-returns-in-Closed-clause-heard g c = λ other. no_more _ _ c.in-Closed.ensures.read
+returns-in-Closed-clause-heard g c = no_more _ _ c.in-Closed.ensures.read
 
 pub returns-in-Nothing-clause-heard : goal.returns-in-Nothing-clause-heard
-returns-in-Nothing-clause-heard g c = λ other. no_more _ _ c.in-Nothing.ensures.read
+returns-in-Nothing-clause-heard g c = no_more _ _ c.in-Nothing.ensures.read

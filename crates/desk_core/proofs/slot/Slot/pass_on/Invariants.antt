@@ -5,7 +5,7 @@ use Rattle.desk_core.proofs.slot.Slot.pass_on.Given as goal
 abbrev pub invariant-loop : goal.invariant-loop
 invariant-loop g l = record {
   goes : GoesOn g.L.Outgoing.sent g.L.Outgoing.received l.fn.self l.fn.seat l.fn.link l.self l.seat l.link;
-  pending : l.self.pending ≡ l.fn.self.pending;
+  waiting : l.self.waiting ≡ l.fn.self.waiting;
   own : l.seat.own ≡ l.fn.seat.own;
   unread : g.L.Outgoing.received l.link ≡ g.L.Outgoing.received l.fn.link;
 }

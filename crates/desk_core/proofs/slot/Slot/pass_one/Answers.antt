@@ -1,6 +1,6 @@
 use Rattle.std.proofs.Common.{◌≡◌, ◌∙◌, None, Some, refl, sym, ap}
-use Rattle.connection_core.specs.Connections.{ConnectionValue}
-use Rattle.connection_core.specs.Conversations.{number_in}
+use Rattle.desk_core.specs.Connections.{ConnectionValue}
+use Rattle.desk_core.specs.Progress.{number_in}
 use Rattle.desk_core.proofs.Going.{heeds_quietly}
 use Rattle.desk_core.proofs.Living.{loses, same_stage, waits_still}
 use Rattle.desk_core.proofs.Messages.{keeps_own, quiet, refused_on, relayed_on, same_number, slot_relayed, still}

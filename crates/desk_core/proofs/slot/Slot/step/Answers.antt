@@ -1,10 +1,8 @@
 use Rattle.std.proofs.Common.{◌∙◌, refl, subst, sym}
-use Rattle.connection_core.specs.Connections.{Wants, to_append}
-use Rattle.connection_core.specs.Stages.{Executes}
-use Rattle.connection_core.specs.declared.said.Said.{Said}
-use Rattle.connection_core.specs.declared.said.Wanted.TheVariants.{Append, Tell}
+use Rattle.desk_core.specs.Stages.{Executes}
+use Rattle.session_core.specs.declared.act.Act.TheVariants.{Do}
 use Rattle.desk_core.proofs.Answering.{quiet_takes}
-use Rattle.desk_core.proofs.Going.{goes_done, goes_none, goes_pending, goes_rest, goes_telling, goes_wanted, not_some, still_executes}
+use Rattle.desk_core.proofs.Going.{goes_closing, goes_none, goes_resting, goes_taken, goes_telling, goes_waiting, not_some, still_executes}
 use Rattle.desk_core.proofs.Living.{next_so}
 use Rattle.desk_core.proofs.slot.Slot.step.Goals as goal
 
@@ -13,41 +11,38 @@ returns-then-not-executes-clause-goes g c = goes_none g.L.Outgoing.sent g.L.Outg
 
 pub returns-in-Some-clause-goes : goal.returns-in-Some-clause-goes
 returns-in-Some-clause-goes g c =
-    goes_pending g.L.Outgoing.sent g.L.Outgoing.received c.args.self.now _ c.append.new.self c.args.seat.now c.append.new.seat c.args.link.now c.in-Some.pending (subst Executes c.stage.ensures (c.executes.ensures.yes c.if-not-executes.false)) (sym c.take.ensures.value ∙ c.in-Some.is)
+    goes_waiting g.L.Outgoing.sent g.L.Outgoing.received c.args.self.now _ c.append.new.self c.args.seat.now c.append.new.seat c.args.link.now c.in-Some.entry (subst Executes c.stage.ensures (c.executes.ensures.yes c.if-not-executes.false)) (sym c.take.ensures.value ∙ c.in-Some.is)
     refl refl refl c.append.ensures.continues c.append.ensures.stays (c.append.ensures.lives (subst Executes c.stage.ensures (c.executes.ensures.yes c.if-not-executes.false)))
 
-pub returns-in-Append-clause-goes : goal.returns-in-Append-clause-goes
-returns-in-Append-clause-goes g c =
+pub returns-in-Some-Do-clause-goes : goal.returns-in-Some-Do-clause-goes
+returns-in-Some-Do-clause-goes g c =
     let executes = subst Executes c.stage.ensures (c.executes.ensures.yes c.if-not-executes.false) in
-    let command = c.in-Append.command in
-    let wants : Wants c.args.self.now.connection c.next.new.self (to_append command) =
-    subst (λ (s : Said). Wants c.args.self.now.connection c.next.new.self (Append command s)) c.in-Append.ensures.form.2 c.in-Append.ensures.wants in
-    let still = still_executes c.args.self.now.connection c.next.new.self (to_append command) executes wants tt in
-    goes_wanted g.L.Outgoing.sent g.L.Outgoing.received c.args.self.now _ c.prepare.new.self c.args.seat.now c.prepare.new.seat c.args.link.now (to_append command)
-    executes still (sym c.take.ensures.value ∙ not_some c.take.result c.in_default.not-Some) wants refl refl c.prepare.ensures.continues c.prepare.ensures.stays (c.prepare.ensures.lives still)
+    let still = still_executes c.args.self.now.connection c.next.new.self c.next.result c.next.ensures.takes executes in
+    goes_taken g.L.Outgoing.sent g.L.Outgoing.received c.args.self.now _ c.request.new.self c.args.seat.now c.request.new.seat c.args.link.now (Do c.in-Some-Do.op c.in-Some-Do.receipt)
+    executes (sym c.take.ensures.value ∙ not_some c.take.result c.in_default.not-Some) c.in-Some-Do.ensures.takes refl refl c.request.ensures.continues c.request.ensures.stays (c.request.ensures.lives still)
 
-pub returns-in-Tell-clause-goes : goal.returns-in-Tell-clause-goes
-returns-in-Tell-clause-goes g c =
-    let executes = subst Executes c.stage.ensures (c.executes.ensures.yes c.if-not-executes.false) in
-    goes_telling g.L.Outgoing.sent g.L.Outgoing.received c.args.self.now _ c.tell.new.self c.args.seat.now c.args.link.now c.tell.new.link c.in-Tell.notice
-    executes (still_executes c.args.self.now.connection c.next.new.self (Tell c.in-Tell.notice) executes c.in-Tell.ensures.wants tt)
-    (sym c.take.ensures.value ∙ not_some c.take.result c.in_default.not-Some) c.in-Tell.ensures.wants refl refl c.tell.ensures.unread c.tell.ensures.ends c.tell.ensures.tells
+pub returns-in-Some-Direct-clause-goes : goal.returns-in-Some-Direct-clause-goes
+returns-in-Some-Direct-clause-goes g c =
+    goes_telling g.L.Outgoing.sent g.L.Outgoing.received c.args.self.now _ c.tell.new.self c.args.seat.now c.args.link.now c.tell.new.link c.in-Some-Direct.notice
+    (subst Executes c.stage.ensures (c.executes.ensures.yes c.if-not-executes.false))
+    (sym c.take.ensures.value ∙ not_some c.take.result c.in_default.not-Some) c.in-Some-Direct.ensures.takes refl refl c.tell.ensures.unread c.tell.ensures.ends c.tell.ensures.tells
 
-pub returns-in-Done-clause-goes : goal.returns-in-Done-clause-goes
-returns-in-Done-clause-goes g c =
-    goes_done g.L.Outgoing.sent g.L.Outgoing.received c.args.self.now _ c.args.seat.now c.args.link.now (subst Executes c.stage.ensures (c.executes.ensures.yes c.if-not-executes.false))
-    (sym c.take.ensures.value ∙ not_some c.take.result c.in_default.not-Some) c.take.ensures.after refl refl c.in-Done.ensures.wants
+pub returns-in-Some-Close-clause-goes : goal.returns-in-Some-Close-clause-goes
+returns-in-Some-Close-clause-goes g c =
+    goes_closing g.L.Outgoing.sent g.L.Outgoing.received c.args.self.now _ c.next.new.self c.args.seat.now c.args.link.now c.in-Some-Close.code (subst Executes c.stage.ensures (c.executes.ensures.yes c.if-not-executes.false))
+    (sym c.take.ensures.value ∙ not_some c.take.result c.in_default.not-Some) c.take.ensures.after refl refl c.in-Some-Close.ensures.takes c.close.ensures
 
-pub returns-in-Rest-clause-goes : goal.returns-in-Rest-clause-goes
-returns-in-Rest-clause-goes g c =
-    goes_rest g.L.Outgoing.sent g.L.Outgoing.received c.args.self.now _ c.args.seat.now c.args.link.now (subst Executes c.stage.ensures (c.executes.ensures.yes c.if-not-executes.false))
-    (sym c.take.ensures.value ∙ not_some c.take.result c.in_default.not-Some) c.take.ensures.after refl refl c.in-Rest.ensures.wants
+pub returns-in-None-clause-goes : goal.returns-in-None-clause-goes
+returns-in-None-clause-goes g c =
+    goes_resting g.L.Outgoing.sent g.L.Outgoing.received c.args.self.now _ c.next.new.self c.args.seat.now c.args.link.now (subst Executes c.stage.ensures (c.executes.ensures.yes c.if-not-executes.false))
+    (sym c.take.ensures.value ∙ not_some c.take.result c.in_default.not-Some) c.take.ensures.after refl refl c.in-None.ensures.takes c.rest.ensures
 
-pub returns-in-Tell-clause-takes : goal.returns-in-Tell-clause-takes
-returns-in-Tell-clause-takes g c = quiet_takes c.tell.result _ c.args.seat.now c.tell.ensures.quiet
+pub returns-in-Some-Direct-clause-takes : goal.returns-in-Some-Direct-clause-takes
+returns-in-Some-Direct-clause-takes g c = quiet_takes c.tell.result _ c.args.seat.now c.tell.ensures.quiet
 
 pub append-requires-clause-may : goal.append-requires-clause-may
 append-requires-clause-may g c = record {
   nothing = c.take.ensures.after;
-  next = next_so c.args.self.now.connection.progress c.in-Some.pending.entry.command (c.args.self.now.next c.in-Some.pending (sym c.take.ensures.value ∙ c.in-Some.is) (subst Executes c.stage.ensures (c.executes.ensures.yes c.if-not-executes.false)));
+  next = next_so c.args.self.now.connection.progress c.in-Some.entry.command (c.args.self.now.next c.in-Some.entry (sym c.take.ensures.value ∙ c.in-Some.is) (subst Executes c.stage.ensures (c.executes.ensures.yes c.if-not-executes.false)));
+  boxed = c.args.self.now.boxed c.in-Some.entry (sym c.take.ensures.value ∙ c.in-Some.is);
 }

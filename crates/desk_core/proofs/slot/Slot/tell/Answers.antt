@@ -1,9 +1,8 @@
 use Rattle.std.proofs.Common.{◌∙◌, inr, refl, subst, sym, ap}
-use Rattle.connection_core.specs.Connections.{ConnectionValue}
-use Rattle.connection_core.specs.declared.said.Wanted.TheVariants.{Tell}
+use Rattle.desk_core.specs.Connections.{ConnectionValue}
 use Rattle.session_core.specs.declared.act.Act.TheVariants.{Direct}
 use Rattle.desk_core.specs.Halting.{HasHalted}
-use Rattle.desk_core.specs.Histories.{HasTold}
+use Rattle.desk_core.specs.Histories.{HasTold, Taken}
 use Rattle.desk_core.proofs.Going.{again_so, keeps_same, tells_later, tells_nobody, tells_told}
 use Rattle.desk_core.proofs.Living.{closes_over, loses, none_told_leaving, none_told_lost, same_stage, told_where}
 use Rattle.desk_core.proofs.Messages.{quiet, still, told_one}
@@ -31,7 +30,7 @@ returns-in-Err-Gone-clause-tells g c =
 pub returns-in-Err-Memory-clause-tells : goal.returns-in-Err-Memory-clause-tells
 returns-in-Err-Memory-clause-tells g c =
     tells_later g.L.Outgoing.sent c.args.notice c.args.self.now _ _ _
-    (quiet g.L.Outgoing.sent _ _ _ _ (still _ _ (ap (λ (x : ConnectionValue). x.progress) c.retry_telling.ensures) refl refl) c.in-Err-Memory.ensures.untold)
-    (keeps_same _ _ (ap (λ (x : ConnectionValue). x.footprint) c.retry_telling.ensures))
-    (λ h. subst HasHalted (ap (λ (x : ConnectionValue). x.stage) c.retry_telling.ensures) h)
-    (λ executes. again_so c.args.self.now.connection c.retry_telling.new.self c.args.self.now.pending (Tell c.args.notice) (Direct c.args.notice) executes c.requires.first refl c.retry_telling.ensures c.requires.nothing)
+    (quiet g.L.Outgoing.sent _ _ _ _ (still _ _ (ap (λ (x : ConnectionValue). x.progress) c.put_back.ensures) refl refl) c.in-Err-Memory.ensures.untold)
+    (keeps_same _ _ (ap (λ (x : ConnectionValue). x.footprint) c.put_back.ensures))
+    (λ h. subst HasHalted (ap (λ (x : ConnectionValue). x.stage) c.put_back.ensures) h)
+    (λ executes. again_so c.args.self.now.connection c.put_back.new.self c.args.self.now.waiting (Taken (Direct c.args.notice)) (Direct c.args.notice) executes c.requires.first refl c.put_back.ensures c.requires.nothing)

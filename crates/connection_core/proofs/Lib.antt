@@ -1,2 +1,0 @@
-pub mod Footprints
-pub mod Living

@@ -1,5 +1,0 @@
-use Rattle.connection_core.proofs.Living.{wants_on}
-use Rattle.connection_core.proofs.connection.Connection.next.Goals as goal
-
-pub returns-clause-life : goal.returns-clause-life
-returns-clause-life c = λ bytes taken h. wants_on bytes taken _ _ _ c.want.ensures.wants h

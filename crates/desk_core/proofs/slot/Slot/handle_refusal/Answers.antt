@@ -1,0 +1,19 @@
+use Rattle.std.proofs.Common.{inl, inr, ap, refl, sym, subst}
+use Rattle.desk_core.specs.Connections.{ConnectionValue}
+use Rattle.desk_core.specs.declared.step.Step.TheVariants.{Rest}
+use Rattle.desk_core.specs.Halting.{IsFinal}
+use Rattle.desk_core.specs.Refusals.{WaitsIfFull}
+use Rattle.desk_core.proofs.Going.{stopped_so}
+use Rattle.desk_core.proofs.slot.Slot.handle_refusal.Goals as goal
+
+pub returns-in-Stopped : goal.returns-in-Stopped
+returns-in-Stopped g c = record {
+  same = (ap (λ (x : ConnectionValue). x.progress) c.stop.ensures, ap (λ (x : ConnectionValue). x.footprint) c.stop.ensures);
+  stays = (refl, refl);
+  waits = elim c.in-Stopped.is [
+    | inl is ↦ subst (λ r. WaitsIfFull c.args.waiting r c.args.self.now.waiting Rest) (sym is) refl
+    | inr is ↦ subst (λ r. WaitsIfFull c.args.waiting r c.args.self.now.waiting Rest) (sym is) refl
+  ];
+  halts = λ h. inr (elim c.in-Stopped.is [ inl is ↦ subst IsFinal (sym is) tt | inr is ↦ subst IsFinal (sym is) tt ]);
+  lives = λ none. stopped_so c.args.self.now.connection c.stop.new.self c.args.self.now.waiting _ _ c.stop.ensures none;
+}
