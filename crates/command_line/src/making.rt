@@ -4,7 +4,7 @@ ghost use Rattle.std.specs.Prelude.{◌≡◌, ◌+◌, ◌*◌, ◌<◌, ◌≤
 ghost use Rattle.disk_core.specs.File.{file_size};
 ghost use Rattle.command_line.specs.Failures.{IsTooShort};
 
-use crate::program::FileFault;
+use crate::program::{Failure, FileFault};
 use crate::viewing::FileView;
 use area_core::{FormatFault, format};
 use disk_core::{FileDisk, OpenError};
@@ -54,7 +54,7 @@ pub fn make_journal<R: Files<File = File> + Clock, P: Write>(
 }
 
 /// Makes a file of so many bytes with a journal that holds what the journal in another file holds, its open sessions included. The other
-/// one is only read, and may be a running server's. All else is as `make_journal` has it. A fault comes with the file that it is of.
+/// one is only read, and may be a running server's. All else is as `make_journal` has it. A failure names the file that it is of.
 pub fn copy_journal<'a, R: Files<File = File> + Clock, P: Write>(
     alloc: Global,
     rt: &R,
@@ -63,19 +63,19 @@ pub fn copy_journal<'a, R: Files<File = File> + Clock, P: Write>(
     bytes: u64,
     is_sparse: bool,
     progress: &mut P,
-) -> Result<(), (&'a str, FileFault)>
+) -> Result<(), Failure<'a>>
     ensures ok { OnOk result (8224 ≤ bytes) }
 {
     let Some(area) = area_in(bytes) else {
-        return Err((copy, FileFault::Format(FormatFault::TooSmall)));
+        return Err(Failure::File(copy, FileFault::Format(FormatFault::TooSmall)));
     };
     let mut from = match FileView::open(rt, path) {
         Ok(disk) => disk,
-        Err(error) => return Err((path, FileFault::Open(error))),
+        Err(error) => return Err(Failure::File(path, FileFault::Open(error))),
     };
     let disk = match make_file(rt, copy, bytes, is_sparse, progress) {
         Ok(disk) => disk,
-        Err(fault) => return Err((copy, fault)),
+        Err(fault) => return Err(Failure::File(copy, fault)),
     };
     match journal_files::copy(alloc, &mut from, disk, area) {
         Ok(made) => {
@@ -84,7 +84,7 @@ pub fn copy_journal<'a, R: Files<File = File> + Clock, P: Write>(
         }
         Err(fault) => {
             let _removed = std::fs::remove_file(rt, copy);
-            Err((path, FileFault::Copy(fault)))
+            Err(Failure::File(path, FileFault::Copy(fault)))
         }
     }
 }

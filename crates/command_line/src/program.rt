@@ -197,22 +197,13 @@ pub fn run<'a, T: Files<File = File> + Clock, S: AsStr, R: Read, W: Write, P: Wr
                 bytes,
                 is_sparse,
             },
-        ) => match make_journal(alloc, rt, file, bytes, is_sparse, progress) {
-            Ok(()) => Ok(()),
-            Err(fault) => Err(Failure::File(file, fault)),
-        },
-        Ok(Subcommand::Show { file }) => match show_file(alloc, rt, file, writer) {
-            Ok(()) => Ok(()),
-            Err(fault) => Err(Failure::File(file, fault)),
-        },
-        Ok(Subcommand::Held { file }) => match held_file(alloc, rt, file, writer) {
-            Ok(()) => Ok(()),
-            Err(fault) => Err(Failure::File(file, fault)),
-        },
-        Ok(Subcommand::Sessions { file }) => match sessions_file(alloc, rt, file, writer) {
-            Ok(()) => Ok(()),
-            Err(fault) => Err(Failure::File(file, fault)),
-        },
+        ) => of_file(
+            file,
+            make_journal(alloc, rt, file, bytes, is_sparse, progress),
+        ),
+        Ok(Subcommand::Show { file }) => of_file(file, show_file(alloc, rt, file, writer)),
+        Ok(Subcommand::Held { file }) => of_file(file, held_file(alloc, rt, file, writer)),
+        Ok(Subcommand::Sessions { file }) => of_file(file, sessions_file(alloc, rt, file, writer)),
         Ok(
             Subcommand::Copy {
                 file,
@@ -220,10 +211,7 @@ pub fn run<'a, T: Files<File = File> + Clock, S: AsStr, R: Read, W: Write, P: Wr
                 bytes,
                 is_sparse,
             },
-        ) => match copy_journal(alloc, rt, file, copy, bytes, is_sparse, progress) {
-            Ok(()) => Ok(()),
-            Err((at, fault)) => Err(Failure::File(at, fault)),
-        },
+        ) => copy_journal(alloc, rt, file, copy, bytes, is_sparse, progress),
         // Only `main` may open sockets.
         Ok(Subcommand::Ping { .. }) => Err(Failure::Client(ClientFault {
             step: Step::Connection,
@@ -240,6 +228,17 @@ pub fn run<'a, T: Files<File = File> + Clock, S: AsStr, R: Read, W: Write, P: Wr
         Err(Refused::Threads) => Err(misread(alloc, words, Misread::Threads)),
         Err(Refused::Memory) => Err(misread(alloc, words, Misread::Memory)),
         Err(Refused::Origin) => Err(misread(alloc, words, Misread::Origin)),
+    }
+}
+
+// A fault is one of that file.
+fn of_file<'a>(file: &'a str, done: Result<(), FileFault>) -> Result<(), Failure<'a>>
+    ensures ok { IsOk result ↔ IsOk done }
+    ensures err { IfErr result (λ failure. (fault : FileFault) × (done ≡ Err fault) × (failure ≡ Failure.File file fault)) }
+{
+    match done {
+        Ok(()) => Ok(()),
+        Err(fault) => Err(Failure::File(file, fault)),
     }
 }
 
