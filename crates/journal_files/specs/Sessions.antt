@@ -31,12 +31,17 @@ abbrev pub durable_text : Option Name → List ℕ
 durable_text None = []
 durable_text (Some name) = codes " activemq.subscriptionName:" ++ encoded name.1
 
--- the line of a subscription: whose it is, what it gets and how, and how many deliveries are not acknowledged
+-- whose a subscription is, and what it gets
+abbrev pub target_text : Subscription → List ℕ
+target_text sub = codes "subscription " ++ (decimal sub.session ++ (codes " id:" ++ (encoded sub.id ++ (codes " destination:" ++ encoded sub.destination))))
+
+-- how it gets that, and how many deliveries are not acknowledged
+abbrev pub standing_text : Subscription → List ℕ
+standing_text sub = codes " ack:" ++ (mode_text sub.mode ++ (durable_text sub.durable ++ (codes " unacknowledged:" ++ (decimal (length sub.unacknowledged) ++ codes "\n"))))
+
+-- its line
 abbrev pub subscription_line : Subscription → List ℕ
-subscription_line sub =
-    codes "subscription " ++ (decimal sub.session ++ (codes " id:" ++ (encoded sub.id ++ (codes " destination:" ++ (encoded sub.destination
-    ++ (codes " ack:" ++ (mode_text sub.mode ++ (durable_text sub.durable
-    ++ (codes " unacknowledged:" ++ (decimal (length sub.unacknowledged) ++ codes "\n"))))))))))
+subscription_line sub = target_text sub ++ standing_text sub
 
 -- a line for each open session by rising number, and then one for each subscription in waiting order
 abbrev pub sessions_text : State → List ℕ

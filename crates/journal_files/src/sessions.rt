@@ -1,19 +1,21 @@
 //! Which sessions of a journal are open, and what they subscribe to.
 
-ghost use Rattle.std.specs.Prelude.{◌≡◌, ◌≢◌, ◌++◌, IfErr, OnOk, codes, false, map};
+ghost use Rattle.std.specs.Prelude.{◌≡◌, ◌≢◌, ◌++◌, IfErr, OnOk, codes, false};
 ghost use Rattle.std.specs.Io.KnownBytes.{Appends};
 ghost use Rattle.std.specs.List.{flat_map};
 ghost use Rattle.area_core.specs.Reading.{Quiet};
+ghost use Rattle.percent_encoding.specs.Iter.{encoded_text};
 ghost use Rattle.script_text.specs.PercentTexts.{encoded};
-ghost use Rattle.journal_files.specs.Sessions.{ShowsSessions, ShowsSessionsIn, mode_text, session_line, sessions_text, subscription_line};
+ghost use Rattle.journal_files.specs.Sessions.{ShowsSessions, ShowsSessionsIn, mode_text, session_line, sessions_text, standing_text, subscription_line, target_text};
 
 use crate::journal_files::ShowFault;
 use crate::steady::steady_broker;
 use area_core::ReadFault;
 use broker_core::Broker;
 use broker_state::{GivenName, Subscription};
-use command_core::AckMode;
+use command_core::{AckMode, Dest, HeaderText};
 use disk_core::Disk;
+use percent_encoding::PercentEncode;
 use recover_core::OpenFault;
 use script_text::encoded;
 use std::alloc::Global;
@@ -62,7 +64,7 @@ fn write<W: Write>(
     writer: &mut W,
 ) -> io::Result<()>
     ensures { OnOk result (Appends (W.contents writer.old) (W.contents writer.new)
-        (flat_map session_line sessions.now.entries ++ flat_map subscription_line (map (λ sub. sub.now) subscriptions.now))) }
+        (flat_map session_line sessions.now.entries ++ flat_map (λ sub. subscription_line sub.now) subscriptions.now)) }
 {
     write_sessions(sessions, writer)?;
     write_subscriptions(subscriptions, writer)
@@ -89,15 +91,19 @@ fn write_session<W: Write>(
 {
     match client {
         None => writeln!(writer, "session {number}"),
-        Some(name) => {
-            let name = encoded(name.as_text().as_str().as_bytes());
-            writeln!(writer, "session {number} client-id:{name}")
-        }
+        Some(name) => writeln!(writer, "session {number} client-id:{}", name_text(name)),
     }
 }
 
+// A name that a client gave, as it is written.
+fn name_text(name: &GivenName) -> PercentEncode<'_>
+    ensures { encoded_text result ≡ encoded name.now }
+{
+    encoded(name.as_text().as_str().as_bytes())
+}
+
 fn write_subscriptions<W: Write>(subscriptions: &[&Subscription], writer: &mut W) -> io::Result<()>
-    ensures { OnOk result (Appends (W.contents writer.old) (W.contents writer.new) (flat_map subscription_line (map (λ sub. sub.now) subscriptions.now))) }
+    ensures { OnOk result (Appends (W.contents writer.old) (W.contents writer.new) (flat_map (λ sub. subscription_line sub.now) subscriptions.now)) }
 {
     for subscription in subscriptions {
         write_subscription(subscription, writer)?;
@@ -108,21 +114,48 @@ fn write_subscriptions<W: Write>(subscriptions: &[&Subscription], writer: &mut W
 fn write_subscription<W: Write>(subscription: &Subscription, writer: &mut W) -> io::Result<()>
     ensures { OnOk result (Appends (W.contents writer.old) (W.contents writer.new) (subscription_line subscription.now)) }
 {
-    let session = subscription.session;
-    let id = encoded(subscription.id.as_str().as_bytes());
-    let destination = encoded(subscription.destination.as_str().as_bytes());
+    write_target(subscription, writer)?;
+    write_standing(subscription, writer)
+}
+
+// Whose it is, and what it gets.
+fn write_target<W: Write>(subscription: &Subscription, writer: &mut W) -> io::Result<()>
+    ensures { OnOk result (Appends (W.contents writer.old) (W.contents writer.new) (target_text subscription.now)) }
+{
+    write!(
+        writer,
+        "subscription {} id:{} destination:{}",
+        subscription.session,
+        id_text(&subscription.id),
+        destination_text(&subscription.destination)
+    )
+}
+
+fn id_text(id: &HeaderText) -> PercentEncode<'_>
+    ensures { encoded_text result ≡ encoded id.now }
+{
+    encoded(id.as_str().as_bytes())
+}
+
+fn destination_text(destination: &Dest) -> PercentEncode<'_>
+    ensures { encoded_text result ≡ encoded destination.now }
+{
+    encoded(destination.as_str().as_bytes())
+}
+
+// How it gets it, and how far it has come.
+fn write_standing<W: Write>(subscription: &Subscription, writer: &mut W) -> io::Result<()>
+    ensures { OnOk result (Appends (W.contents writer.old) (W.contents writer.new) (standing_text subscription.now)) }
+{
     let mode = text_of_mode(subscription.mode);
-    let unacknowledged = subscription.unacknowledged.len();
+    let count = subscription.unacknowledged.len();
     match &subscription.durable {
-        None => writeln!(
-            writer,
-            "subscription {session} id:{id} destination:{destination} ack:{mode} unacknowledged:{unacknowledged}"
-        ),
+        None => writeln!(writer, " ack:{mode} unacknowledged:{count}"),
         Some(name) => {
-            let name = encoded(name.name().as_text().as_str().as_bytes());
+            let name = name_text(name.name());
             writeln!(
                 writer,
-                "subscription {session} id:{id} destination:{destination} ack:{mode} activemq.subscriptionName:{name} unacknowledged:{unacknowledged}"
+                " ack:{mode} activemq.subscriptionName:{name} unacknowledged:{count}"
             )
         }
     }
