@@ -15,8 +15,8 @@ returns-in-Stopped g c = record {
     | inr is ↦ subst (λ r. WaitsIfFull c.args.entry r c.args.self.now.waiting Rest) (sym is) refl
   ];
   halts = λ h. inr (elim c.in-Stopped.is [ inl is ↦ subst IsFinal (sym is) tt | inr is ↦ subst IsFinal (sym is) tt ]);
-  lives = stopped_so c.args.self.now.connection c.stop.new.self c.args.self.now.waiting _ _ c.stop.ensures c.requires.nothing;
+  lives = stopped_so c.args.self.now.connection c.stop.new.self c.args.self.now.waiting _ _ c.stop.ensures c.requires.2;
 }
 
 pub invariant_of-self-in-Stopped-clause-boxed : goal.invariant_of-self-in-Stopped-clause-boxed
-invariant_of-self-in-Stopped-clause-boxed g c = λ entry some. absurd (let never : None ≡ Some entry = sym c.requires.nothing ∙ some in cc)
+invariant_of-self-in-Stopped-clause-boxed g c = λ entry some. absurd (let never : None ≡ Some entry = sym c.requires.2 ∙ some in cc)
