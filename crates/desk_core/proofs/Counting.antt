@@ -1,6 +1,5 @@
 -- How many bytes are counted for the sessions of a desk.
 use Rattle.std.proofs.Common.{◌≡◌, ℕ, zero, suc, ◌+◌, ◌-◌, ◌<◌, ◌≤◌, List, [], ◌∷◌, ◌++◌, Option, Some, None, length, replicate, set, get_or, inl, inr, refl, sym, ap, ◌∙◌, subst, append_assoc, append-nil, arith}
-use Rattle.std.specs.List.{sum_by}
 use Rattle.std.proofs.lemmas.Bool.{cases_eq}
 use Rattle.std.proofs.lemmas.List.{get_or-set_other, get_or_past}
 use Rattle.std.proofs.lemmas.List.Sums.{get_or-le-sum_by, sum_by-set, sum_by_push}
@@ -109,7 +108,7 @@ pub room_left : (limit counted before its all : ℕ) → before ≡ its → all 
 room_left limit counted before its all b a less within = omega (arith, b, a, less, within)
 
 pub served_at : {B L : Type 0} (sent : L → Option (List (List ℕ))) (received : L → Option (List ℕ)) (room : ℕ) (o : Option (Seated B L)) (was is : Seated B L) (mid : Slot B) (s t : SessionSeatValue) (turned : Turned)
-    → o ≡ Some was → mid.connection ≡ with_room room was.slot.connection → (mid.waiting ≡ was.slot.waiting) × (mid.outbox ≡ was.slot.outbox) × (mid.kept ≡ was.slot.kept)
+    → o ≡ Some was → mid.connection ≡ with_room room was.slot.connection → (mid.waiting ≡ was.slot.waiting) × (mid.opening ≡ was.slot.opening) × (mid.outbox ≡ was.slot.outbox) × (mid.kept ≡ was.slot.kept)
     → GoesOn sent received mid s was.link is.slot t is.link → Answers received turned s was.link is.slot t is.link → ServedAt sent received room o s (Some is) t turned
 served_at sent received room o was is mid s t turned sat allows same g answers = record {
   was = was;
@@ -118,7 +117,7 @@ served_at sent received room o was is mid s t turned sat allows same g answers =
   sits = refl;
   effects = g.effects;
   added = g.added;
-  served = reserve sent _ was.slot mid is.slot was.link is.link (ap (λ (c : ConnectionValue). c.progress) allows) same.1 same.2 g.served;
+  served = reserve sent _ was.slot mid is.slot was.link is.link (ap (λ (c : ConnectionValue). c.progress) allows) same.2 same.3 g.served;
   heeds = record { got = g.heeds.got; read = g.heeds.read; lives = λ bytes before x. g.heeds.lives bytes before (allowed room was.slot mid bytes before allows same.0 x) };
   has_room = g.keeps.room ∙ ap (λ (c : ConnectionValue). c.footprint.room) allows;
   evicted = λ e. subst (λ (c : ConnectionValue). IsEvicted c.footprint.cut) allows (g.keeps.evicted e);

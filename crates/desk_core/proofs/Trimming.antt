@@ -11,7 +11,7 @@ use Rattle.desk_core.specs.declared.progress.Progress.TheVariants.{Gone}
 use Rattle.desk_core.specs.declared.place.Seated.{Seated}
 use Rattle.desk_core.specs.Conversations.{holds, opens, part_of}
 use Rattle.desk_core.specs.Desks.{DeskValue, IsDesk, Leaves, Trims, desk, seated_at, stand_of}
-use Rattle.desk_core.specs.Places.{is_over, is_over_at, progress_at}
+use Rattle.desk_core.specs.Places.{is_over_at, progress_at}
 use Rattle.desk_core.proofs.Standing.{as_many, get_same_or, sitting, still_there, vacated}
 
 -- ── the loop ──

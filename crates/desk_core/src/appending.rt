@@ -171,13 +171,12 @@ impl<B: Bell> Slot<B> {
     // An entry that the ring refused is kept for as long as the window is full. A ring that takes nothing more ends the
     // connection.
     fn handle_refusal(&mut self, entry: Entry<OutSender<B>>, refused: Refused) -> Step
-        requires next { IsNext self.old.connection.progress entry.command }
-        requires boxed { HasBox entry self.old.opening }
+        requires { IsNext self.old.connection.progress entry.command × HasBox entry self.old.opening × (self.old.waiting ≡ None) }
         ensures same { IsUnsaid self.old.connection self.new.connection }
         ensures stays { (self.new.outbox ≡ self.old.outbox) × (self.new.kept ≡ self.old.kept) }
         ensures waits { WaitsIfFull entry refused self.new.waiting result }
         ensures halts { HasHalted self.new.connection.stage → HasHalted self.old.connection.stage ⊎ IsFinal refused }
-        ensures lives { self.old.waiting ≡ None → LivesOn (Waits entry.command) (entry.command.op ∷ []) self.old.connection self.new.connection self.new.waiting [] }
+        ensures lives { LivesOn (Waits entry.command) (entry.command.op ∷ []) self.old.connection self.new.connection self.new.waiting [] }
     {
         match refused {
             Refused::Busy(mark) => {

@@ -13,5 +13,5 @@ returns-in-Some-clause-unserved g c = unserved_some g.L.Outgoing.sent g.L.Outgoi
     record { progress = ap (λ (x : ConnectionValue). x.progress) c.lose.ensures; waiting = refl; opening = refl; outbox = refl; kept = refl; sent = refl }
     (heeds_quietly g.L.Outgoing.received _ _ _ _ refl (loses _ _ c.lose.ensures) refl)
 
-pub invariant_of-seated-slot-clause-next : goal.invariant_of-seated-slot-clause-next
-invariant_of-seated-slot-clause-next g c = waits_still _ _ _ _ (loses _ _ c.lose.ensures).restaged refl c.in-Some.seated.slot.next
+pub invariant_of-seated-clause-next : goal.invariant_of-seated-clause-next
+invariant_of-seated-clause-next g c = waits_still _ _ _ _ (loses _ _ c.lose.ensures).restaged refl c.in-Some.seated.slot.next

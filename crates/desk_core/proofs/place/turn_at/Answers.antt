@@ -1,4 +1,4 @@
-use Rattle.std.proofs.Common.{◌-◌, ap, ◌∙◌}
+use Rattle.std.proofs.Common.{ap, ◌∙◌}
 use Rattle.desk_core.specs.Connections.{with_room}
 use Rattle.desk_core.specs.Places.{counted_at}
 use Rattle.desk_core.proofs.Counting.{room_left, served_at}

@@ -1,4 +1,4 @@
-use Rattle.std.proofs.Common.{inl, inr, ap, refl, sym, subst}
+use Rattle.std.proofs.Common.{◌≡◌, ◌∙◌, Some, None, inl, inr, ap, refl, sym, subst}
 use Rattle.desk_core.specs.Connections.{ConnectionValue}
 use Rattle.desk_core.specs.declared.step.Step.TheVariants.{Rest}
 use Rattle.desk_core.specs.Halting.{IsFinal}
@@ -11,9 +11,12 @@ returns-in-Stopped g c = record {
   same = (ap (λ (x : ConnectionValue). x.progress) c.stop.ensures, ap (λ (x : ConnectionValue). x.footprint) c.stop.ensures);
   stays = (refl, refl);
   waits = elim c.in-Stopped.is [
-    | inl is ↦ subst (λ r. WaitsIfFull c.args.waiting r c.args.self.now.waiting Rest) (sym is) refl
-    | inr is ↦ subst (λ r. WaitsIfFull c.args.waiting r c.args.self.now.waiting Rest) (sym is) refl
+    | inl is ↦ subst (λ r. WaitsIfFull c.args.entry r c.args.self.now.waiting Rest) (sym is) refl
+    | inr is ↦ subst (λ r. WaitsIfFull c.args.entry r c.args.self.now.waiting Rest) (sym is) refl
   ];
   halts = λ h. inr (elim c.in-Stopped.is [ inl is ↦ subst IsFinal (sym is) tt | inr is ↦ subst IsFinal (sym is) tt ]);
-  lives = λ none. stopped_so c.args.self.now.connection c.stop.new.self c.args.self.now.waiting _ _ c.stop.ensures none;
+  lives = stopped_so c.args.self.now.connection c.stop.new.self c.args.self.now.waiting _ _ c.stop.ensures c.requires.2;
 }
+
+pub invariant_of-self-in-Stopped-clause-boxed : goal.invariant_of-self-in-Stopped-clause-boxed
+invariant_of-self-in-Stopped-clause-boxed g c = λ entry some. absurd (let never : None ≡ Some entry = sym c.requires.2 ∙ some in cc)

@@ -58,5 +58,6 @@ invariant_of-self-in-Ok g c =
     same_number c.args.self.now.connection.progress c.note.new.connection.progress c.note.ensures.ends ∙ sym c.number.ensures ∙ c.in-Some.is in record {
       opened = λ none. absurd (let both : None ≡ Some c.in-Some.session = sym none ∙ number in cc);
       own = keeps_own c.in-Some.session c.note.new.connection _ _ c.relay.new.seat.seen c.in-Ok.relayed c.in-Ok.ensures.relays c.note.ensures.gives_up;
+      boxed = c.args.self.now.boxed;
       next = waits_still _ _ _ _ c.note.ensures.rest.restaged refl c.args.self.now.next;
     }

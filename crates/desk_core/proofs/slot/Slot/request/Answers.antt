@@ -32,13 +32,13 @@ returns-in-Ok-clause-lives g c = λ executes.
 
 pub returns-in-Err-clause-lives : goal.returns-in-Err-clause-lives
 returns-in-Err-clause-lives g c = λ executes.
-    let act = Do c.in-Err.op c.in-Err.receipt in
+    let act = Do c.into_parts-op.result.1 c.into_parts-op.result.2 in
     let command : c.in-Err.command ≡ c.in-Some.command = c.in-Err.ensures.back.0 in
     nothing_done (Taken (Do c.args.op c.args.receipt)) c.args.self.now.connection c.put_back.new.self c.args.self.now.waiting [] c.args.seat.now c.args.seat.now refl
     (keeps_same _ _ (ap (λ (x : ConnectionValue). x.footprint) c.put_back.ensures ∙ ap (λ (x : ConnectionValue). x.footprint) c.in-Err.ensures.back.1))
     (λ h. inl (subst HasHalted (ap (λ (x : ConnectionValue). x.stage) c.put_back.ensures ∙ ap (λ (x : ConnectionValue). x.stage) c.in-Err.ensures.back.1) h))
     (again_so c.args.self.now.connection c.put_back.new.self c.args.self.now.waiting (Taken (Do c.args.op c.args.receipt)) act executes c.requires.taken.0
-    (ap (λ (x : CommandValue). Do x.op x.receipt ∷ []) (sym c.in-Some.ensures.0 ∙ sym command ∙ c.into_parts.ensures.value))
+    (ap (λ (x : CommandValue). Do x.op x.receipt ∷ []) (sym c.in-Some.ensures.0 ∙ sym command ∙ c.into_parts-op.ensures.value))
     (subst (λ (x : ConnectionValue). c.put_back.new.self ≡ record x { acts = record x.acts { again = Some act } }) c.in-Err.ensures.back.1 c.put_back.ensures) c.requires.taken.1)
 
 pub append-requires-clause-may : goal.append-requires-clause-may
