@@ -1,8 +1,8 @@
 #!/usr/bin/env python3
 """Counts the functions, files and crates on the way of one SEND, by the list that is kept in way_of_a_send.txt.
 
-    python3 tests/way.py                     counts, and names what the list has and no crate declares
-    python3 tests/way.py --trace [PROGRAM]   makes the list anew: five minutes
+    python3 tools/way.py                     counts, and names what the list has and no crate declares
+    python3 tools/way.py --trace [PROGRAM]   makes the list anew: five minutes
 
 On the way is each function of crates/ that runs from the moment at which a client of a quiet server sends a SEND with a receipt to a topic with one
 subscriber, until both have their answers. A ping of quiet clients, which comes after 20 seconds, is not on it. Copies and comparisons that are derived
@@ -21,11 +21,11 @@ import sys
 import tempfile
 import time
 
-sys.path.insert(0, str(pathlib.Path(__file__).resolve().parent))
+sys.path.insert(0, str(pathlib.Path(__file__).resolve().parent.parent / "tests"))
 from lib.scenario import BUILT, TOP, free_port  # noqa: E402
 from lib.stomp_client import Client  # noqa: E402
 
-LIST = TOP / "tests" / "way_of_a_send.txt"
+LIST = TOP / "tools" / "way_of_a_send.txt"
 # A journal of two areas of 32 MiB.
 JOURNAL_BYTES = "67108864"
 # Seconds in which `rt try` compiles the program, and the most that one SEND takes with a stop at each function.
