@@ -1,4 +1,4 @@
-/* What clients/types.py has tsc check against examples/stompd.d.mts, and Node run over a broker: each call and member that the types name, and
+/* What clients/module_types.py has tsc check against examples/stompd.d.mts, and Node run over a broker: each call and member that the types name, and
    uses that they must refuse. node [--experimental-websocket] every_call.mjs URL [PATH OF THE PACKAGE ws] */
 import { connect, StompdError } from "../examples/stompd.mjs";
 import type { Body, Client, ConnectOptions, Headers, Kind, Message, State, StateDetail, SubscribeOptions, Subscription, Transaction } from "../examples/stompd.mjs";

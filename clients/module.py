@@ -15,7 +15,6 @@ import pathlib
 import random
 import select
 import shutil
-import signal
 import subprocess
 import sys
 import tempfile

@@ -1,7 +1,7 @@
-/** The types of stompd.mjs: a client of STOMP 1.2 over WebSocket for stompd, which comes back by itself. */
+/** The types of stompd.mjs: a client of STOMP 1.2 over WebSocket for stompd, which reconnects by itself. */
 
-/** `refused`: the broker has answered it with an ERROR, and it is not in the journal. `unknown`: the connection was lost before the receipt, so it
- *  may be in the journal or not. `unsent`: it was never sent or not carried out, so it is not there. */
+/** `refused`: the broker answered with an ERROR, so it is not in the journal. `unknown`: the connection was lost before the receipt, so it may be in
+ *  the journal or not. `unsent`: it was never sent or not carried out, so it is not there. */
 export type Kind = "refused" | "unknown" | "unsent";
 
 export class StompdError extends Error {
@@ -13,40 +13,40 @@ export class StompdError extends Error {
 export type State = "connecting" | "open" | "lost" | "refused" | "closed";
 
 export interface StateDetail {
-  /** The code with which the WebSocket was closed, or 1006 if it had none. Missing if the module left a silent connection. */
+  /** The close code of the WebSocket, or 1006 if it had none. Missing if the module abandoned a silent connection. */
   code?: number;
   /** Milliseconds until the next try. */
   pause?: number;
-  /** What the broker has refused, by the `message` of its ERROR, or which time-out the module left the connection for. */
+  /** The `message` of the broker's ERROR, or the time-out for which the module abandoned the connection. */
   reason?: string | null;
 }
 
 /** Times are in milliseconds; `Infinity` turns a time-out off. */
 export interface ConnectOptions {
-  /** Under which durable subscriptions stand; one client at a time has it. It has no end of a line and no NUL. */
+  /** Names the client's durable subscriptions; one client at a time has it. It has no line end and no NUL. */
   clientId?: string;
-  /** The first pause (500). It doubles with each loss, and is back after a session that lasted as long as the longest pause. */
+  /** The first pause (500). It doubles with each loss, and returns to this after a session as long as the longest pause. */
   shortestPause?: number;
   /** The longest pause (8,000). Each is up to a quarter shorter or longer. */
   longestPause?: number;
-  /** How long the broker may be silent while it connects or owes an answer (15,000), and at most twice as long. After such a silence an idle
-   *  connection is asked; one that does not answer is lost. */
+  /** How long the broker may be silent while it connects or owes an answer (15,000); at most twice that. After such a silence an idle connection is
+   *  probed, and lost without an answer. */
   answerTimeout?: number;
   /** How long something waits for a connection before it is `unsent` (60,000). */
   waitTimeout?: number;
   /** How long `close` waits for the broker (5,000). */
   closeTimeout?: number;
-  /** How many sends and transactions may be without an answer (10,000); a further one is `unsent`. */
+  /** How many sends and transactions may be unanswered (10,000); a further one is `unsent`. */
   mostWaiting?: number;
   onstate?: (state: State, detail: StateDetail) => void;
-  /** Hears what no promise tells: what a listener or `onstate` throws or rejects with, a refused `tell`, and each refusal of a subscription, with
-   *  the subscription. Without it these go to the console. */
+  /** Gets errors without a promise: those of a listener or `onstate`, of a refused `tell`, and each refusal of a subscription, with the subscription.
+   *  By default these go to the console. */
   onerror?: (error: unknown, subscription?: Subscription) => void;
-  /** If there is no global one, that of the package `ws`. */
+  /** Without a global one, that of the package `ws`. */
   WebSocket?: new (url: string, protocol: string) => any;
 }
 
-/** One whose value is null or undefined is left out, as are `content-length`, `receipt` and `transaction`, which the module sets itself. */
+/** The module omits those with null or undefined, and sets `content-length`, `receipt` and `transaction` itself. */
 export type Headers = Record<string, string | number | boolean | null | undefined>;
 
 /** Bytes are sent as such. Numbers are written as text; null and undefined are an empty body. */
@@ -73,15 +73,15 @@ export interface SubscribeOptions {
   headers?: Headers;
 }
 
-/** Comes back with each session, until it is ended or refused. A durable one that was `ready` also comes back after E14: the broker holds a session
- *  that was lost without a close for up to 80 s. Then each refusal ends a session, and is told to `onerror`. */
+/** Is renewed with each session, until it is ended or refused. A durable one that was `ready` is also renewed after E14: the broker holds a session
+ *  that was lost without a close for up to 80 s. Each such refusal ends a session, and goes to `onerror`. */
 export interface Subscription {
   readonly id: string;
-  /** Resolves once the broker has it in its journal, and is rejected if it is refused, or ended before. */
+  /** Resolves once the subscription is in the journal; rejects if it is refused, or ended before. */
   readonly ready: Promise<void>;
-  /** What waits under a durable name goes on waiting. `auto` messages that are on their way are still heard. */
+  /** Ends it. A durable name keeps its messages. `auto` messages under way still arrive. */
   end(): Promise<void>;
-  /** Gives up a durable name, with all that waits under it. A plain subscription has none: `unsent`. */
+  /** Drops a durable name with its messages. A plain subscription has none: `unsent`. */
   giveUp(): Promise<void>;
 }
 
@@ -91,29 +91,29 @@ export interface Transaction {
   nack(message: Message): void;
 }
 
-/** A promise that nobody awaits never becomes an unhandled rejection. */
+/** None of its promises becomes an unhandled rejection. */
 export interface Client {
   readonly state: State;
-  /** The session that is open. */
+  /** The open session. */
   readonly session: string | null;
   /** Resolves at the receipt: the message is in the journal. Without a connection it waits for one. It is never carried out twice: it is sent again
    *  only if the broker refused something before it, and so dropped it. */
   send(destination: string, body?: Body, headers?: Headers): Promise<void>;
-  /** Sends without a receipt, for what is worth nothing later. Without a connection, or if 1 MiB waits to be sent, it does nothing. Answers whether
-   *  it was sent. */
+  /** Sends without a receipt, for messages that are worthless later. Without a connection, or if 1 MiB waits to be sent, it does nothing. Returns
+   *  whether it sent. */
   tell(destination: string, body?: Body, headers?: Headers): boolean;
-  /** Throws if a subscription has this id already. */
+  /** Throws if a subscription has this id. */
   subscribe(destination: string, heard: (message: Message) => unknown, options?: SubscribeOptions): Subscription;
   /** Carries out all that `work` puts into the transaction, or nothing. Resolves at the receipt of its COMMIT. */
   transaction(work: (tx: Transaction) => unknown): Promise<void>;
-  /** Leaves, and resolves once the connection is closed or `closeTimeout` is over. */
+  /** Disconnects, and resolves once the connection is closed or `closeTimeout` is over. */
   close(): Promise<void>;
 }
 
-/** Connects to `ws://` or `wss://`, and goes on trying until `close`. Throws if there is no WebSocket, or the URL or `clientId` is wrong. */
+/** Connects to `ws://` or `wss://`, and retries until `close`. Throws without a WebSocket, or if the URL or `clientId` is wrong. */
 export function connect(url: string, options?: ConnectOptions): Client;
 
 declare global {
-  /** What stompd.js makes, also for a page that loads it alone. */
+  /** Made by stompd.js, also for a page that loads only that. */
   var Stompd: { connect: typeof connect; StompdError: typeof StompdError };
 }

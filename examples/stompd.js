@@ -4,7 +4,7 @@
 "use strict";
 
 const NOTHING = () => {};
-/* What each option means stands in stompd.d.mts. */
+/* What each option and call means stands in stompd.d.mts. */
 const TIMES = { shortestPause: 500, longestPause: 8_000, answerTimeout: 15_000, waitTimeout: 60_000, closeTimeout: 5_000 };
 const DEFAULTS = { ...TIMES, mostWaiting: 10_000, onstate: NOTHING, onerror: error => console.error(error) };
 const NO_WEBSOCKET = "there is no WebSocket: use Node 22, start Node 20 with --experimental-websocket, or give connect that of the package ws";
@@ -13,8 +13,7 @@ const MOST_BUFFERED = 1 << 20;
 /* Headers that only the module sets. */
 const OWN_HEADERS = ["content-length", "receipt", "transaction"];
 
-/* Why a promise was rejected. `refused`: the broker has answered it with an ERROR, and it is not in the journal. `unknown`: the connection was lost
-   before the receipt, so it may be in the journal or not. `unsent`: it was never sent or not carried out, so it is not there. */
+/* Why a promise was rejected, by its kind. */
 class StompdError extends Error {
   constructor(kind, message) { Object.assign(super(message), { name: "StompdError", kind }); }
 }
@@ -102,16 +101,13 @@ class Message {
   }
 }
 
-/* A subscription, which comes back with each session until it is ended or refused. */
 class Subscription {
   /* Contested: its durable name was in use when it was last asked for. */
   isReady = false; isEnded = false; isContested = false;
   constructor(client, id, headers, heard) {
     Object.assign(this, { client, id, headers, heard });
-    /* Resolves once the broker has it in its journal, and is rejected if it is refused or ended before. */
     this.ready = leavable(new Promise((resolve, reject) => Object.assign(this, { resolve, reject })));
   }
-  /* Ends it. What waits under a durable name goes on waiting. */
   end() {
     const link = this.client.drop(this);
     if (!link) return Promise.resolve();
@@ -122,7 +118,6 @@ class Subscription {
     // If its session ends first, so does it.
     return leavable(this.client.ask(make, () => link.forget(this)).catch(error => { if (error.kind == "refused") throw error; }));
   }
-  /* Ends a durable one for good: its name is given up, with all that waits under it. */
   giveUp() {
     const name = this.headers["activemq.subscriptionName"];
     if (name === undefined) return leavable(Promise.reject(unsent("only a durable subscription has a name to give up")));
@@ -268,7 +263,6 @@ class Client {
   /* The session that is open, or null. */
   get session() { return this.#link?.session ?? null; }
 
-  /* Resolves at the receipt. Without a connection it waits for one. */
   send(destination, body, headers = {}) {
     return leavable((async () => {
       const frame = sendFrame(destination, body, headers);
@@ -277,13 +271,11 @@ class Client {
     })());
   }
 
-  /* Sends without a receipt, for what is worth nothing later; without a connection, or if it is slow, it does nothing. Whether it was sent. */
   tell(destination, body, headers = {}) {
     const frame = sendFrame(destination, body, headers);
     return this.session !== null && this.#link.tell(frame);
   }
 
-  /* Options: ack (auto, client, client-individual), durable (a name; the client needs a clientId then), id, headers. */
   subscribe(destination, heard, { ack = "auto", durable, id = `subscription ${++this.#count}`, headers = {} } = {}) {
     if (this.#subscriptions.has(id)) throw unsent(`there is a subscription ${id}`);
     const name = durable === undefined ? {} : { "activemq.subscriptionName": durable };
@@ -294,7 +286,7 @@ class Client {
     return subscription;
   }
 
-  /* Carries out all that `work` puts into the transaction, or nothing. Nothing is sent before `work` is done, so what it throws leaves nothing. */
+  /* Nothing is sent before `work` is done, so what it throws leaves nothing. */
   transaction(work) {
     return leavable((async () => {
       const made = new Transaction(this), transaction = `transaction ${++this.#count}`;
@@ -307,7 +299,6 @@ class Client {
     })());
   }
 
-  /* Leaves. What has no receipt yet gets it, if the connection holds; what waited for a connection is rejected as unsent. */
   close() {
     if (this.state == "closed") return Promise.resolve();
     const closed = new Promise(resolve => this.#closing.push(resolve));

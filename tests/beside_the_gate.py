@@ -91,7 +91,7 @@ SCRIPTS = [
     Script("tests/program/restarts.py", light=""),
     Script("clients/browser.py"),
     Script("clients/module.py"),
-    Script("clients/types.py"),
+    Script("clients/module_types.py"),
     Script("clients/proxies.py"),
     Script("clients/secure_page.py"),
     Script("clients/containers.py"),

@@ -199,13 +199,16 @@ def signals_at_any_moment(checks):
     for number in range(checks.moments):
         file.unlink(missing_ok=True)
         start = Start(checks.program, file, port)
-        # By then the shell has set its traps; before, a signal ends it as any program, and it has started nothing.
+        # By then the shell has mostly set its traps; before, a signal ends it as any program, and it has started no server.
         wait_until(lambda: running_over(file))
         time.sleep(random.uniform(0.01, 0.06))
         sent = random.choice(list(STATUSES))
         start.process.send_signal(sent)
         status, _ = start.end(random.choice([None, sent]))
         checks.check(f"{sent.name} at moment {number}", status in (STATUSES[sent], -sent), status)
+        if status == -sent:
+            # A copy of the shell, which answers a `$(..)`, may outlive it for a moment.
+            wait_until(lambda: not running_over(file))
         checks.same(f"leaves no process at moment {number}", running_over(file), [])
         if status == STATUSES[sent]:
             checks.same(f"nor anything but a journal at moment {number}", beside(file), [])

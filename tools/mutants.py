@@ -2,8 +2,8 @@
 """Tries the mutants that stand beside the gate, those in mutants/CRATE, each of which the prover must refuse. They have the form of the must-fail
 edits that the gate tries; docs/GATE.md says which stand where. Needs `rt` and Python 3; the gate only looks whether they apply.
 
-    python3 tests/mutants.py [--applies] [CRATE | CRATE/MUTANT ..]
-    python3 tests/mutants.py [--applies | --list] --changed COMMIT [--above]
+    python3 tools/mutants.py [--applies] [CRATE | CRATE/MUTANT ..]
+    python3 tools/mutants.py [--applies | --list] --changed COMMIT [--above]
 
 Without names, it tries those of all crates; a mutant's name is that of its file, with or without `.edit`. With --changed it tries those of which the
 mutant itself, the function that it edits, or a definition that this function's contract speaks of, directly or through others, differs from that

@@ -1,7 +1,7 @@
 #!/usr/bin/env python3
 """Counts what makes the repository heavy to read: words of prose, crates without a page, long contracts, long functions and long files. Needs Python 3 alone.
 
-    python3 tests/house.py [--longest N]
+    python3 tools/house.py [--longest N]
 
 It prints a line for each count beside its bound, and the N longest contracts that are over theirs (10). It ends with status 1 if a count is over
 its bound. A contract has at most 8 clauses and 600 characters.

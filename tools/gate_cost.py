@@ -1,7 +1,7 @@
 #!/usr/bin/env python3
 """Runs `rt ci` at the top of a checkout and prints what each crate cost in processor minutes: its proof, its tests, and its must-fail edits.
 
-    python3 bench/gate_cost.py [FOLDER]
+    python3 tools/gate_cost.py [FOLDER]
 
 Without FOLDER it is the checkout that this file stands in. Set RT_JOBS to the number of lanes, so that each proof is one process. What the gate
 prints goes to gate-cost.log below the system's temporary folder. Stopped by Ctrl-C or SIGTERM, it ends the gate and prints what was spent until

@@ -1,12 +1,12 @@
 #!/usr/bin/env python3
 """Counts the functions, files and crates on the way of one SEND, by the list that is kept in way_of_a_send.txt.
 
-    python3 tests/way.py                     counts, and names what the list has and no crate declares
-    python3 tests/way.py --trace [PROGRAM]   makes the list anew: five minutes
+    python3 tools/way.py                     counts, and names what the list has and no crate declares
+    python3 tools/way.py --trace [PROGRAM]   makes the list anew: five minutes
 
 On the way is each function of crates/ that runs from the moment at which a client of a quiet server sends a SEND with a receipt to a topic with one
-subscriber, until both have their answers. Copies and comparisons that are derived do not count, nor do closures, which stand in the function that
-makes them.
+subscriber, until both have their answers. A ping of quiet clients, which comes after 20 seconds, is not on it. Copies and comparisons that are derived
+do not count, nor do closures, which stand in the function that makes them.
 
 For --trace `rt try` compiles the program with no function inlined, and gdb stops once at each. It needs rt, gdb and nm; PROGRAM makes the journal.
 """
@@ -21,18 +21,18 @@ import sys
 import tempfile
 import time
 
-sys.path.insert(0, str(pathlib.Path(__file__).resolve().parent))
+sys.path.insert(0, str(pathlib.Path(__file__).resolve().parent.parent / "tests"))
 from lib.scenario import BUILT, TOP, free_port  # noqa: E402
 from lib.stomp_client import Client  # noqa: E402
 
-LIST = TOP / "tests" / "way_of_a_send.txt"
+LIST = TOP / "tools" / "way_of_a_send.txt"
 # A journal of two areas of 32 MiB.
 JOURNAL_BYTES = "67108864"
-# Seconds in which `rt try` compiles the program, and in which one SEND goes through with a stop at each function.
-COMPILING, SENDING = 900, 20
+# Seconds in which `rt try` compiles the program, and the most that one SEND takes with a stop at each function.
+COMPILING, SENDING = 1_800, 200
 
 IN_GDB = """
-import gdb, threading, time
+import gdb, os, threading, time
 base, seen = int("{base}", 16), []
 class Once(gdb.Breakpoint):
     def __init__(self, place, name):
@@ -46,7 +46,8 @@ for line in open("{symbols}"):
     place, _, name = line.strip().partition(" ")
     Once(int(place, 16), name)
 def end():
-    time.sleep({seconds})
+    while not os.path.exists("{answered}"):
+        time.sleep(0.05)
     gdb.post_event(lambda: gdb.execute("interrupt"))
 open("{ready}", "w").close()
 threading.Thread(target=end).start()
@@ -107,7 +108,7 @@ def program_of(process, port):
 def trace(maker):
     port = free_port()
     with tempfile.TemporaryDirectory(prefix="stompd-way-") as folder:
-        at = {it: f"{folder}/{it}" for it in ("journal", "symbols", "script.py", "ready", "seen")}
+        at = {it: f"{folder}/{it}" for it in ("journal", "symbols", "script.py", "ready", "answered", "seen")}
         subprocess.run([maker, "format", at["journal"], JOURNAL_BYTES], check=True)
         words = ["rt", "try", "--", "serve", at["journal"], str(port)]
         compiled = subprocess.Popen(words, cwd=TOP / "crates" / "stompd", stdout=subprocess.DEVNULL, stderr=subprocess.DEVNULL, start_new_session=True)
@@ -115,19 +116,20 @@ def trace(maker):
         time.sleep(5)
         hearer, sender = Client(port).connect(), Client(port).connect()
         for it in (hearer, sender):
-            it.socket.settimeout(10 * SENDING)
+            it.socket.settimeout(SENDING)
         hearer.subscribe("a", "/topic/room")
         sender.publish("/topic/room", "before")
         hearer.receive()
         pathlib.Path(at["symbols"]).write_text("".join(places_of(program)), encoding="utf-8")
         base = next(line.split("-")[0] for line in open(f"/proc/{number}/maps", encoding="utf-8") if program in line)
-        named = {"base": base, "symbols": at["symbols"], "seconds": SENDING, "ready": at["ready"], "seen": at["seen"]}
+        named = {"base": base, **{it: at[it] for it in ("symbols", "ready", "answered", "seen")}}
         pathlib.Path(at["script.py"]).write_text(IN_GDB.format(**named), encoding="utf-8")
         debugger = subprocess.Popen(["gdb", "-batch", "-p", str(number), "-x", at["script.py"]], stdout=subprocess.DEVNULL, stderr=subprocess.DEVNULL)
         while not os.path.exists(at["ready"]):
             time.sleep(0.1)
         sender.publish("/topic/room", "one")
         assert hearer.receive().body == "one"
+        pathlib.Path(at["answered"]).touch()
         debugger.wait()
         os.killpg(compiled.pid, signal.SIGKILL)
         os.kill(number, signal.SIGKILL)

@@ -1,7 +1,7 @@
 #!/usr/bin/env python3
 """Has tsc check every_call.mts, which uses each call of examples/stompd.mjs, against its types, and Node run it over a broker.
 
-    python3 clients/types.py [PROGRAM] [--types FILE]
+    python3 clients/module_types.py [PROGRAM] [--types FILE]
 
 Needs Debian's node-typescript, and Node 20 with node-ws or its own experimental WebSocket; without one of them it ends with status 2. --types takes
 another file for examples/stompd.d.mts, as one with an error in it that has to be found.
@@ -32,7 +32,7 @@ def main():
     words, checks = parser.parse_args(), scenario.Checks()
     lacking = [it for it in ("tsc", "node") if shutil.which(it) is None]
     if lacking:
-        print(f"types: {' and '.join(lacking)} must be there")
+        print(f"module_types: {' and '.join(lacking)} must be there")
         return 2
     with tempfile.TemporaryDirectory(prefix="stompd-types-") as name:
         folder = pathlib.Path(name)

@@ -1,7 +1,7 @@
 #!/usr/bin/env python3
-"""Looks whether what the documents name is there: each file, each test and mutant, each link. Needs Python 3 alone; tests/mutants.py --applies runs it.
+"""Looks whether what the documents name is there: each file, each test and mutant, each link. Needs Python 3 alone; tools/mutants.py --applies runs it.
 
-    python3 tests/named.py
+    python3 tools/named.py
 
 It looks too whether docs/ARCHITECTURE.md has the groups and crates of crates.txt, in the same order.
 
