@@ -22,7 +22,7 @@ pub enum Misread {
 }
 
 /// The failure that names the word which was not read.
-pub fn misread<'a, S: AsStr>(alloc: Global, words: &'a [S], what: Misread) -> Failure<'a> {
+pub fn failure_of<'a, S: AsStr>(alloc: Global, words: &'a [S], what: Misread) -> Failure<'a> {
     if words.len() < 2 {
         return Failure::Word(WordKind::Bytes, "");
     }

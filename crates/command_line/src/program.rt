@@ -11,7 +11,7 @@ ghost use Rattle.command_line.specs.CommandLines.{AsksForScript};
 ghost use Rattle.command_line.specs.Failures.{EndsByFault, FailsBy, Finishes, RunsToEnd, StopsBy, IsBeforehand, IsOfScript, Tells, status_of, version_line};
 
 use crate::making::{copy_journal, make_journal};
-use crate::misreading::{Misread, misread};
+use crate::misreading::{Misread, failure_of};
 use crate::parsing::{Refused, Subcommand, subcommand_of};
 use crate::telling::end_by;
 use crate::viewing::FileView;
@@ -223,11 +223,18 @@ pub fn run<'a, T: Files<File = File> + Clock, S: AsStr, R: Read, W: Write, P: Wr
             port,
             ServeFault::Threads,
         )),
-        Err(Refused::Words(error)) => Err(refusal(words, error)),
-        Err(Refused::Number) => Err(misread(alloc, words, Misread::Number)),
-        Err(Refused::Threads) => Err(misread(alloc, words, Misread::Threads)),
-        Err(Refused::Memory) => Err(misread(alloc, words, Misread::Memory)),
-        Err(Refused::Origin) => Err(misread(alloc, words, Misread::Origin)),
+        Err(refused) => Err(refused_words(alloc, words, refused)),
+    }
+}
+
+// The failure by which words are refused.
+fn refused_words<'a, S: AsStr>(alloc: Global, words: &'a [S], refused: Refused) -> Failure<'a> {
+    match refused {
+        Refused::Words(error) => refusal(words, error),
+        Refused::Number => failure_of(alloc, words, Misread::Number),
+        Refused::Threads => failure_of(alloc, words, Misread::Threads),
+        Refused::Memory => failure_of(alloc, words, Misread::Memory),
+        Refused::Origin => failure_of(alloc, words, Misread::Origin),
     }
 }
 

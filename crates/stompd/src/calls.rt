@@ -1,7 +1,7 @@
 //! What a client does.
 
+use client_core::{Address, Outgoing, Plan};
 use client_socket::{InputFault, Way, body_of, forget, listen, send, send_lines};
-use client_core::{Address, Outgoing};
 use command_line::{
     BodyFault, Call, DONE, FAILED, Failure, Uncalled, call_of, end_by, end_call, refusal,
     tell_taken,
@@ -48,12 +48,7 @@ fn run(rt: &HostRuntime, call: Call<'_>) -> u8 {
             address,
             client,
             plan,
-        } => {
-            let mut writer = rt.stdout().lock();
-            let listened = listen(rt, rt.alloc(), address, client, &plan, &mut writer);
-            let mut errors = rt.stderr().lock();
-            end_call(listened, &mut errors).status
-        }
+        } => run_listen(rt, address, client, &plan),
         Call::Forget {
             address,
             client,
@@ -64,6 +59,14 @@ fn run(rt: &HostRuntime, call: Call<'_>) -> u8 {
             end_call(forgotten, &mut errors).status
         }
     }
+}
+
+/// Listens to a destination.
+fn run_listen(rt: &HostRuntime, address: Address<'_>, client: Option<&str>, plan: &Plan<'_>) -> u8 {
+    let mut writer = rt.stdout().lock();
+    let listened = listen(rt, rt.alloc(), address, client, plan, &mut writer);
+    let mut errors = rt.stderr().lock();
+    end_call(listened, &mut errors).status
 }
 
 /// Sends a message.

@@ -6,12 +6,12 @@ mod calls;
 
 use calls::run_call;
 use client_core::Address;
+use client_socket::ping;
 use command_line::{
     BAD_COMMAND_LINE, DONE, FAILED, Failure, Subcommand, end_by, end_ping, is_call, subcommand_of,
     tool,
 };
 use engine_core::ScriptFault;
-use client_socket::ping;
 use server_core::{Ender, Reception, ServeEnd, ServeFault, Server, Unopened};
 use std::alloc::{AllocError, Global};
 use std::fs::{File, Files, OpenOptions};
@@ -82,13 +82,7 @@ const PATIENCE: u64 = 500;
 
 /// The status of a server that has ended so. A fault is reported, by a thread that is not waited for longer than half a second: if nobody
 /// reads standard error and it is full, the program ends all the same, and its port is free.
-fn status_of<R, E>(
-    rt: &R,
-    alloc: Global,
-    (file, port): (&str, u16),
-    end: ServeEnd,
-    errors: E,
-) -> u8
+fn status_of<R, E>(rt: &R, alloc: Global, (file, port): (&str, u16), end: ServeEnd, errors: E) -> u8
 where
     R: Threads + Wait,
     E: Write + Drop + Send + 'static,
