@@ -7,7 +7,10 @@ use Rattle.frame_core.specs.Written.{written}
 use Rattle.script_text.specs.PercentTexts.{encoded}
 use Rattle.client_core.specs.Requests.{ack_frame}
 use Rattle.client_core.specs.Talks.{Said, Shown, Spoken}
+use Rattle.client_core.specs.declared.deeds.Deed.{Deed}
 use Rattle.client_core.specs.declared.plan.Plan.{Plan}
+use Rattle.std.specs.Global.{Global}
+use Rattle.std.specs.Prelude.{Vec}
 
 -- a header on a line of its own
 abbrev pub header_line : List ℕ × List ℕ → List ℕ
@@ -24,6 +27,14 @@ IsDone plan frame acts = (frame.verb ≡ verbs.Message)
     × (((plan.settles ≡ false) × (acts ≡ Shown (shown_text plan.with_headers frame) ∷ []))
     ⊎ ((plan.settles ≡ true) × (delivery : List ℕ) × (first_of (codes "ack") frame.headers ≡ Some delivery)
       × (acts ≡ Shown (shown_text plan.with_headers frame) ∷ Said (written (ack_frame delivery)) ∷ [])))
+
+-- what is done for a deed: its text is shown, and its frame said after that, if it has one
+abbrev pub said_of : Option (Vec ℕ Global) → List Spoken
+said_of None = []
+said_of (Some ack) = Said ack.items ∷ []
+
+abbrev pub acts_of : Deed → List Spoken
+acts_of deed = Shown deed.text.items ∷ said_of deed.ack
 
 -- so are these, one after another
 abbrev pub AreDone : Plan → List Frame → List Spoken → Type 0

@@ -1,5 +1,6 @@
 -- The frames that a client says.
-use Rattle.std.specs.Prelude.{◌≡◌, ◌&&◌, List, [], ◌∷◌, ◌++◌, ℕ, Bool, Bor, Option, None, Some, true, false, codes, cond, decimal, length, map, nat_eq}
+use Rattle.std.specs.Prelude.{◌≡◌, ◌&&◌, List, [], ◌∷◌, ◌++◌, ℕ, Bool, Option, None, Some, true, false, codes, cond, decimal, length, map, nat_eq}
+use Rattle.std.specs.Borrow.{Bor}
 use Rattle.std.specs.List.{starts_with}
 use Rattle.frame_core.specs.declared.frame.Frame.{Frame}
 use Rattle.frame_core.specs.declared.frame.Verb.TheVariants as verbs
@@ -19,11 +20,15 @@ connect_frame host client = record {
   body = [];
 }
 
+-- headers as they are given
+abbrev pub texts : List (Bor (List ℕ) × Bor (List ℕ)) → List (List ℕ × List ℕ)
+texts given = map (λ h. (h.0.now, h.1.now)) given
+
 -- STOMP 1.2, "SEND": to its destination, with a receipt, and then the further headers
 abbrev pub send_frame : Outgoing → Frame
 send_frame m = record {
   verb = verbs.Send;
-  headers = (codes "destination", m.destination.now) ∷ (codes "receipt", codes "sent") ∷ (codes "content-length", decimal (length m.body.now)) ∷ map (λ h. (h.0.now, h.1.now)) m.headers.now;
+  headers = (codes "destination", m.destination.now) ∷ (codes "receipt", codes "sent") ∷ (codes "content-length", decimal (length m.body.now)) ∷ texts m.headers.now;
   body = m.body.now;
 }
 

@@ -2,7 +2,7 @@
 
 ghost use Rattle.std.specs.Prelude.{◌≡◌, ◌≤◌, ◌+◌, ◌++◌, ◌∷◌, List, ℕ, IfOk, OnOk, length};
 ghost use Rattle.frame_core.specs.declared.frame.Frame.{Frame};
-ghost use Rattle.client_core.specs.Deeds.{AreDone, IsDone};
+ghost use Rattle.client_core.specs.Deeds.{AreDone, IsDone, acts_of};
 ghost use Rattle.client_core.specs.Talks.{Adds, Spoken};
 
 use crate::deeds::{Deed, deed_of, is_message};
@@ -127,7 +127,10 @@ fn show<L: Listener>(
     done
 }
 
-fn perform<L: Listener>(deed: &Deed, peer: &mut L) -> Result<(), Cause> {
+// Shows the text of a deed, and then says its frame, if it has one.
+fn perform<L: Listener>(deed: &Deed, peer: &mut L) -> Result<(), Cause>
+    ensures { OnOk result (Adds (acts_of deed.now) (L.Peer.talk peer.old) (L.Peer.talk peer.new)) }
+{
     peer.show(deed.text.as_slice())?;
     match &deed.ack {
         Some(ack) => peer.say(ack.as_slice()),

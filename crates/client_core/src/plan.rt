@@ -1,7 +1,7 @@
 //! What a client is to send, and to listen to.
 
 ghost use Rattle.std.specs.Prelude.{◌≡◌};
-ghost use Rattle.client_core.specs.Requests.{mode_of, takes_all};
+ghost use Rattle.client_core.specs.Requests.{mode_of};
 
 /// A message that is to be sent.
 #[derive(Clone, Copy)]

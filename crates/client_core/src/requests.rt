@@ -1,9 +1,8 @@
 //! The frames that a client says.
 
-ghost use Rattle.std.specs.Prelude.{◌≡◌, ◌++◌, ◌∷◌, ◌⊎◌, [], IfErr, IfOk, OnOk, codes};
+ghost use Rattle.std.specs.Prelude.{◌≡◌, ◌++◌, ◌∷◌, [], IfErr, IfOk, OnOk, codes, decimal, length};
 ghost use Rattle.frame_core.specs.Written.{written};
-ghost use Rattle.client_core.specs.declared.fault.Cause.TheVariants.{Memory, Unwritable};
-ghost use Rattle.client_core.specs.Requests.{ack_frame, connect_frame, forget_frame, send_frame, subscribe_frame};
+ghost use Rattle.client_core.specs.Requests.{ack_frame, connect_frame, forget_frame, send_frame, subscribe_frame, texts};
 ghost use Rattle.client_core.specs.Talks.{IsOfPeer};
 
 use crate::fault::Cause;
@@ -13,7 +12,7 @@ use std::alloc::Global;
 
 /// CONNECT to a virtual host, perhaps with a `client-id`.
 pub fn connect_text(alloc: Global, host: &str, client: Option<&str>) -> Result<Vec<u8>, Cause>
-    ensures ok { IfOk result (λ text. text.items ≡ written (connect_frame host.now client)) }
+    ensures ok { IfOk result (λ text. text.items ≡ written (connect_frame host.now client.entry)) }
     ensures cause { IfErr result IsOfPeer }
 {
     let mut headers = Vec::new(alloc);
@@ -33,13 +32,8 @@ pub fn send_text(alloc: Global, message: &Outgoing<'_>) -> Result<Vec<u8>, Cause
     let mut headers = Vec::new(alloc);
     add(alloc, &mut headers, "destination", message.destination)?;
     add(alloc, &mut headers, "receipt", "sent")?;
-    let Ok(length) = format!(in alloc; "{}", message.body.len()) else {
-        return Err(Cause::Memory);
-    };
-    add(alloc, &mut headers, "content-length", length.as_str())?;
-    for (name, value) in message.headers {
-        add(alloc, &mut headers, name, value)?;
-    }
+    add_length(alloc, &mut headers, message.body)?;
+    add_all(alloc, &mut headers, message.headers)?;
     spelled(alloc, Verb::Send, headers, message.body)
 }
 
@@ -100,6 +94,40 @@ fn add(
         Ok(()) => Ok(()),
         Err(_) => Err(Cause::Memory),
     }
+}
+
+// Adds the length of a body.
+fn add_length(
+    alloc: Global,
+    headers: &mut Vec<(Text, Text)>,
+    body: &[u8],
+) -> Result<(), Cause>
+    ensures ok { OnOk result (headers.new.items ≡ headers.old.items ++ (codes "content-length", decimal (length body.now)) ∷ []) }
+    ensures cause { IfErr result IsOfPeer }
+{
+    match format!(in alloc; "{}", body.len()) {
+        Ok(length) => {
+            let added = add(alloc, headers, "content-length", length.as_str());
+            drop(length);
+            added
+        }
+        Err(_) => Err(Cause::Memory),
+    }
+}
+
+// Adds headers in their order.
+fn add_all(
+    alloc: Global,
+    headers: &mut Vec<(Text, Text)>,
+    given: &[(&str, &str)],
+) -> Result<(), Cause>
+    ensures ok { OnOk result (headers.new.items ≡ headers.old.items ++ texts given.now) }
+    ensures cause { IfErr result IsOfPeer }
+{
+    for (name, value) in given {
+        add(alloc, headers, name, value)?;
+    }
+    Ok(())
 }
 
 // The bytes of a frame, if it can be written.

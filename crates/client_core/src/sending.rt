@@ -22,8 +22,8 @@ pub fn open<P: Peer>(
     client: Option<&str>,
     peer: &mut P,
 ) -> Result<(), ClientFault>
-    ensures ok { OnOk result (Answers Connect (written (connect_frame host.now client)) (P.talk peer.old) (P.talk peer.new)) }
-    ensures fault { IfErr result (λ fault. IsUnanswered Connect (written (connect_frame host.now client)) fault (P.talk peer.old) (P.talk peer.new)) }
+    ensures ok { OnOk result (Answers Connect (written (connect_frame host.now client.entry)) (P.talk peer.old) (P.talk peer.new)) }
+    ensures fault { IfErr result (λ fault. IsUnanswered Connect (written (connect_frame host.now client.entry)) fault (P.talk peer.old) (P.talk peer.new)) }
 {
     match connect_text(alloc, host, client) {
         Ok(text) => ask_owned(alloc, Stage::Connect, text, peer),
