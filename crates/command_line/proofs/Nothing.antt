@@ -1,60 +1,77 @@
 -- A failure before a script is read, and one over an empty journal.
 use Rattle.std.proofs.Common.{◌≡◌, ◌∙◌, List, ℕ, Option, Result, Ok, Err, IfErr, OnOk, refl, subst, sym, inl, inr}
-use Rattle.clap.specs.declared.error.Error.{Error}
 use Rattle.broker_core.specs.Operations.{restarted}
 use Rattle.std.specs.Io.KnownBytes.{Appends, Consumes, IsAtEnd}
 use Rattle.broker_core.specs.States.{State, empty_state}
 use Rattle.engine_core.specs.Scripts.{IsOpenedAs, IsScript, disk_of}
 use Rattle.recover_core.specs.Standing.{Stands}
 use Rattle.engine_core.specs.declared.fault.ScriptFault.{ScriptFault}
-use Rattle.engine_core.specs.declared.fault.ScriptFault.TheVariants.{NotUnderstood, CountTooLarge, Opening, Storing, Input, Output}
+use Rattle.engine_core.specs.declared.fault.ScriptFault.TheVariants.{NotUnderstood, CountTooLarge, Opening, Storing}
 use Rattle.engine_core.specs.declared.fault.ScriptFault.TheVariants as scripts
 use Rattle.disk_core.specs.Memory.{Memory}
 use Rattle.engine_core.proofs.Performing.{restart_is}
 use Rattle.engine_core.specs.Runs.{IsToldAtOnce, Stops, StopsOver}
 use Rattle.command_line.specs.CommandLines.{AskFor, AsksForScript}
-use Rattle.command_line.specs.Failures.{Finishes, RunsToEnd, IsAtOnce, IsBeforehand, StopsBy, Tells, version_line}
+use Rattle.command_line.specs.Failures.{Finishes, RunsToEnd, IsAtOnce, IsBeforehand, IsOfFile, IsRefusal, StopsBy, version_line}
 use Rattle.command_line.specs.declared.parsing.Subcommand.{Subcommand}
 use Rattle.command_line.specs.declared.parsing.Subcommand.TheVariants.{Version}
 use Rattle.command_line.specs.declared.parsing.Subcommand.TheVariants as subcommands
 use Rattle.command_line.specs.declared.program.Failure.{Failure}
-use Rattle.command_line.specs.declared.program.Failure.TheVariants.{CommandLine, Number, ThreadNumber, MemoryNumber, Origin, Script, Format, File, Server, Ping}
-
-pub stops_before : (error : Error) (failure : Failure) (unread held : Option (List ℕ)) → Tells error failure → StopsBy failure unread unread held held
-stops_before error (CommandLine other) unread held told = (refl, refl)
-stops_before error (Format fault) unread held told = absurd told
-stops_before error (File fault) unread held told = absurd told
-stops_before error (Server fault) unread held told = absurd told
-stops_before error (Ping fault) unread held told = absurd told
-stops_before error Number unread held told = absurd told
-stops_before error ThreadNumber unread held told = absurd told
-stops_before error MemoryNumber unread held told = absurd told
-stops_before error Origin unread held told = absurd told
-stops_before error (Script (scripts.Memory refused)) unread held told = inl (tt, (refl, refl))
-stops_before error (Script (NotUnderstood k)) unread held told = absurd told
-stops_before error (Script CountTooLarge) unread held told = absurd told
-stops_before error (Script (Opening fault)) unread held told = absurd told
-stops_before error (Script (Storing fault)) unread held told = absurd told
-stops_before error (Script Input) unread held told = absurd told
-stops_before error (Script Output) unread held told = absurd told
+use Rattle.command_line.specs.declared.program.Failure.TheVariants.{CommandLine, Word, Script, Format, File, Server, Client, Input}
+use Rattle.command_line.specs.declared.program.Failure.TheVariants as failures
 
 pub stops_beforehand : (failure : Failure) (unread held : Option (List ℕ)) → IsBeforehand failure → StopsBy failure unread unread held held
-stops_beforehand (CommandLine other) unread held is = absurd is
-stops_beforehand (Format fault) unread held is = (refl, refl)
-stops_beforehand (File fault) unread held is = absurd is
-stops_beforehand (Server fault) unread held is = absurd is
-stops_beforehand (Ping fault) unread held is = absurd is
-stops_beforehand Number unread held is = absurd is
-stops_beforehand ThreadNumber unread held is = absurd is
-stops_beforehand MemoryNumber unread held is = absurd is
-stops_beforehand Origin unread held is = absurd is
-stops_beforehand (Script (scripts.Memory refused)) unread held is = inl (tt, (refl, refl))
-stops_beforehand (Script (NotUnderstood k)) unread held is = absurd is
-stops_beforehand (Script CountTooLarge) unread held is = absurd is
-stops_beforehand (Script (Opening fault)) unread held is = absurd is
-stops_beforehand (Script (Storing fault)) unread held is = absurd is
-stops_beforehand (Script Input) unread held is = absurd is
-stops_beforehand (Script Output) unread held is = absurd is
+stops_beforehand (CommandLine other) unread held told = absurd told
+stops_beforehand (Word kind word) unread held told = absurd told
+stops_beforehand (Format fault) unread held told = (refl, refl)
+stops_beforehand (File file fault) unread held told = absurd told
+stops_beforehand (Server file port fault) unread held told = absurd told
+stops_beforehand (Client fault) unread held told = absurd told
+stops_beforehand (Input fault) unread held told = absurd told
+stops_beforehand failures.Output unread held told = absurd told
+stops_beforehand (Script (scripts.Memory refused)) unread held told = inl (tt, (refl, refl))
+stops_beforehand (Script (NotUnderstood k)) unread held told = absurd told
+stops_beforehand (Script CountTooLarge) unread held told = absurd told
+stops_beforehand (Script (Opening fault)) unread held told = absurd told
+stops_beforehand (Script (Storing fault)) unread held told = absurd told
+stops_beforehand (Script scripts.Input) unread held told = absurd told
+stops_beforehand (Script scripts.Output) unread held told = absurd told
+
+-- nothing was done if the words are refused
+pub stops_refused : (failure : Failure) (unread held : Option (List ℕ)) → IsRefusal failure → StopsBy failure unread unread held held
+stops_refused (CommandLine other) unread held told = (refl, refl)
+stops_refused (Word kind word) unread held told = (refl, refl)
+stops_refused (Format fault) unread held told = absurd told
+stops_refused (File file fault) unread held told = absurd told
+stops_refused (Server file port fault) unread held told = absurd told
+stops_refused (Client fault) unread held told = absurd told
+stops_refused (Input fault) unread held told = absurd told
+stops_refused failures.Output unread held told = absurd told
+stops_refused (Script (scripts.Memory refused)) unread held told = inl (tt, (refl, refl))
+stops_refused (Script (NotUnderstood k)) unread held told = absurd told
+stops_refused (Script CountTooLarge) unread held told = absurd told
+stops_refused (Script (Opening fault)) unread held told = absurd told
+stops_refused (Script (Storing fault)) unread held told = absurd told
+stops_refused (Script scripts.Input) unread held told = absurd told
+stops_refused (Script scripts.Output) unread held told = absurd told
+
+-- nothing was read if a failure is of a file
+pub stops_file : (failure : Failure) (unread before after : Option (List ℕ)) (same : Type 0) → IsOfFile failure same → (same → after ≡ before) → StopsBy failure unread unread before after
+stops_file (CommandLine other) unread before after same told as = absurd told
+stops_file (Word kind word) unread before after same told as = absurd told
+stops_file (Format fault) unread before after same told as = absurd told
+stops_file (File file fault) unread before after same told as = (refl, λ other. as (told other))
+stops_file (Server file port fault) unread before after same told as = absurd told
+stops_file (Client fault) unread before after same told as = absurd told
+stops_file (Input fault) unread before after same told as = absurd told
+stops_file failures.Output unread before after same told as = absurd told
+stops_file (Script (scripts.Memory refused)) unread before after same told as = absurd told
+stops_file (Script (NotUnderstood k)) unread before after same told as = absurd told
+stops_file (Script CountTooLarge) unread before after same told as = absurd told
+stops_file (Script (Opening fault)) unread before after same told as = absurd told
+stops_file (Script (Storing fault)) unread before after same told as = absurd told
+stops_file (Script scripts.Input) unread before after same told as = absurd told
+stops_file (Script scripts.Output) unread before after same told as = absurd told
 
 at_once : (fault : ScriptFault) (disk now : Memory) → IsToldAtOnce fault disk now → IsAtOnce fault
 at_once (scripts.Memory refused) disk now told = tt
@@ -62,8 +79,8 @@ at_once (NotUnderstood k) disk now told = absurd told
 at_once CountTooLarge disk now told = absurd told
 at_once (Opening fault) disk now told = tt
 at_once (Storing fault) disk now told = absurd told
-at_once Input disk now told = absurd told
-at_once Output disk now told = absurd told
+at_once scripts.Input disk now told = absurd told
+at_once scripts.Output disk now told = absurd told
 
 -- nobody is connected to an empty journal
 pub restarted_empty : restarted empty_state ≡ empty_state

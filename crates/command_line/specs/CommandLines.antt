@@ -1,10 +1,13 @@
 -- What the words of a command line ask for.
 use Rattle.std.specs.Prelude.{◌≡◌, ◌<◌, ◌≤◌, ◌^◌, List, [], ◌∷◌, ◌++◌, ◌||◌, ℕ, Bool, None, Option, Some, true, false, bytes_eq, codes, cond, drop, map, nat_eq}
 use Rattle.std.specs.List.{list_all, starts_with}
-use Rattle.std.specs.Str.Parse.{IsNumeral, digits_value}
+use Rattle.client_core.specs.declared.address.Address.{Address}
+use Rattle.command_line.specs.Addresses.{IsAddress}
+use Rattle.command_line.specs.Numbers.{IsNumber}
 use Rattle.command_line.specs.Origins.{is_origin}
+use Rattle.command_line.specs.Sizes.{IsSize}
 use Rattle.command_line.specs.declared.parsing.Subcommand.{Subcommand}
-use Rattle.command_line.specs.declared.parsing.Subcommand.TheVariants.{Script, Version, Ping, Format, Show, Held, Serve}
+use Rattle.command_line.specs.declared.parsing.Subcommand.TheVariants.{Script, Version, Ping, Format, Show, Held, Sessions, Copy, Serve}
 use Rattle.command_line.specs.declared.given.Given.{Given}
 use Rattle.command_line.specs.declared.given.Place.{Place}
 use Rattle.command_line.specs.declared.given.Place.TheVariants.{Free, Origin, Threads, Memory, Behind}
@@ -84,13 +87,24 @@ given_by = given_from Free
 abbrev pub joined : Words → Words → Words
 joined a b = record { arguments = a.arguments ++ b.arguments; origins = a.origins ++ b.origins; threads = a.threads ++ b.threads; memory = a.memory ++ b.memory; is_sparse = a.is_sparse || b.is_sparse; until_eof = a.until_eof || b.until_eof }
 
--- the text has only decimal digits, and they mean this number
-abbrev pub IsNumber : List ℕ → ℕ → Type 0
-IsNumber text n = IsNumeral 10 text × (n ≡ digits_value 10 text)
-
 -- the arguments are that file, and a text that means that number
 abbrev pub AreFileAndNumber : List (List ℕ) → List ℕ → ℕ → Type 0
 AreFileAndNumber arguments file n = (text : List ℕ) × (arguments ≡ file ∷ text ∷ []) × IsNumber text n
+
+-- the arguments are that file, and a text that means so many bytes; or two files and that
+abbrev pub AreFileAndSize : List (List ℕ) → List ℕ → ℕ → Type 0
+AreFileAndSize arguments file n = (text : List ℕ) × (arguments ≡ file ∷ text ∷ []) × IsSize text n
+
+abbrev pub AreFilesAndSize : List (List ℕ) → List ℕ → List ℕ → ℕ → Type 0
+AreFilesAndSize arguments file copy n = (text : List ℕ) × (arguments ≡ file ∷ copy ∷ text ∷ []) × IsSize text n
+
+-- there is one text, and it means that address
+abbrev pub AreAddress : List (List ℕ) → Address → Type 0
+AreAddress texts address = (text : List ℕ) × (texts ≡ text ∷ []) × IsAddress text address
+
+-- there is one text, and it means so many bytes
+abbrev pub AreSize : List (List ℕ) → ℕ → Type 0
+AreSize texts n = (text : List ℕ) × (texts ≡ text ∷ []) × IsSize text n
 
 -- there is one text, and it means that number
 abbrev pub AreNumber : List (List ℕ) → ℕ → Type 0
@@ -105,19 +119,22 @@ AskForThreads texts (Some n) = AreNumber texts n × (0 < n) × (n ≤ 64)
 -- at least and under 2 ^ 64.
 abbrev pub AskForMemory : List (List ℕ) → Option ℕ → Type 0
 AskForMemory texts None = texts ≡ []
-AskForMemory texts (Some n) = AreNumber texts n × (16777216 ≤ n) × (n < 2 ^ 64)
+AskForMemory texts (Some n) = AreSize texts n × (16777216 ≤ n) × (n < 2 ^ 64)
 
--- This word asks for just that, with what the words after it give. A file's size in bytes is a number under 2 ^ 64, and a port one
--- under 2 ^ 16 that is not 0. An origin is one that browsers send. The number of threads is one from 1 to 64, and the memory of clients
+-- This word asks for just that, with what the words after it give. A file's size in bytes is under 2 ^ 64, and a port a number under
+-- 2 ^ 16 that is not 0. An origin is one that browsers send. The number of threads is one from 1 to 64, and the memory of clients
 -- 16,777,216 bytes or more; both may be left out.
 abbrev pub AskWith : List ℕ → Words → Subcommand → Type 0
 AskWith name given Script = (name ≡ codes "script") × (given.arguments ≡ [])
 AskWith name given Version = (name ≡ codes "--version") × (given.arguments ≡ [])
-AskWith name given (Ping port) = (name ≡ codes "ping") × AreNumber given.arguments port × (0 < port) × (port < 2 ^ 16)
+AskWith name given (Ping address) = (name ≡ codes "ping") × AreAddress given.arguments address
 AskWith name given (Format file bytes is_sparse) =
-    (name ≡ codes "format") × AreFileAndNumber given.arguments file.now bytes × (bytes < 2 ^ 64) × (is_sparse ≡ given.is_sparse)
+    (name ≡ codes "format") × AreFileAndSize given.arguments file.now bytes × (bytes < 2 ^ 64) × (is_sparse ≡ given.is_sparse)
 AskWith name given (Show file) = (name ≡ codes "show") × (given.arguments ≡ file.now ∷ [])
 AskWith name given (Held file) = (name ≡ codes "held") × (given.arguments ≡ file.now ∷ [])
+AskWith name given (Sessions file) = (name ≡ codes "sessions") × (given.arguments ≡ file.now ∷ [])
+AskWith name given (Copy file copy bytes is_sparse) =
+    (name ≡ codes "copy") × AreFilesAndSize given.arguments file.now copy.now bytes × (bytes < 2 ^ 64) × (is_sparse ≡ given.is_sparse)
 AskWith name given (Serve file port origins threads memory until_eof) =
     (name ≡ codes "serve") × AreFileAndNumber given.arguments file.now port × (0 < port) × (port < 2 ^ 16)
     × (map (λ origin. origin.now) origins.items ≡ given.origins) × (list_all is_origin given.origins ≡ true)

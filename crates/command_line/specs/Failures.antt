@@ -22,7 +22,9 @@ use Rattle.engine_core.specs.declared.fault.ScriptFault.{ScriptFault}
 use Rattle.engine_core.specs.declared.fault.ScriptFault.TheVariants.{Opening}
 use Rattle.engine_core.specs.declared.fault.ScriptFault.TheVariants as scripts
 use Rattle.disk_core.specs.Memory.{Memory}
+use Rattle.journal_files.specs.Copies.{copy_text}
 use Rattle.journal_files.specs.Held.{ShowsHeld}
+use Rattle.journal_files.specs.Sessions.{ShowsSessions}
 use Rattle.journal_files.specs.declared.journal_files.ShowFault.TheVariants as shows
 use Rattle.command_line.specs.CommandLines.{AskFor, AsksForScript}
 use Rattle.command_line.specs.declared.parsing.Subcommand.{Subcommand}
@@ -64,6 +66,8 @@ IsDoneAs (asks.Ping port) unread left before after = ⊥
 IsDoneAs (asks.Format file bytes is_sparse) unread left before after = (8224 ≤ bytes) × Untouched unread left before after
 IsDoneAs (asks.Show file) unread left before after = (left ≡ unread) × Shows before after
 IsDoneAs (asks.Held file) unread left before after = (left ≡ unread) × ShowsHeld before after
+IsDoneAs (asks.Sessions file) unread left before after = (left ≡ unread) × ShowsSessions before after
+IsDoneAs (asks.Copy file copy bytes is_sparse) unread left before after = (8224 ≤ bytes) × Untouched unread left before after
 IsDoneAs (asks.Serve file port origins threads memory until_eof) unread left before after = ⊥
 
 -- what the words ask for is done
@@ -131,9 +135,25 @@ pub record FailsBy (words : List (List ℕ)) (unread left before after : Option 
   pub of_script : AsksForScript words → IsOfScript failure
 
 -- it is told that the bytes are too few for a journal
+abbrev pub IsTooShortFault : FileFault → Type 0
+IsTooShortFault (files.Format formats.TooSmall) = Unit {0}
+IsTooShortFault _ = ⊥
+
 abbrev pub IsTooShort : {T : Type 0} → Result T FileFault → Type 0
-IsTooShort (Err (files.Format formats.TooSmall)) = Unit {0}
+IsTooShort (Err fault) = IsTooShortFault fault
 IsTooShort _ = ⊥
+
+-- the failure is of a file, and this is so unless what that shows could not be written
+abbrev pub IsOfFile : Failure → Type 0 → Type 0
+IsOfFile (File file fault) same = fault ≢ files.Show shows.Output → same
+IsOfFile _ same = ⊥
+
+-- the words are refused, or memory was before anything was done
+abbrev pub IsRefusal : Failure → Type 0
+IsRefusal (CommandLine error) = Unit {0}
+IsRefusal (Word kind word) = Unit {0}
+IsRefusal (Script (scripts.Memory refused)) = Unit {0}
+IsRefusal _ = ⊥
 
 -- what is told of what can't be opened
 abbrev pub open_text : List ℕ → List ℕ → List ℕ
@@ -146,6 +166,7 @@ file_text file files.NoFolder = open_text file (codes "there is no such folder")
 file_text file files.NoSpace = codes "no space left for the file"
 file_text file (files.Format fault) = format_text fault
 file_text file (files.Show fault) = show_text fault
+file_text file (files.Copy fault) = copy_text fault
 
 -- what is told of a server's file; if it is missing, that names the command that makes one
 abbrev pub unserved_text : List ℕ → Unopened → List ℕ

@@ -4,3 +4,6 @@ pub mod Origins
 pub mod Pings
 pub mod Views
 pub mod Words
+pub mod Numbers
+pub mod Sizes
+pub mod Addresses

@@ -1,27 +1,63 @@
 //! Where a server is, as words say it.
 
-use crate::origins::are_host_bytes;
-use crate::parsing::port_of;
+ghost use Rattle.std.specs.Prelude.{◌≡◌, IfSome, IsNone};
+ghost use Rattle.client_core.specs.declared.address.Address.{Address};
+ghost use Rattle.command_line.specs.Addresses.{IsAddress, after_host, is_path, is_path_byte, is_url, names_place};
+
+use crate::numbers::port_of;
+use crate::origins::is_host_byte;
 use client_core::Address;
 
 /// The address that a text means: a port of this machine, or `ws://HOST`, perhaps with a port and a path.
-pub fn address_of(text: &str) -> Option<Address<'_>> {
+pub fn address_of(text: &str) -> Option<Address<'_>>
+    ensures some { IfSome result (IsAddress text.now) }
+    ensures none { IsNone result → (address : Address) → IsAddress text.now address → ⊥ }
+{
     if let Some(port) = port_of(text) {
         return Some(Address::Port(port));
     }
-    let rest = text.strip_prefix("ws://")?;
-    let (host, path) = match rest.split_once('/') {
-        Some((host, path)) => (host, path),
-        None => (rest, ""),
-    };
-    if host.is_empty() || !are_host_bytes(host.as_bytes()) || !are_path_bytes(path.as_bytes()) {
-        return None;
+    if is_url(text.as_bytes()) {
+        return Some(Address::Url(text));
     }
-    Some(Address::Url(text))
+    None
 }
 
-// Whether all are printable ASCII, and none begins a fragment.
-fn are_path_bytes(path: &[u8]) -> bool {
-    path.iter()
-        .all(|byte| byte.is_ascii_graphic() && *byte != b'#')
+fn is_url(text: &[u8]) -> bool
+    ensures { result ≡ is_url text.now }
+{
+    text.len() > 5 && text.starts_with(b"ws://") && names_place(&text[5..])
+}
+
+// Whether it begins with a host, perhaps with a port, and nothing but a path follows.
+fn names_place(text: &[u8]) -> bool
+    ensures { result ≡ names_place text.now }
+{
+    let rest = after_host(text);
+    rest.len() < text.len() && is_path(rest)
+}
+
+// What follows the bytes of a host at the front.
+fn after_host(text: &[u8]) -> &[u8]
+    ensures { result.now ≡ after_host text.now }
+{
+    let mut rest = text;
+    while !rest.is_empty() && is_host_byte(rest[0]) {
+        rest = &rest[1..];
+    }
+    rest
+}
+
+fn is_path(text: &[u8]) -> bool
+    ensures { result ≡ is_path text.now }
+{
+    match text {
+        [] => true,
+        [first, rest @ ..] => *first == b'/' && rest.iter().all(|byte| is_path_byte(*byte)),
+    }
+}
+
+fn is_path_byte(byte: u8) -> bool
+    ensures { result ≡ is_path_byte byte }
+{
+    byte > 32 && byte < 127 && byte != b'#'
 }

@@ -8,6 +8,7 @@ mod calling;
 mod given;
 mod making;
 mod misreading;
+mod numbers;
 mod origins;
 mod parsing;
 mod pinged;

@@ -1,8 +1,8 @@
 //! Making the file of a journal.
 
-ghost use Rattle.std.specs.Prelude.{◌≡◌, ◌+◌, ◌*◌, ◌<◌, ◌≤◌, IfOk, OnOk};
+ghost use Rattle.std.specs.Prelude.{◌≡◌, ◌+◌, ◌*◌, ◌<◌, ◌≤◌, IfErr, IfOk, OnOk};
 ghost use Rattle.disk_core.specs.File.{file_size};
-ghost use Rattle.command_line.specs.Failures.{IsTooShort};
+ghost use Rattle.command_line.specs.Failures.{IsOfFile, IsTooShort, IsTooShortFault};
 
 use crate::program::{Failure, FileFault};
 use crate::viewing::FileView;
@@ -65,6 +65,7 @@ pub fn copy_journal<'a, R: Files<File = File> + Clock, P: Write>(
     progress: &mut P,
 ) -> Result<(), Failure<'a>>
     ensures ok { OnOk result (8224 ≤ bytes) }
+    ensures err { IfErr result (λ failure. IsOfFile failure (Unit {0})) }
 {
     let Some(area) = area_in(bytes) else {
         return Err(Failure::File(copy, FileFault::Format(FormatFault::TooSmall)));
@@ -121,7 +122,9 @@ fn make_file<R: Files<File = File> + Clock, P: Write>(
 }
 
 // Why a file was not made: if something is missing, it is its folder.
-fn unmade(error: OpenError) -> FileFault {
+fn unmade(error: OpenError) -> FileFault
+    ensures { IsTooShortFault result → ⊥ }
+{
     match error {
         OpenError::System(error) if is_missing(&error) => FileFault::NoFolder,
         error => FileFault::Open(error),
@@ -169,7 +172,9 @@ fn write_journal(alloc: Global, disk: &mut FileDisk, area: u64) -> Result<(), Fi
 }
 
 // Why a file was not filled.
-fn not_filled(error: io::Error) -> FileFault {
+fn not_filled(error: io::Error) -> FileFault
+    ensures { IsTooShortFault result → ⊥ }
+{
     match error.kind() {
         ErrorKind::StorageFull | ErrorKind::QuotaExceeded => FileFault::NoSpace,
         ErrorKind::FileTooLarge => FileFault::Open(OpenError::System(error)),

@@ -1,5 +1,7 @@
 //! Which word was no number, or no origin.
 
+ghost use Rattle.command_line.specs.Failures.{IsRefusal};
+
 use crate::given::{Given, given_by};
 use crate::origins::is_origin;
 use crate::program::Failure;
@@ -22,7 +24,9 @@ pub enum Misread {
 }
 
 /// The failure that names the word which was not read.
-pub fn failure_of<'a, S: AsStr>(alloc: Global, words: &'a [S], what: Misread) -> Failure<'a> {
+pub fn failure_of<'a, S: AsStr>(alloc: Global, words: &'a [S], what: Misread) -> Failure<'a>
+    ensures { IsRefusal result }
+{
     if words.len() < 2 {
         return Failure::Word(WordKind::Bytes, "");
     }

@@ -58,7 +58,7 @@ fn is_scheme_byte(byte: u8) -> bool
     is_lower_or_digit(byte) || byte == b'+' || byte == b'-' || byte == b'.'
 }
 
-fn is_host_byte(byte: u8) -> bool
+pub(crate) fn is_host_byte(byte: u8) -> bool
     ensures { result ≡ is_host_byte byte }
 {
     is_lower_or_digit(byte)

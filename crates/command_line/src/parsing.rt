@@ -8,18 +8,13 @@ ghost use Rattle.command_line.specs.declared.parsing.Subcommand.TheVariants.{Scr
 
 use crate::addresses::address_of;
 use crate::given::{Given, given_by};
+use crate::numbers::{memory_number_of, port_of, size_of, thread_number_of};
 use crate::origins::is_origin;
 use crate::usage::matches_of;
 use clap::Error;
 use client_core::Address;
 use std::alloc::Global;
 use std::convert::AsStr;
-
-// How many threads may serve clients.
-const MOST_THREADS: u64 = 64;
-
-// How many bytes clients may hold together at least: a server is of little use if it has to give up all that wait for a large message.
-const LEAST_MEMORY: u64 = 16_777_216;
 
 /// A subcommand that the program has.
 #[derive(Drop)]
@@ -412,62 +407,4 @@ fn three_in<'a>(arguments: &[&'a str]) -> Option<(&'a str, &'a str, &'a str)>
     } else {
         None
     }
-}
-
-/// The port that a text of decimal digits means: from 1 to 65,535.
-pub fn port_of(text: &str) -> Option<u16>
-    ensures some { IfSome result (λ port. IsNumber text.now port × (0 < port) × (port < 2 ^ 16)) }
-    ensures none { IfNone result ((port : ℕ) → IsNumber text.now port → 0 < port → 2 ^ 16 ≤ port) }
-{
-    match number_of(text) {
-        Some(number) if number > 0 => u16::try_from(number).ok(),
-        _ => None,
-    }
-}
-
-/// The number of threads that a text of decimal digits means: from 1 to 64.
-fn thread_number_of(text: &str) -> Option<u16>
-    ensures some { IfSome result (λ number. IsNumber text.now number × (0 < number) × (number ≤ 64)) }
-    ensures none { IfNone result ((number : ℕ) → IsNumber text.now number → 0 < number → 64 < number) }
-{
-    match number_of(text) {
-        Some(number) if number > 0 && number <= MOST_THREADS => u16::try_from(number).ok(),
-        _ => None,
-    }
-}
-
-/// The number of bytes for clients that a text of decimal digits means: 16,777,216 at least.
-fn memory_number_of(text: &str) -> Option<u64>
-    ensures some { IfSome result (λ number. IsNumber text.now number × (16777216 ≤ number) × (number < 2 ^ 64)) }
-    ensures none { IfNone result ((number : ℕ) → IsNumber text.now number → 16777216 ≤ number → 2 ^ 64 ≤ number) }
-{
-    match size_of(text) {
-        Some(number) if number >= LEAST_MEMORY => Some(number),
-        _ => None,
-    }
-}
-
-/// The number that a text of decimal digits means.
-pub fn number_of(text: &str) -> Option<u64>
-    ensures some { IfSome result (λ number. IsNumber text.now number × (number < 2 ^ 64)) }
-    ensures none { IfNone result ((number : ℕ) → IsNumber text.now number → 2 ^ 64 ≤ number) }
-{
-    match text.as_bytes() {
-        [b'+', ..] => None,
-        _ => text.parse::<u64>().ok(),
-    }
-}
-
-/// The number of bytes that a text means: decimal digits, perhaps with a K, M or G at their end, which stand for 1,024 of each other.
-fn size_of(text: &str) -> Option<u64> {
-    match text.as_bytes() {
-        [digits @ .., b'K'] => scaled(digits, 1_024),
-        [digits @ .., b'M'] => scaled(digits, 1_048_576),
-        [digits @ .., b'G'] => scaled(digits, 1_073_741_824),
-        _ => number_of(text),
-    }
-}
-
-fn scaled(digits: &[u8], unit: u64) -> Option<u64> {
-    number_of(str::from_utf8(digits).ok()?)?.checked_mul(unit)
 }

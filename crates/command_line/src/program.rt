@@ -1,6 +1,6 @@
 //! The program as a function of its words and streams.
 
-ghost use Rattle.std.specs.Prelude.{◌≡◌, ◌≢◌, ◌≤◌, IfErr, IfOk, OnOk, map};
+ghost use Rattle.std.specs.Prelude.{◌≡◌, ◌≤◌, IfErr, IfOk, OnOk, map};
 ghost use Rattle.std.specs.Io.KnownBytes.{Appends};
 ghost use Rattle.broker_core.specs.States.{empty_state};
 ghost use Rattle.recover_core.specs.Standing.{Stands};
@@ -8,7 +8,7 @@ ghost use Rattle.journal_files.specs.Held.{ShowsHeld};
 ghost use Rattle.journal_files.specs.JournalFiles.{Shows};
 ghost use Rattle.journal_files.specs.Sessions.{ShowsSessions};
 ghost use Rattle.command_line.specs.CommandLines.{AsksForScript};
-ghost use Rattle.command_line.specs.Failures.{EndsByFault, FailsBy, Finishes, RunsToEnd, StopsBy, IsBeforehand, IsOfScript, Tells, status_of, version_line};
+ghost use Rattle.command_line.specs.Failures.{EndsByFault, FailsBy, Finishes, RunsToEnd, StopsBy, IsBeforehand, IsOfFile, IsOfScript, IsRefusal, Tells, status_of, version_line};
 
 use crate::making::{copy_journal, make_journal};
 use crate::misreading::{Misread, failure_of};
@@ -197,13 +197,13 @@ pub fn run<'a, T: Files<File = File> + Clock, S: AsStr, R: Read, W: Write, P: Wr
                 bytes,
                 is_sparse,
             },
-        ) => of_file(
-            file,
-            make_journal(alloc, rt, file, bytes, is_sparse, progress),
-        ),
-        Ok(Subcommand::Show { file }) => of_file(file, show_file(alloc, rt, file, writer)),
-        Ok(Subcommand::Held { file }) => of_file(file, held_file(alloc, rt, file, writer)),
-        Ok(Subcommand::Sessions { file }) => of_file(file, sessions_file(alloc, rt, file, writer)),
+        ) => match make_journal(alloc, rt, file, bytes, is_sparse, progress) {
+            Ok(()) => Ok(()),
+            Err(fault) => Err(Failure::File(file, fault)),
+        },
+        Ok(Subcommand::Show { file }) => show_file(alloc, rt, file, writer),
+        Ok(Subcommand::Held { file }) => held_file(alloc, rt, file, writer),
+        Ok(Subcommand::Sessions { file }) => sessions_file(alloc, rt, file, writer),
         Ok(
             Subcommand::Copy {
                 file,
@@ -228,24 +228,15 @@ pub fn run<'a, T: Files<File = File> + Clock, S: AsStr, R: Read, W: Write, P: Wr
 }
 
 // The failure by which words are refused.
-fn refused_words<'a, S: AsStr>(alloc: Global, words: &'a [S], refused: Refused) -> Failure<'a> {
+fn refused_words<'a, S: AsStr>(alloc: Global, words: &'a [S], refused: Refused) -> Failure<'a>
+    ensures { IsRefusal result }
+{
     match refused {
         Refused::Words(error) => refusal(words, error),
         Refused::Number => failure_of(alloc, words, Misread::Number),
         Refused::Threads => failure_of(alloc, words, Misread::Threads),
         Refused::Memory => failure_of(alloc, words, Misread::Memory),
         Refused::Origin => failure_of(alloc, words, Misread::Origin),
-    }
-}
-
-// A fault is one of that file.
-fn of_file<'a>(file: &'a str, done: Result<(), FileFault>) -> Result<(), Failure<'a>>
-    ensures ok { IsOk result ↔ IsOk done }
-    ensures err { IfErr result (λ failure. (fault : FileFault) × (done ≡ Err fault) × (failure ≡ Failure.File file fault)) }
-{
-    match done {
-        Ok(()) => Ok(()),
-        Err(fault) => Err(Failure::File(file, fault)),
     }
 }
 
@@ -261,62 +252,62 @@ fn version<'a, W: Write>(writer: &mut W) -> Result<(), Failure<'a>>
 }
 
 // Writes what the journal in a file shows of itself. The file is only opened for reading, so it stays as it is.
-fn show_file<R: Files<File = File>, W: Write>(
+fn show_file<'a, R: Files<File = File>, W: Write>(
     alloc: Global,
     rt: &R,
-    path: &str,
+    path: &'a str,
     writer: &mut W,
-) -> Result<(), FileFault>
+) -> Result<(), Failure<'a>>
     ensures ok { OnOk result (Shows (W.contents writer.old) (W.contents writer.new)) }
-    ensures err { IfErr result (λ fault. fault ≢ FileFault.Show ShowFault.Output → writer.new ≡ writer.old) }
+    ensures err { IfErr result (λ failure. IsOfFile failure (writer.new ≡ writer.old)) }
 {
     let mut disk = match FileView::open(rt, path) {
         Ok(disk) => disk,
-        Err(error) => return Err(FileFault::Open(error)),
+        Err(error) => return Err(Failure::File(path, FileFault::Open(error))),
     };
     match show(alloc, &mut disk, writer) {
         Ok(()) => Ok(()),
-        Err(fault) => Err(FileFault::Show(fault)),
+        Err(fault) => Err(Failure::File(path, FileFault::Show(fault))),
     }
 }
 
 // Writes which queues and durable names of the journal in a file hold messages. The file is only opened for reading.
-fn held_file<R: Files<File = File>, W: Write>(
+fn held_file<'a, R: Files<File = File>, W: Write>(
     alloc: Global,
     rt: &R,
-    path: &str,
+    path: &'a str,
     writer: &mut W,
-) -> Result<(), FileFault>
+) -> Result<(), Failure<'a>>
     ensures ok { OnOk result (ShowsHeld (W.contents writer.old) (W.contents writer.new)) }
-    ensures err { IfErr result (λ fault. fault ≢ FileFault.Show ShowFault.Output → writer.new ≡ writer.old) }
+    ensures err { IfErr result (λ failure. IsOfFile failure (writer.new ≡ writer.old)) }
 {
     let mut disk = match FileView::open(rt, path) {
         Ok(disk) => disk,
-        Err(error) => return Err(FileFault::Open(error)),
+        Err(error) => return Err(Failure::File(path, FileFault::Open(error))),
     };
     match show_held(alloc, &mut disk, writer) {
         Ok(()) => Ok(()),
-        Err(fault) => Err(FileFault::Show(fault)),
+        Err(fault) => Err(Failure::File(path, FileFault::Show(fault))),
     }
 }
 
 // Writes which sessions of the journal in a file are open. The file is only opened for reading.
-fn sessions_file<R: Files<File = File>, W: Write>(
+fn sessions_file<'a, R: Files<File = File>, W: Write>(
     alloc: Global,
     rt: &R,
-    path: &str,
+    path: &'a str,
     writer: &mut W,
-) -> Result<(), FileFault>
+) -> Result<(), Failure<'a>>
     ensures ok { OnOk result (ShowsSessions (W.contents writer.old) (W.contents writer.new)) }
-    ensures err { IfErr result (λ fault. fault ≢ FileFault.Show ShowFault.Output → writer.new ≡ writer.old) }
+    ensures err { IfErr result (λ failure. IsOfFile failure (writer.new ≡ writer.old)) }
 {
     let mut disk = match FileView::open(rt, path) {
         Ok(disk) => disk,
-        Err(error) => return Err(FileFault::Open(error)),
+        Err(error) => return Err(Failure::File(path, FileFault::Open(error))),
     };
     match show_sessions(alloc, &mut disk, writer) {
         Ok(()) => Ok(()),
-        Err(fault) => Err(FileFault::Show(fault)),
+        Err(fault) => Err(Failure::File(path, FileFault::Show(fault))),
     }
 }
 

@@ -1,0 +1,93 @@
+//! Numbers, as words say them.
+
+ghost use Rattle.std.specs.Prelude.{◌≡◌, ◌<◌, ◌≤◌, ◌^◌, ℕ, IfNone, IfSome};
+ghost use Rattle.command_line.specs.Numbers.{IsNumber};
+ghost use Rattle.command_line.specs.Sizes.{IsSize, count_text, unit_of};
+
+// How many threads may serve clients.
+const MOST_THREADS: u64 = 64;
+
+// How many bytes clients may hold together at least: a server is of little use if it has to give up all that wait for a large message.
+const LEAST_MEMORY: u64 = 16_777_216;
+
+/// The port that a text of decimal digits means: from 1 to 65,535.
+pub fn port_of(text: &str) -> Option<u16>
+    ensures some { IfSome result (λ port. IsNumber text.now port × (0 < port) × (port < 2 ^ 16)) }
+    ensures none { IfNone result ((port : ℕ) → IsNumber text.now port → 0 < port → 2 ^ 16 ≤ port) }
+{
+    match number_of(text) {
+        Some(number) if number > 0 => u16::try_from(number).ok(),
+        _ => None,
+    }
+}
+
+/// The number of threads that a text of decimal digits means: from 1 to 64.
+pub(crate) fn thread_number_of(text: &str) -> Option<u16>
+    ensures some { IfSome result (λ number. IsNumber text.now number × (0 < number) × (number ≤ 64)) }
+    ensures none { IfNone result ((number : ℕ) → IsNumber text.now number → 0 < number → 64 < number) }
+{
+    match number_of(text) {
+        Some(number) if number > 0 && number <= MOST_THREADS => u16::try_from(number).ok(),
+        _ => None,
+    }
+}
+
+/// The number of bytes for clients that a text means: 16,777,216 at least.
+pub(crate) fn memory_number_of(text: &str) -> Option<u64>
+    ensures some { IfSome result (λ number. IsSize text.now number × (16777216 ≤ number) × (number < 2 ^ 64)) }
+    ensures none { IfNone result ((number : ℕ) → IsSize text.now number → 16777216 ≤ number → 2 ^ 64 ≤ number) }
+{
+    match size_of(text) {
+        Some(number) if number >= LEAST_MEMORY => Some(number),
+        _ => None,
+    }
+}
+
+/// The number that a text of decimal digits means.
+pub fn number_of(text: &str) -> Option<u64>
+    ensures some { IfSome result (λ number. IsNumber text.now number × (number < 2 ^ 64)) }
+    ensures none { IfNone result ((number : ℕ) → IsNumber text.now number → 2 ^ 64 ≤ number) }
+{
+    match text.as_bytes() {
+        [b'+', ..] => None,
+        _ => text.parse::<u64>().ok(),
+    }
+}
+
+/// The number of bytes that a text means: decimal digits, perhaps with a K, M or G at their end, which stand for 1,024 of each other.
+pub(crate) fn size_of(text: &str) -> Option<u64>
+    ensures some { IfSome result (λ n. IsSize text.now n × (n < 2 ^ 64)) }
+    ensures none { IfNone result ((n : ℕ) → IsSize text.now n → 2 ^ 64 ≤ n) }
+{
+    let bytes = text.as_bytes();
+    let digits = str::from_utf8(count_text(bytes)).ok()?;
+    let count = number_of(digits)?;
+    count.checked_mul(unit_of(bytes))
+}
+
+// How many bytes one of a size is, by the letter at its end.
+fn unit_of(text: &[u8]) -> u64
+    ensures value { result ≡ unit_of text.now }
+    ensures some { 0 < result }
+{
+    if text.ends_with(b"K") {
+        return 1_024;
+    }
+    if text.ends_with(b"M") {
+        return 1_048_576;
+    }
+    if text.ends_with(b"G") {
+        return 1_073_741_824;
+    }
+    1
+}
+
+// The text before that letter.
+fn count_text(text: &[u8]) -> &[u8]
+    ensures { result.now ≡ count_text text.now }
+{
+    if unit_of(text) == 1 {
+        return text;
+    }
+    &text[..text.len().saturating_sub(1)]
+}
