@@ -26,7 +26,7 @@ abbrev pub IsDone : Plan → Frame → List Spoken → Type 0
 IsDone plan frame acts = (frame.verb ≡ verbs.Message)
     × (((plan.settles ≡ false) × (acts ≡ Shown (shown_text plan.with_headers frame) ∷ []))
     ⊎ ((plan.settles ≡ true) × (delivery : List ℕ) × (first_of (codes "ack") frame.headers ≡ Some delivery)
-      × (acts ≡ Shown (shown_text plan.with_headers frame) ∷ Said (written (ack_frame delivery)) ∷ [])))
+    × (acts ≡ Shown (shown_text plan.with_headers frame) ∷ Said (written (ack_frame delivery)) ∷ [])))
 
 -- what is done for a deed: its text is shown, and its frame said after that, if it has one
 abbrev pub said_of : Option (Vec ℕ Global) → List Spoken

@@ -31,12 +31,7 @@ pub fn ask<P: Peer>(
 }
 
 // The same. The fault is why the answer did not come.
-fn answer<P: Peer>(
-    alloc: Global,
-    stage: Stage,
-    frame: &[u8],
-    peer: &mut P,
-) -> Result<(), Cause>
+fn answer<P: Peer>(alloc: Global, stage: Stage, frame: &[u8], peer: &mut P) -> Result<(), Cause>
     ensures ok { OnOk result (Answers stage frame.now (P.talk peer.old) (P.talk peer.new)) }
     ensures cause { IfErr result (λ cause. IsOfPeer cause ⊎ Refuses stage frame.now cause (P.talk peer.old) (P.talk peer.new)) }
 {

@@ -85,11 +85,7 @@ fn shown_text(alloc: Global, with_headers: bool, frame: &Frame) -> Result<Vec<u8
 }
 
 // Each header on a line of its own, and an empty line.
-fn add_headers(
-    alloc: Global,
-    text: &mut Vec<u8>,
-    headers: &[(Text, Text)],
-) -> Result<(), Cause>
+fn add_headers(alloc: Global, text: &mut Vec<u8>, headers: &[(Text, Text)]) -> Result<(), Cause>
     ensures { OnOk result (text.new.items ≡ text.old.items ++ (flat_map header_line headers.now ++ 10 ∷ [])) }
 {
     let mut lines = String::new(alloc);

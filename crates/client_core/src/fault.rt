@@ -129,8 +129,7 @@ impl ClientFault {
 
 impl ClientFault {
     /// Whether a message was sent, and no answer says whether it was taken.
-    pub fn is_unknown(&self) -> bool
-    {
+    pub fn is_unknown(&self) -> bool {
         match (self.step, &self.cause) {
             (Step::Receipt, Cause::Error(_) | Cause::Unwritable) => false,
             (Step::Receipt, _) => true,

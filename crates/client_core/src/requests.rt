@@ -74,12 +74,7 @@ pub fn ack_text(alloc: Global, delivery: &str) -> Result<Vec<u8>, Cause>
 }
 
 // Adds a header.
-fn add(
-    alloc: Global,
-    headers: &mut Vec<(Text, Text)>,
-    name: &str,
-    value: &str,
-) -> Result<(), Cause>
+fn add(alloc: Global, headers: &mut Vec<(Text, Text)>, name: &str, value: &str) -> Result<(), Cause>
     ensures ok { OnOk result (headers.new.items ≡ headers.old.items ++ (name.now, value.now) ∷ []) }
     ensures cause { IfErr result IsOfPeer }
 {
@@ -97,11 +92,7 @@ fn add(
 }
 
 // Adds the length of a body.
-fn add_length(
-    alloc: Global,
-    headers: &mut Vec<(Text, Text)>,
-    body: &[u8],
-) -> Result<(), Cause>
+fn add_length(alloc: Global, headers: &mut Vec<(Text, Text)>, body: &[u8]) -> Result<(), Cause>
     ensures ok { OnOk result (headers.new.items ≡ headers.old.items ++ (codes "content-length", decimal (length body.now)) ∷ []) }
     ensures cause { IfErr result IsOfPeer }
 {

@@ -32,11 +32,7 @@ pub fn open<P: Peer>(
 }
 
 /// Sends a message: it is sent once its RECEIPT has come.
-pub fn send<P: Peer>(
-    alloc: Global,
-    message: &Outgoing<'_>,
-    peer: &mut P,
-) -> Result<(), ClientFault>
+pub fn send<P: Peer>(alloc: Global, message: &Outgoing<'_>, peer: &mut P) -> Result<(), ClientFault>
     ensures ok { OnOk result (Answers Send (written (send_frame message.now)) (P.talk peer.old) (P.talk peer.new)) }
     ensures fault { IfErr result (λ fault. IsUnanswered Send (written (send_frame message.now)) fault (P.talk peer.old) (P.talk peer.new)) }
 {
