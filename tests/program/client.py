@@ -144,7 +144,7 @@ def lines(program, checks):
         checks.same("no lines", run(program, "send", *at), (0, b"", ""))
         seen = run(program, "send", *at, given=b"one\ntwo\n" + b"x" * 65_537 + b"\nfour\n")
         checks.same("a line that is too long", seen, (1, b"", told("a body has at most 65536 bytes") + told("2 lines before it were taken")))
-        checks.same("and those before it", held(program, broker), ["2 28 queue /queue/a"])
+        checks.same("and those before it", held(program, broker), ["2 22 queue /queue/a"])
         with started(program, "send", *at, stdin=subprocess.PIPE) as sender:
             for number, pause in enumerate((0, 0.5, 11)):
                 time.sleep(pause)

@@ -3,7 +3,9 @@ use Rattle.std.specs.Prelude.{◌≡◌, ◌⊎◌, List, [], ◌∷◌, ◌++�
 use Rattle.std.specs.List.{flat_map}
 use Rattle.client_core.specs.Answers.{Breaks, Hears, said, step_of}
 use Rattle.client_core.specs.declared.fault.Cause.{Cause}
-use Rattle.client_core.specs.declared.fault.Cause.TheVariants.{Error, Other, NotStomp}
+use Rattle.client_core.specs.declared.fault.Cause.TheVariants.{Error, Other, NotStomp, Output}
+use Rattle.client_core.specs.declared.fault.Step.{Step}
+use Rattle.client_core.specs.declared.fault.Step.TheVariants as steps
 use Rattle.client_core.specs.declared.fault.ClientFault.{ClientFault}
 use Rattle.client_core.specs.declared.stage.Stage.{Stage}
 use Rattle.client_core.specs.declared.stage.Stage.TheVariants.{Connect, Send, Disconnect}
@@ -67,3 +69,8 @@ abbrev pub BreaksOff : ClientFault → Option (List Spoken) → Option (List Spo
 BreaksOff fault before after =
     (stage : Stage) × (talk : List Spoken) × (last : List (List ℕ)) × (fault.step ≡ step_of stage) × Leads stage talk
     × Adds (talk ++ turn (said stage) last) before after × Breaks stage (all_of last) fault.cause
+
+-- the step that went wrong while one listened: no message came, or none could be shown
+abbrev pub listening_step : Cause → Step
+listening_step Output = steps.Output
+listening_step _ = steps.Message

@@ -1,12 +1,13 @@
 -- What is told of a conversation that was not finished.
-use Rattle.std.specs.Prelude.{Bool, List, ℕ, ◌++◌, ◌==◌, codes, cond, false}
+use Rattle.std.specs.Prelude.{Bool, List, [], ℕ, ◌++◌, ◌==◌, codes, cond, false, true}
 use Rattle.std.specs.Fmt.{decimal}
 use Rattle.frame_core.specs.Verbs.{name_of}
 use Rattle.client_core.specs.declared.fault.Cause.{Cause}
-use Rattle.client_core.specs.declared.fault.Cause.TheVariants.{Unserved, NoHost, Late, Silent, Status, NotWebSocket, Closed, Ended, Error, Other, NotStomp, Unwritable, Output, Memory, System}
+use Rattle.client_core.specs.declared.fault.Cause.TheVariants.{Unserved, NoHost, Late, Silent, Status, NotWebSocket, Closed, Ended, Error, Other, NotStomp, Unwritable, Memory, System}
+use Rattle.client_core.specs.declared.fault.Cause.TheVariants as causes
 use Rattle.client_core.specs.declared.fault.ClientFault.{ClientFault}
 use Rattle.client_core.specs.declared.fault.Step.{Step}
-use Rattle.client_core.specs.declared.fault.Step.TheVariants.{Connection, Handshake, Connected, Receipt, Message, Farewell, Close}
+use Rattle.client_core.specs.declared.fault.Step.TheVariants.{Connection, Handshake, Connected, Receipt, Message, Output, Farewell, Close}
 
 -- what did not come
 abbrev pub step_text : Step → List ℕ
@@ -15,6 +16,7 @@ step_text Handshake = codes "no handshake: "
 step_text Connected = codes "no CONNECTED: "
 step_text Receipt = codes "no RECEIPT: "
 step_text Message = codes "no more messages: "
+step_text Output = []
 step_text Farewell = codes "no RECEIPT of the DISCONNECT: "
 step_text Close = codes "no close: "
 
@@ -32,7 +34,7 @@ cause_text (Error text) = codes "ERROR: " ++ text
 cause_text (Other verb) = name_of verb ++ codes " came"
 cause_text NotStomp = codes "what came is no STOMP"
 cause_text Unwritable = codes "no frame can have such a header"
-cause_text Output = codes "input or output failed"
+cause_text causes.Output = codes "input or output failed"
 cause_text Memory = codes "out of memory"
 cause_text System = codes "the system refuses it"
 
@@ -43,6 +45,13 @@ client_text fault = step_text fault.step ++ cause_text fault.cause
 abbrev pub is_of_full : Step → Cause → Bool
 is_of_full Handshake (Status status) = status == 503
 is_of_full _ _ = false
+
+-- a message was sent, and no answer says whether it was taken: an ERROR says that it was not
+abbrev pub is_unknown : Step → Cause → Bool
+is_unknown Receipt (Error text) = false
+is_unknown Receipt Unwritable = false
+is_unknown Receipt _ = true
+is_unknown _ _ = false
 
 -- the status of a ping that was not answered: a server that is full is alive
 abbrev pub ping_status : ClientFault → ℕ

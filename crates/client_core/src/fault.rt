@@ -16,6 +16,8 @@ pub enum Step {
     Receipt,
     /// A message of the subscription.
     Message,
+    /// What is shown to the user.
+    Output,
     /// The RECEIPT of the DISCONNECT.
     Farewell,
     /// The close of the WebSocket.
@@ -36,6 +38,7 @@ impl Step {
             Step::Connected => "no CONNECTED: ",
             Step::Receipt => "no RECEIPT: ",
             Step::Message => "no more messages: ",
+            Step::Output => "",
             Step::Farewell => "no RECEIPT of the DISCONNECT: ",
             Step::Close => "no close: ",
         }
@@ -128,8 +131,13 @@ impl ClientFault {
 }
 
 impl ClientFault {
+    ghost use Rattle.std.specs.Prelude.{◌≡◌};
+    ghost use Rattle.client_core.specs.Texts.{is_unknown};
+
     /// Whether a message was sent, and no answer says whether it was taken.
-    pub fn is_unknown(&self) -> bool {
+    pub fn is_unknown(&self) -> bool
+        ensures { result ≡ is_unknown self.now.step self.now.cause }
+    {
         match (self.step, &self.cause) {
             (Step::Receipt, Cause::Error(_) | Cause::Unwritable) => false,
             (Step::Receipt, _) => true,

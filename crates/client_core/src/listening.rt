@@ -3,7 +3,7 @@
 ghost use Rattle.std.specs.Prelude.{◌≡◌, ◌≤◌, ◌+◌, ◌++◌, ◌∷◌, List, ℕ, IfOk, OnOk, length};
 ghost use Rattle.frame_core.specs.declared.frame.Frame.{Frame};
 ghost use Rattle.client_core.specs.Deeds.{AreDone, IsDone, acts_of};
-ghost use Rattle.client_core.specs.Talks.{Adds, Spoken};
+ghost use Rattle.client_core.specs.Talks.{Adds, Spoken, listening_step};
 
 use crate::deeds::{Deed, deed_of, is_message};
 use crate::fault::{Cause, ClientFault, Step};
@@ -27,13 +27,23 @@ pub fn listen<L: Listener>(
     let left = match hear_messages(alloc, plan, &mut reader, peer) {
         Ok(()) => leave_after(alloc, &mut reader, peer),
         Err(cause) => Err(ClientFault {
-            step: Step::Message,
+            step: step_by(&cause),
             cause,
         }),
     };
     drop(reader);
     left?;
     close(peer)
+}
+
+// The step that went wrong while it listened.
+fn step_by(cause: &Cause) -> Step
+    ensures { result ≡ listening_step cause.now }
+{
+    match cause {
+        Cause::Output => Step::Output,
+        _ => Step::Message,
+    }
 }
 
 // Says SUBSCRIBE, and shows messages until all have come.

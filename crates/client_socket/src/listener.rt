@@ -12,12 +12,12 @@ use std::time::Clock;
 
 /// A peer, and where its messages are shown.
 #[derive(Drop)]
-pub struct Shown<'a, R, W> {
+pub struct Shown<'a, 'b, R, W> {
     pub peer: &'a mut WebPeer<R>,
-    pub writer: &'a mut W,
+    pub writer: &'b mut W,
 }
 
-impl<R: Clock + RandomSource + Drop, W: Write> Peer for Shown<'_, R, W> {
+impl<R: Clock + RandomSource + Drop, W: Write> Peer for Shown<'_, '_, R, W> {
     fn say(&mut self, frame: &[u8]) -> Result<(), Cause> {
         self.peer.say(frame)
     }
@@ -31,7 +31,7 @@ impl<R: Clock + RandomSource + Drop, W: Write> Peer for Shown<'_, R, W> {
     }
 }
 
-impl<R: Clock + RandomSource + Drop, W: Write> Listener for Shown<'_, R, W> {
+impl<R: Clock + RandomSource + Drop, W: Write> Listener for Shown<'_, '_, R, W> {
     fn wait(&mut self) -> Result<Vec<u8>, Cause> {
         self.peer.begin(PATIENCE_SECONDS)?;
         match self.peer.hear() {
