@@ -1,4 +1,4 @@
 mod Asking
 mod Giving
 mod Nothing
-pub mod Words
+pub mod FirstWords

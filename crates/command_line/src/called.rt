@@ -2,7 +2,7 @@
 
 use crate::program::{DONE, Ended, FAILED, FULL, Failure};
 use crate::telling::end_by;
-use client_core::{ClientFault, Step};
+use client_core::ClientFault;
 use std::io;
 use std::io::Write;
 

@@ -1,9 +1,7 @@
 //! What the words ask of a client.
 
-ghost use Rattle.std.specs.Prelude.{◌≡◌, IfOk, IfSome, map};
-
 use crate::addresses::address_of;
-use crate::parsing::number_of;
+use crate::numbers::number_of;
 use crate::usage::matches_of;
 use crate::words::WordKind;
 use clap::{ArgMatches, Error};

@@ -1,7 +1,7 @@
 //! What the words of a command line ask for.
 
-ghost use Rattle.std.specs.Prelude.{◌≡◌, ◌≢◌, ◌<◌, ◌≤◌, ◌^◌, ◌∷◌, ◌↔◌, [], List, Option, ℕ, IfNone, IfOk, IfSome, IsErrOf, IsNone, IsTrue, codes, length, true, map, Ok};
-ghost use Rattle.command_line.specs.CommandLines.{AreFileAndNumber, AskFor, AskForAlone, AskForMemory, AskForNothing, AskForThreads, AskNothingWith, AskWith, AsksForScript, HasOtherMemory, HasOtherOrigin, HasOtherThreads, HaveOtherMemory, HaveOtherOrigin, HaveOtherThreads, IsNumber, words_of};
+ghost use Rattle.std.specs.Prelude.{◌≡◌, ◌≢◌, ◌<◌, ◌^◌, ◌∷◌, ◌↔◌, [], List, Option, ℕ, IfNone, IfOk, IfSome, IsErrOf, IsNone, IsTrue, codes, length, true, map, Ok};
+ghost use Rattle.command_line.specs.CommandLines.{AreFileAndNumber, AskFor, AskForAlone, AskForMemory, AskForNothing, AskForThreads, AskNothingWith, AskWith, AsksForScript, HasOtherMemory, HasOtherOrigin, HasOtherThreads, HaveOtherMemory, HaveOtherOrigin, HaveOtherThreads, words_of};
 ghost use Rattle.std.specs.List.{list_all};
 ghost use Rattle.command_line.specs.Origins.{is_origin};
 ghost use Rattle.command_line.specs.declared.parsing.Subcommand.TheVariants.{Script, Version};

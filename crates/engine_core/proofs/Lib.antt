@@ -10,7 +10,7 @@ pub mod Counting
 pub mod Refusing
 pub mod LineByLine
 pub mod Pieces
-pub mod Turning
+pub mod Turns
 pub mod Alike
 pub mod LinesApart
 pub mod OneText

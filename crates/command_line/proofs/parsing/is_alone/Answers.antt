@@ -1,6 +1,6 @@
 use Rattle.std.proofs.Common.{◌∙◌, ◌∷◌, [], ap, arith, sym}
 use Rattle.std.proofs.lemmas.Grind.{common_steps}
-use Rattle.command_line.proofs.Words.{pair}
+use Rattle.command_line.proofs.FirstWords.{pair}
 use Rattle.command_line.proofs.parsing.is_alone.Goals as goal
 
 pub returns-in-len2-clause-asked : goal.returns-in-len2-clause-asked

@@ -1,5 +1,5 @@
 use Rattle.std.proofs.Common.{◌∙◌, ◌∷◌, ◌-◌, ap, arith, drop, length, map, sym, take}
-use Rattle.command_line.proofs.Words.{named}
+use Rattle.command_line.proofs.FirstWords.{named}
 use Rattle.command_line.proofs.parsing.named.Goals as goal
 
 pub returns-clause-some : goal.returns-clause-some

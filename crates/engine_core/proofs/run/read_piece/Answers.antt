@@ -1,6 +1,6 @@
 use Rattle.std.proofs.Common.{◌≡◌, ◌<◌, arith, ap, take, length}
 use Rattle.std.proofs.lemmas.Result.{err_from_is_err_and}
-use Rattle.engine_core.proofs.Turning.{stopped_at_end, stopped_by_reader, turned_kept}
+use Rattle.engine_core.proofs.Turns.{stopped_at_end, stopped_by_reader, turned_kept}
 use Rattle.engine_core.proofs.run.read_piece.Goals as goal
 
 pub returns-in_err-end-in-Ok-eq0-clause-err : goal.returns-in_err-end-in-Ok-eq0-clause-err

@@ -1,7 +1,7 @@
 use Rattle.std.proofs.Common.{arith, subst, true, false}
 use Rattle.std.proofs.lemmas.Result.{err_from_is_err_and}
 use Rattle.engine_core.specs.Runs.{Turned}
-use Rattle.engine_core.proofs.Turning.{turned_nothing, turned_later, stopped_by_count, stopped_later}
+use Rattle.engine_core.proofs.Turns.{turned_nothing, turned_later, stopped_by_count, stopped_later}
 use Rattle.engine_core.proofs.run.read_to_end.Goals as goal
 
 pub loop-read-init : goal.loop-read-init

@@ -3,7 +3,7 @@ use Rattle.std.proofs.lemmas.Result.{IfErr-weaker, on_ok_weaker}
 use Rattle.disk_core.specs.Memory.{Memory}
 use Rattle.engine_core.specs.Runs.{Stopped, StopsOver}
 use Rattle.engine_core.specs.Scripts.{disk_of}
-use Rattle.engine_core.proofs.Turning.{stops_script, refused_at_once, not_opened, whole}
+use Rattle.engine_core.proofs.Turns.{stops_script, refused_at_once, not_opened, whole}
 use Rattle.engine_core.proofs.run.run_script.Goals as goal
 
 pub returns-in-Err-clause-err : goal.returns-in-Err-clause-err
