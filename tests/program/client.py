@@ -21,8 +21,20 @@ from lib.stomp_client import Client
 
 UNKNOWN = "; the server may have taken it, or not"
 NOBODY = "no connection: nobody listens there"
-# What `stompd COMMAND --help` prints, in a file for each.
-TEXTS = pathlib.Path(__file__).resolve().parent.parent / "help"
+# What each command is called with, and its options (docs/PROTOCOL.md).
+COMMANDS = {
+    "format": ("<FILE> <BYTES>", ["--sparse"]),
+    "show": ("<FILE>", []),
+    "held": ("<FILE>", []),
+    "sessions": ("<FILE>", []),
+    "copy": ("<FILE> <NEW> <BYTES>", ["--sparse"]),
+    "ping": ("<PORT>", []),
+    "send": ("<PORT> <DESTINATION> [BODY]", ["--header", "--lines"]),
+    "listen": ("<PORT> <DESTINATION>", ["--count", "--settle", "--durable", "--headers"]),
+    "forget": ("<PORT> <CLIENT> <NAME>", []),
+    "serve": ("<FILE> <PORT>", ["--origin", "--threads", "--memory", "--until-eof"]),
+    "script": ("", []),
+}
 
 
 def run(program, *words, given=b"", seconds=60):
@@ -36,8 +48,10 @@ def told(text):
 
 
 def held(program, broker):
-    """What `held` has after its two lines of totals."""
-    return subprocess.run([program, "held", broker.journal], capture_output=True, text=True, check=True).stdout.splitlines()[2:]
+    """What `held` has between its two lines of totals and that of the topics."""
+    lines = subprocess.run([program, "held", broker.journal], capture_output=True, text=True, check=True).stdout.splitlines()
+    assert lines[-1].endswith(" topics"), lines
+    return lines[2:-1]
 
 
 @contextlib.contextmanager
@@ -55,14 +69,17 @@ def started(program, *words, stdin=subprocess.DEVNULL):
 
 
 def helps(program, checks):
-    """The help of each, word by word."""
+    """The help of each says how it is called, and has each of its options. That of the program has each command."""
     name = pathlib.Path(program).name
-    files = sorted(TEXTS.glob("*.txt"))
-    checks.check("each command has its text", len(files) == 10, files)
-    for file in files:
-        command = [] if file.stem == "stompd" else [file.stem]
-        text = file.read_text(encoding="utf-8").replace("PROGRAM", name)
-        checks.same(f"the help of {file.stem}", run(program, *command, "--help"), (2, b"", text))
+    status, printed, whole = run(program, "--help")
+    checks.same("the program's help", (status, printed), (2, b""))
+    for command, (words, options) in COMMANDS.items():
+        checks.check(f"it has {command}", f"\n  {command} " in whole, whole)
+        status, printed, text = run(program, command, "--help")
+        usage = f"Usage: {name} {command}" + " [OPTIONS]" * bool(options) + f" {words}".rstrip() + "\n"
+        checks.check(f"the usage of {command}", (status, printed) == (2, b"") and usage in text, text)
+        for option in options:
+            checks.check(f"the help of {command} has {option}", f" {option} " in text.replace("\n", " \n"), text)
 
 
 def bad_words(program, checks):

@@ -151,7 +151,7 @@ def words_and_programs(checks):
         status, told = Start(checks.program, *words).end()
         checks.check(f"{words} are refused", status == 2 and told.startswith("serve: "), (status, told))
     status, told = Start(checks.program, file, free_port(), "--origin", "https://chat.example/").end()
-    checks.check("an origin that no browser sends is refused", status == 2 and "ORIGIN" in told, (status, told))
+    checks.check("an origin that no browser sends is refused", status == 2 and "SCHEME://HOST" in told, (status, told))
     with socket.socket() as taken:
         taken.bind(("127.0.0.1", 0))
         taken.listen()

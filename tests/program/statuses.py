@@ -50,7 +50,7 @@ THREADS = "--threads takes a number from 1 to 64"
 MEMORY = "--memory takes a number of bytes from 16777216 (16M) on, and under 2^64"
 ORIGINS = "an origin is what a browser sends: SCHEME://HOST or SCHEME://HOST:PORT in small letters, with nothing after it"
 VERSION = "stompd 0.2.0\n"
-EMPTY = "messages 0 of 4096\nbytes 0 of 16777216\n"
+EMPTY = "messages 0 of 4096\nbytes 0 of 16777216\n0 0 topics\n"
 # Areas of 4,096 bytes.
 SMALLEST = 8_224
 

@@ -1,3 +1,4 @@
+pub mod Addressing
 mod Asking
 mod Giving
 mod Nothing

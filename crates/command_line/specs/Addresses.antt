@@ -1,5 +1,5 @@
 -- Where a server is, as words say it.
-use Rattle.std.specs.Prelude.{◌≡◌, ◌<◌, ◌^◌, List, [], ◌∷◌, ℕ, Bool, ◌==◌, ◌&&◌, codes, drop, if◌then◌else◌, length, nat_eq, nat_lt, not, true}
+use Rattle.std.specs.Prelude.{◌≡◌, ◌<◌, ◌^◌, List, [], ◌∷◌, ℕ, Bool, ◌==◌, ◌&&◌, ◌||◌, codes, drop, if◌then◌else◌, length, nat_eq, nat_lt, not, true}
 use Rattle.std.specs.List.{list_all, starts_with}
 use Rattle.client_core.specs.declared.address.Address.{Address}
 use Rattle.client_core.specs.declared.address.Address.TheVariants.{Port, Url}
@@ -17,8 +17,7 @@ is_path_byte b = nat_lt 32 b && nat_lt b 127 && not (b == 35)
 
 -- nothing, or a slash and what may follow it
 abbrev pub is_path : List ℕ → Bool
-is_path [] = true
-is_path (b ∷ text) = b == 47 && list_all is_path_byte text
+is_path text = length text == 0 || (starts_with nat_eq text (codes "/") && list_all is_path_byte (drop 1 text))
 
 -- a host, perhaps with a port, and perhaps a path
 abbrev pub names_place : List ℕ → Bool

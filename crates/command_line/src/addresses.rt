@@ -1,6 +1,7 @@
 //! Where a server is, as words say it.
 
 ghost use Rattle.std.specs.Prelude.{◌≡◌, IfSome, IsNone};
+ghost use Rattle.std.specs.List.{list_all};
 ghost use Rattle.client_core.specs.declared.address.Address.{Address};
 ghost use Rattle.command_line.specs.Addresses.{IsAddress, after_host, is_path, is_path_byte, is_url, names_place};
 
@@ -9,6 +10,7 @@ use crate::origins::is_host_byte;
 use client_core::Address;
 
 /// The address that a text means: a port of this machine, or `ws://HOST`, perhaps with a port and a path.
+#[tactic(auto, using(crate::proofs::Addressing::no_place))]
 pub fn address_of(text: &str) -> Option<Address<'_>>
     ensures some { IfSome result (IsAddress text.now) }
     ensures none { IsNone result → (address : Address) → IsAddress text.now address → ⊥ }
@@ -50,10 +52,13 @@ fn after_host(text: &[u8]) -> &[u8]
 fn is_path(text: &[u8]) -> bool
     ensures { result ≡ is_path text.now }
 {
-    match text {
-        [] => true,
-        [first, rest @ ..] => *first == b'/' && rest.iter().all(|byte| is_path_byte(*byte)),
-    }
+    text.is_empty() || text.starts_with(b"/") && are_path_bytes(&text[1..])
+}
+
+fn are_path_bytes(text: &[u8]) -> bool
+    ensures { result ≡ list_all is_path_byte text.now }
+{
+    text.iter().all(|byte| is_path_byte(*byte))
 }
 
 fn is_path_byte(byte: u8) -> bool
