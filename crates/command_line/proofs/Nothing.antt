@@ -57,21 +57,21 @@ stops_refused (Script scripts.Output) unread held told = absurd told
 
 -- nothing was read if a failure is of a file
 pub stops_file : (failure : Failure) (unread before after : Option (List ℕ)) (same : Type 0) → IsOfFile failure same → (same → after ≡ before) → StopsBy failure unread unread before after
-stops_file (CommandLine other) unread before after same told as = absurd told
-stops_file (Word kind word) unread before after same told as = absurd told
-stops_file (Format fault) unread before after same told as = absurd told
-stops_file (File file fault) unread before after same told as = (refl, λ other. as (told other))
-stops_file (Server file port fault) unread before after same told as = absurd told
-stops_file (Client fault) unread before after same told as = absurd told
-stops_file (Input fault) unread before after same told as = absurd told
-stops_file failures.Output unread before after same told as = absurd told
-stops_file (Script (scripts.Memory refused)) unread before after same told as = absurd told
-stops_file (Script (NotUnderstood k)) unread before after same told as = absurd told
-stops_file (Script CountTooLarge) unread before after same told as = absurd told
-stops_file (Script (Opening fault)) unread before after same told as = absurd told
-stops_file (Script (Storing fault)) unread before after same told as = absurd told
-stops_file (Script scripts.Input) unread before after same told as = absurd told
-stops_file (Script scripts.Output) unread before after same told as = absurd told
+stops_file (CommandLine other) unread before after same told gives = absurd told
+stops_file (Word kind word) unread before after same told gives = absurd told
+stops_file (Format fault) unread before after same told gives = absurd told
+stops_file (File file fault) unread before after same told gives = (refl, λ other. gives (told other))
+stops_file (Server file port fault) unread before after same told gives = absurd told
+stops_file (Client fault) unread before after same told gives = absurd told
+stops_file (Input fault) unread before after same told gives = absurd told
+stops_file failures.Output unread before after same told gives = absurd told
+stops_file (Script (scripts.Memory refused)) unread before after same told gives = absurd told
+stops_file (Script (NotUnderstood k)) unread before after same told gives = absurd told
+stops_file (Script CountTooLarge) unread before after same told gives = absurd told
+stops_file (Script (Opening fault)) unread before after same told gives = absurd told
+stops_file (Script (Storing fault)) unread before after same told gives = absurd told
+stops_file (Script scripts.Input) unread before after same told gives = absurd told
+stops_file (Script scripts.Output) unread before after same told gives = absurd told
 
 at_once : (fault : ScriptFault) (disk now : Memory) → IsToldAtOnce fault disk now → IsAtOnce fault
 at_once (scripts.Memory refused) disk now told = tt
