@@ -44,7 +44,8 @@ def held(broker):
 
 def places(broker):
     """What `held` says beside the running server: the totals, and how many messages wait where."""
-    messages, held_bytes, *lines = told(broker, "held").splitlines()
+    messages, held_bytes, *lines, topics = told(broker, "held").splitlines()
+    assert topics == "0 0 topics", topics
     lots = [line.split(" ", 2) for line in lines]
     totals = int(messages.removeprefix("messages ").removesuffix(" of 4096")), int(held_bytes.removeprefix("bytes ").removesuffix(" of 16777216"))
     return totals, [(int(count), int(size), place) for count, size, place in lots]
