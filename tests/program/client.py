@@ -314,7 +314,7 @@ def peers(program, checks):
         peer.end()
         checks.same(f"a SEND is answered by {what}", (seen, peer.fault), ((1, b"", told(text)), None))
     peer = Peer(answering(connected, receipted, ending))
-    seen = run(program, "send", peer.port, "/queue/a", "x", "--lines", given=b"one\ntwo\nthree\n")
+    seen = run(program, "send", peer.port, "/queue/a", "--lines", given=b"one\ntwo\nthree\n")
     peer.end()
     checks.same("a connection is lost within lines", seen, (1, b"", told("no RECEIPT: the connection has ended" + UNKNOWN) + told("1 lines before it were taken")))
 
@@ -358,7 +358,7 @@ def frames(program, checks):
         subscribe = b"SUBSCRIBE\nid:heard\ndestination:%s\nack:%s\n%s\n\0" % (words[0].encode(), mode, name)
         steps = [connected, saying(three), *[lambda *_: None for _ in acks], receipted]
         seen, said = frames_said(program, ["listen", *words], *steps)
-        checks.same(f"of one who listens by {words}", (seen, said[1:-1]), ((0, b"one\ntwo\n", ""), [subscribe, *acks, leave]))
+        checks.same(f"of one who listens by {words}", (seen, said[1:]), ((0, b"one\ntwo\n", ""), [subscribe, *acks, leave]))
     for what, payload, text in (
         ("a message without ack", message(b"x", 7).replace(b"ack:7\n", b""), "what came is no STOMP"),
         ("an ERROR", ERROR, "ERROR: E12 no room for the message"),
