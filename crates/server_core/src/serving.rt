@@ -389,16 +389,35 @@ fn flush<R: Wait + Clock + Drop>(
     for _round in shared.rt.forever() {
         match flush_loop(alloc, &shared.ring, flusher, &shared.wakeups, 1) {
             Ok(mark) if is_last(shared, &mut last, mark) => {
-                shared.wakeups.log().note(&shared.rt, Event::Ending);
-                let compacted = compact_last(alloc, &shared.ring, flusher);
-                flusher.stop(&shared.ring);
-                return compacted;
+                drop(reporter);
+                return flush_last(alloc, shared, flusher);
             }
             Ok(mark) => reporter.report(alloc, shared, flusher, mark),
-            Err(fault) => return Err(fault),
+            Err(fault) => {
+                drop(reporter);
+                return Err(fault);
+            }
         }
     }
     unreachable!()
+}
+
+// Compacts what is worth it before the server ends, and stops the ring.
+fn flush_last<R: Wait + Clock + Drop>(
+    alloc: Global,
+    shared: &Shared<R>,
+    flusher: &mut ServerFlusher,
+) -> Result<(), FlushFault>
+    requires { IsReady shared.now.ring flusher.old }
+    ensures ready { IsReady shared.now.ring flusher.new }
+    ensures seats { flusher.new.seat.seats ≡ flusher.old.seat.seats }
+    ensures stops { flusher.new.seat.stopped ≡ true }
+    ensures fails { IfErr result (λ _. flusher.new.broken ≡ true) }
+{
+    shared.wakeups.log().note(&shared.rt, Event::Ending);
+    let compacted = compact_last(alloc, &shared.ring, flusher);
+    flusher.stop(&shared.ring);
+    compacted
 }
 
 // Whether the server was asked to end, and all that was claimed by then is published.
