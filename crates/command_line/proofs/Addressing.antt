@@ -1,8 +1,9 @@
 -- What texts don't mean.
-use Rattle.std.proofs.Common.{◌≡◌, ◌∙◌, ◌*◌, ◌<◌, ◌≤◌, ◌^◌, List, ℕ, ap, arith, false, sym}
+use Rattle.std.proofs.Common.{◌≡◌, ◌∙◌, ◌*◌, ◌<◌, ◌≤◌, ◌^◌, List, [], ◌∷◌, ℕ, None, Option, Some, ap, arith, false, length, subst, sym}
 use Rattle.client_core.specs.declared.address.Address.{Address}
 use Rattle.client_core.specs.declared.address.Address.TheVariants.{Port, Url}
 use Rattle.command_line.specs.Addresses.{IsAddress, is_url}
+use Rattle.command_line.specs.CommandLines.{AskForMemory}
 use Rattle.command_line.specs.Numbers.{IsNumber}
 use Rattle.command_line.specs.Sizes.{IsSize, unit_of}
 
@@ -18,3 +19,11 @@ one_size text n m a b = a.is ∙ ap (λ x. x * unit_of text) (a.number.1 ∙ sym
 -- if that is too small, it means none that isn't
 pub too_small : (text : List ℕ) (number : ℕ) → IsSize text number → number < 16777216 → (n : ℕ) → IsSize text n → 16777216 ≤ n → 2 ^ 64 ≤ n
 too_small text number is few n found least = let same = one_size text n number found is in absurd (omega (arith, same, few, least))
+
+-- nor does the only text of some ask for memory then
+pub no_memory : (texts : List (List ℕ)) (text : List ℕ) → texts ≡ text ∷ [] → ((n : ℕ) → IsSize text n → 16777216 ≤ n → 2 ^ 64 ≤ n) → (memory : Option ℕ) → AskForMemory texts memory → ⊥
+no_memory texts text are large None asked = let l = ap length (sym are ∙ asked) in omega (arith, l)
+no_memory texts text are large (Some n) asked =
+    let e : text ∷ [] ≡ asked.0.0 ∷ [] = sym are ∙ asked.0.1 in
+    let t : asked.0.0 ≡ text = cc in
+    let most = large n (subst (λ x. IsSize x n) t asked.0.2) asked.1 in omega (arith, most, asked.2)

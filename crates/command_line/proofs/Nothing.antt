@@ -12,7 +12,7 @@ use Rattle.disk_core.specs.Memory.{Memory}
 use Rattle.engine_core.proofs.Performing.{restart_is}
 use Rattle.engine_core.specs.Runs.{IsToldAtOnce, Stops, StopsOver}
 use Rattle.command_line.specs.CommandLines.{AskFor, AsksForScript}
-use Rattle.command_line.specs.Failures.{Finishes, RunsToEnd, IsAtOnce, IsBeforehand, IsOfFile, IsRefusal, StopsBy, version_line}
+use Rattle.command_line.specs.Failures.{FailsBy, Finishes, RunsToEnd, IsAtOnce, IsDoneAs, IsBeforehand, IsOfFile, IsRefusal, StopsBy, version_line}
 use Rattle.command_line.specs.declared.parsing.Subcommand.{Subcommand}
 use Rattle.command_line.specs.declared.parsing.Subcommand.TheVariants.{Version}
 use Rattle.command_line.specs.declared.parsing.Subcommand.TheVariants as subcommands
@@ -128,3 +128,21 @@ version_finishes (Ok u) words asked unread before after asks is only written = r
   script = λ script. absurd (let e : Version ≡ subcommands.Script = sym is ∙ only script in cc);
 }
 version_finishes (Err e) words asked unread before after asks is only written = tt
+
+-- what a file shows was written, which the words ask for, and no script
+pub shown_finishes : {E : Type 0} (r : Result (Unit {0}) E) (words : List (List ℕ)) (asked other : Subcommand) (unread before after : Option (List ℕ)) (Done : Type 0) → AskFor words asked → asked ≡ other → (other ≡ subcommands.Script → ⊥)
+    → (AsksForScript words → asked ≡ subcommands.Script) → (Done → IsDoneAs other unread unread before after) → OnOk r Done → OnOk r (Finishes words unread unread before after)
+shown_finishes (Ok u) words asked other unread before after Done asks is no only does done = record {
+  done = (other, subst (AskFor words) is asks, does done);
+  script = λ script. absurd (no (sym is ∙ only script));
+}
+shown_finishes (Err e) words asked other unread before after Done asks is no only does done = tt
+
+-- a file's failure, if the words ask for no script
+pub file_fails : {T : Type 0} (r : Result T Failure) (words : List (List ℕ)) (unread before after : Option (List ℕ)) (Same : Type 0) → (AsksForScript words → ⊥) → (Same → after ≡ before)
+    → IfErr r (λ failure. IsOfFile failure Same) → IfErr r (FailsBy words unread unread before after)
+file_fails (Ok u) words unread before after Same never same told = tt
+file_fails (Err failure) words unread before after Same never same told = record {
+  stops = stops_file failure unread before after Same told same;
+  of_script = λ script. absurd (never script);
+}

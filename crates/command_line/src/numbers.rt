@@ -33,15 +33,17 @@ pub(crate) fn thread_number_of(text: &str) -> Option<u16>
 }
 
 /// The number of bytes for clients that a text means: 16,777,216 at least.
-#[tactic(auto, using(crate::proofs::Addressing::too_small))]
 pub(crate) fn memory_number_of(text: &str) -> Option<u64>
     ensures some { IfSome result (λ number. IsSize text.now number × (16777216 ≤ number) × (number < 2 ^ 64)) }
     ensures none { IfNone result ((number : ℕ) → IsSize text.now number → 16777216 ≤ number → 2 ^ 64 ≤ number) }
 {
-    match size_of(text) {
-        Some(number) if number >= LEAST_MEMORY => Some(number),
-        _ => None,
+    let Some(number) = size_of(text) else {
+        return None;
+    };
+    if number < LEAST_MEMORY {
+        return None;
     }
+    Some(number)
 }
 
 /// The number that a text of decimal digits means.

@@ -2,7 +2,7 @@
 
 ghost use Rattle.std.specs.Prelude.{◌≡◌, OnOk};
 ghost use Rattle.std.specs.Io.KnownBytes.{Appends};
-ghost use Rattle.command_line.specs.Failures.{IsTold, file_text, line_of, server_text, status_of};
+ghost use Rattle.command_line.specs.Failures.{IsTold, file_text, line_of, server_text, status_of, unserved_text};
 
 use crate::program::{Ended, Failure, FileFault};
 use event_log::{ServeFault, Unopened};
@@ -60,7 +60,7 @@ fn tell_file<E: Write>(file: &str, fault: &FileFault, errors: &mut E) -> io::Res
     }
 }
 
-// Tells why a server was not started, or has ended. If there is no journal, it names the command that makes one.
+// Tells why a server was not started, or has ended.
 fn tell_server<E: Write>(
     file: &str,
     port: u16,
@@ -70,18 +70,25 @@ fn tell_server<E: Write>(
     ensures { OnOk result (Appends (E.contents errors.old) (E.contents errors.new) (line_of (server_text file.now port fault.now))) }
 {
     match fault {
-        ServeFault::File(error) => match Unopened::of(error) {
-            Unopened::Missing => writeln!(
-                errors,
-                "stompd: cannot open: {file}: there is no such file; stompd format {file} 512M makes a journal"
-            ),
-            why => writeln!(errors, "stompd: cannot open: {file}: {}", why.text()),
-        },
+        ServeFault::File(error) => tell_unserved(file, Unopened::of(error), errors),
         ServeFault::Port(why) => writeln!(
             errors,
             "stompd: cannot open: port {port}: {}",
             why.text()
         ),
         _ => writeln!(errors, "stompd: {fault}"),
+    }
+}
+
+// Tells why there is no journal to serve. If its file is missing, the command is named that makes one.
+fn tell_unserved<E: Write>(file: &str, why: Unopened, errors: &mut E) -> io::Result<()>
+    ensures { OnOk result (Appends (E.contents errors.old) (E.contents errors.new) (line_of (unserved_text file.now why))) }
+{
+    match why {
+        Unopened::Missing => writeln!(
+            errors,
+            "stompd: cannot open: {file}: there is no such file; stompd format {file} 512M makes a journal"
+        ),
+        why => writeln!(errors, "stompd: cannot open: {file}: {}", why.text()),
     }
 }

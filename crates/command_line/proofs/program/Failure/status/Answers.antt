@@ -10,9 +10,6 @@ returns-in-Script-2 c = search rules
 pub returns-in-Script-3 : goal.returns-in-Script-3
 returns-in-Script-3 c = search rules
 
-pub returns-in-Script-4 : goal.returns-in-Script-4
-returns-in-Script-4 c = search rules
-
 pub returns-in-CommandLine : goal.returns-in-CommandLine
 returns-in-CommandLine c = search rules
 
