@@ -37,7 +37,7 @@ def missing(name):
 
 
 def unserved(name):
-    return unopened(name, f"there is no such file; stompd format {name} 512M makes a journal")
+    return unopened(name, "there is no such file; stompd format makes a journal")
 
 
 def bad(word, why):

@@ -132,11 +132,11 @@ version_finishes (Err e) words asked unread before after asks is only written = 
 -- what a file shows was written, which the words ask for, and no script
 pub shown_finishes : {E : Type 0} (r : Result (Unit {0}) E) (words : List (List ℕ)) (asked other : Subcommand) (unread before after : Option (List ℕ)) (Done : Type 0) → AskFor words asked → asked ≡ other → (other ≡ subcommands.Script → ⊥)
     → (AsksForScript words → asked ≡ subcommands.Script) → (Done → IsDoneAs other unread unread before after) → OnOk r Done → OnOk r (Finishes words unread unread before after)
-shown_finishes (Ok u) words asked other unread before after Done asks is no only does done = record {
+shown_finishes (Ok u) words asked other unread before after Done asks is apart only does done = record {
   done = (other, subst (AskFor words) is asks, does done);
-  script = λ script. absurd (no (sym is ∙ only script));
+  script = λ script. absurd (apart (sym is ∙ only script));
 }
-shown_finishes (Err e) words asked other unread before after Done asks is no only does done = tt
+shown_finishes (Err e) words asked other unread before after Done asks is apart only does done = tt
 
 -- a file's failure, if the words ask for no script
 pub file_fails : {T : Type 0} (r : Result T Failure) (words : List (List ℕ)) (unread before after : Option (List ℕ)) (Same : Type 0) → (AsksForScript words → ⊥) → (Same → after ≡ before)

@@ -170,7 +170,7 @@ file_text file (files.Copy fault) = copy_text fault
 
 -- what is told of a server's file; if it is missing, that names the command that makes one
 abbrev pub unserved_text : List ℕ → Unopened → List ℕ
-unserved_text file Missing = open_text file (codes "there is no such file; stompd format " ++ file ++ codes " 512M makes a journal")
+unserved_text file Missing = open_text file (codes "there is no such file; stompd format makes a journal")
 unserved_text file why = open_text file (reason_text why)
 
 -- what is told of a server that was not started, or has ended

@@ -10,6 +10,7 @@ use crate::origins::is_host_byte;
 use client_core::Address;
 
 /// The address that a text means: a port of this machine, or `ws://HOST`, perhaps with a port and a path.
+#[tactic(auto, using(crate::proofs::Addressing::no_place))]
 pub fn address_of(text: &str) -> Option<Address<'_>>
     ensures some { IfSome result (IsAddress text.now) }
     ensures none { IsNone result → (address : Address) → IsAddress text.now address → ⊥ }

@@ -33,6 +33,7 @@ pub(crate) fn thread_number_of(text: &str) -> Option<u16>
 }
 
 /// The number of bytes for clients that a text means: 16,777,216 at least.
+#[tactic(auto, using(crate::proofs::Addressing::too_small))]
 pub(crate) fn memory_number_of(text: &str) -> Option<u64>
     ensures some { IfSome result (λ number. IsSize text.now number × (16777216 ≤ number) × (number < 2 ^ 64)) }
     ensures none { IfNone result ((number : ℕ) → IsSize text.now number → 16777216 ≤ number → 2 ^ 64 ≤ number) }

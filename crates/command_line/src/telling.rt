@@ -87,7 +87,7 @@ fn tell_unserved<E: Write>(file: &str, why: Unopened, errors: &mut E) -> io::Res
     match why {
         Unopened::Missing => writeln!(
             errors,
-            "stompd: cannot open: {file}: there is no such file; stompd format {file} 512M makes a journal"
+            "stompd: cannot open: {file}: there is no such file; stompd format makes a journal"
         ),
         why => writeln!(errors, "stompd: cannot open: {file}: {}", why.text()),
     }
