@@ -12,10 +12,10 @@ use Rattle.std.specs.Map.{keys_of, lookup}
 use Rattle.std.specs.Ordering.{is_eq, nat_cmp, ordering_reverse, ordering_then}
 use Rattle.std.specs.declared.cmp.Ordering.{Ordering}
 use Rattle.std.specs.declared.cmp.Ordering.TheVariants.{Less, Equal, Greater}
-use Rattle.line_core.proofs.RisingLines.{by_number-total}
-use Rattle.line_core.specs.Lines.{by_number, is_same}
-use Rattle.line_core.specs.declared.message.MessageNumber.{MessageNumber}
-use Rattle.line_core.specs.declared.message.Message.{Message}
+use Rattle.broker_state.proofs.RisingLines.{by_number-total}
+use Rattle.broker_state.specs.Lines.{by_number, is_same}
+use Rattle.broker_state.specs.declared.message.MessageNumber.{MessageNumber}
+use Rattle.broker_state.specs.declared.message.Message.{Message}
 use Rattle.broker_state.specs.Kept.{unacknowledged_by}
 use Rattle.broker_state.specs.Names.{AreSame}
 use Rattle.broker_checks.specs.Seen.{count_of, seen_at, seen_cmp}

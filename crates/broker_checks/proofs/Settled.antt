@@ -1,5 +1,5 @@
 use Rattle.std.proofs.Common.{◌≡◌, ◌&&◌, ◌∙◌, List, [], ◌∷◌, Bool, None, Some, ℕ, true, false, ap, not, refl, remove, slice_get, sym, take}
-use Rattle.line_core.specs.declared.message.Message.{Message}
+use Rattle.broker_state.specs.declared.message.Message.{Message}
 use Rattle.broker_state.specs.declared.subscription.Subscription.{Subscription}
 use Rattle.broker_state.specs.HandOut.{can_take, hand_out, handed_from, handed_to, has_room}
 use Rattle.broker_state.specs.Lists.{is_none}

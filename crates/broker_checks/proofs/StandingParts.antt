@@ -1,7 +1,7 @@
 use Rattle.std.proofs.Common.{◌++◌, List, ℕ}
 use Rattle.std.specs.List.{AllByRecursion, flat_map}
 use Rattle.frame_core.proofs.Lists.{all_append, all_left, all_right}
-use Rattle.line_core.specs.declared.message.Message.{Message}
+use Rattle.broker_state.specs.declared.message.Message.{Message}
 use Rattle.broker_state.specs.Names.{Name}
 use Rattle.broker_state.specs.Sound.{had_by}
 use Rattle.broker_state.specs.States.{State, standing}

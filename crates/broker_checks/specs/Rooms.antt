@@ -1,5 +1,5 @@
 use Rattle.std.specs.Prelude.{◌≡◌, ◌+◌, ◌≤◌, ℕ, MatchOption, Option}
-use Rattle.line_core.specs.declared.message.Message.{Message}
+use Rattle.broker_state.specs.declared.message.Message.{Message}
 use Rattle.broker_state.specs.declared.held.Held.{Held}
 use Rattle.broker_state.specs.States.{bytes, one}
 

@@ -4,9 +4,9 @@ use Rattle.std.specs.BTreeMap.{is_at}
 use Rattle.std.specs.BTreeSet.{BTreeSet, contains}
 use Rattle.std.specs.Ordering.{ordering_then}
 use Rattle.std.specs.declared.cmp.Ordering.{Ordering}
-use Rattle.line_core.specs.declared.message.Message.{Message}
-use Rattle.line_core.specs.declared.message.MessageNumber.{MessageNumber}
-use Rattle.line_core.specs.Lines.{by_number, is_same}
+use Rattle.broker_state.specs.declared.message.Message.{Message}
+use Rattle.broker_state.specs.declared.message.MessageNumber.{MessageNumber}
+use Rattle.broker_state.specs.Lines.{by_number, is_same}
 use Rattle.broker_state.specs.declared.subscription.Subscription.{Subscription}
 
 -- a key behind a reference with the number of a message compares by the key, and then by the number

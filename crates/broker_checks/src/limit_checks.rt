@@ -12,7 +12,7 @@ ghost use Rattle.broker_state.specs.Waiting.{weight_of_lines};
 use broker_state::{
     Held, LAST_DELIVERY, MOST_BYTES, MOST_MESSAGES, Parts, Subscription, has_waiting,
 };
-use line_core::{Flight, Line, Message, size};
+use broker_state::{Flight, Line, Message, size};
 use std::collections::BTreeMap;
 
 /// How much may be held.

@@ -12,7 +12,7 @@ ghost use Rattle.broker_state.specs.Waiting.{is_own};
 use crate::message_checks::{are_once_in_queues, are_once_under_names, have_once};
 use broker_state::{DurableName, Parts, Subscription};
 use command_core::Dest;
-use line_core::{Flight, Line, Message};
+use broker_state::{Flight, Line, Message};
 use std::alloc::{AllocError, Global};
 use std::collections::BTreeMap;
 

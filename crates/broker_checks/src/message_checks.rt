@@ -3,8 +3,8 @@
 ghost use Rattle.std.specs.Prelude.{◌≡◌, ◌+◌, ◌++◌, ◌≤◌, ◌↔◌, IfOk, Bool, IsTrue, List, MatchOption, ℕ, cond, count_by, false};
 ghost use Rattle.std.specs.BTreeMap.{is_at};
 ghost use Rattle.std.specs.List.{AllByRecursion};
-ghost use Rattle.line_core.specs.Lines.{is_same};
-ghost use Rattle.line_core.specs.declared.message.MessageNumber.{MessageNumber};
+ghost use Rattle.broker_state.specs.Lines.{is_same};
+ghost use Rattle.broker_state.specs.declared.message.MessageNumber.{MessageNumber};
 ghost use Rattle.broker_state.specs.Kept.{takes_from, unacknowledged_by};
 ghost use Rattle.broker_state.specs.Names.{AreSame, Name, name_cmp, text_cmp};
 ghost use Rattle.broker_state.specs.Operations.{uses};
@@ -15,7 +15,7 @@ ghost use Rattle.broker_state.specs.Waiting.{line_at};
 
 use broker_state::{DurableName, Parts, Subscription};
 use command_core::{Dest, HeaderText};
-use line_core::{Flight, Line, Message, MessageNumber};
+use broker_state::{Flight, Line, Message, MessageNumber};
 use std::alloc::{AllocError, Global};
 use std::collections::{BTreeMap, BTreeSet};
 

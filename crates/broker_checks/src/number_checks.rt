@@ -4,13 +4,13 @@ ghost use Rattle.std.specs.Prelude.{◌≡◌, ◌==◌, ◌+◌, ◌<◌, ◌�
 ghost use Rattle.std.specs.BTreeSet.{contains};
 ghost use Rattle.std.specs.List.{AllByRecursion, sum_by};
 ghost use Rattle.std.specs.Ordering.{nat_cmp};
-ghost use Rattle.line_core.specs.Flights.{IsOver};
+ghost use Rattle.broker_state.specs.Flights.{IsOver};
 ghost use Rattle.broker_state.specs.PartsOf.{state_of_parts};
 ghost use Rattle.broker_state.specs.Sound.{HasNumbers, had_by};
 ghost use Rattle.broker_state.specs.States.{IsInOrder, standing};
 
 use broker_state::{LAST_DELIVERY, Parts, Subscription, stand_in_order};
-use line_core::{Line, Message};
+use broker_state::{Line, Message};
 use std::alloc::{AllocError, Global};
 use std::collections::{BTreeMap, BTreeSet};
 

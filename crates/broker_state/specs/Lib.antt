@@ -1,3 +1,6 @@
+pub mod Flights
+pub mod Lines
+pub mod Messages
 pub mod Lists
 pub mod Names
 pub mod Waiting
@@ -12,3 +15,6 @@ pub mod Settles
 pub mod Kept
 pub mod Sound
 pub mod PartsOf
+pub mod Copies
+pub mod Refusals
+pub mod Worked

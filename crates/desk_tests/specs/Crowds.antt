@@ -3,7 +3,7 @@ use Rattle.std.specs.Prelude.{◌≡◌, ◌+◌, Option, Some, length}
 use Rattle.atomic_table.specs.Seated.{TableId}
 use Rattle.claim_core.specs.Seats.{SessionSeatValue}
 use Rattle.flush_core.specs.Flushed.{Flushed}
-use Rattle.hub_core.specs.Hubs.{HubValue}
+use Rattle.engine_core.specs.Hubs.{HubValue}
 
 -- a seat of that ring is there
 abbrev pub IsAt : TableId → Option SessionSeatValue → Type 0

@@ -1,6 +1,6 @@
 ghost use Rattle.std.specs.Prelude.{◌≡◌, ◌+◌, ◌∷◌, [], ◌≤◌, ◌<◌, IfSome, All, length, vec_capacity, false};
 ghost use Rattle.flush_core.specs.Flushed.{Flushed};
-ghost use Rattle.hub_core.specs.Hubs.{IsWhole};
+ghost use Rattle.engine_core.specs.Hubs.{IsWhole};
 ghost use Rattle.desk_tests.specs.Crowds.{AreFour, IsAt};
 
 use crate::clients::Client;
@@ -8,7 +8,7 @@ use crate::rooms::{Free, HubFlusher, HubRing, HubSeat, MemDesk, MemHub, new_hub}
 use crate::texts::{CONNECT, CONNECTED};
 use desk_core::{Desk, Next, Turned};
 use disk_core::MemDisk;
-use hub_core::{Closed, flush_loop};
+use engine_core::{Closed, flush_loop};
 use outbox_core::Silent;
 use std::alloc::Global;
 use std::test::Fail;

@@ -2,14 +2,14 @@
 
 ghost use Rattle.std.specs.Prelude.{◌≡◌, ◌≤◌, ◌<◌, IfSome, IsSome, false, length};
 ghost use Rattle.flush_core.specs.Flushed.{Flushed};
-ghost use Rattle.hub_core.specs.Hubs.{IsWhole};
+ghost use Rattle.engine_core.specs.Hubs.{IsWhole};
 
 use crate::clients::Client;
 use area_core::format;
 use claim_core::{BrokerRing, BrokerSeat};
 use desk_core::{Desk, Next};
 use disk_core::MemDisk;
-use hub_core::{Gate, Hub, flush_loop};
+use engine_core::{Gate, Hub, flush_loop};
 use outbox_core::{OutSender, Silent};
 use std::alloc::Global;
 
@@ -19,7 +19,7 @@ pub type HubRing = BrokerRing<OutSender<Silent>>;
 
 pub type HubSeat = BrokerSeat<OutSender<Silent>>;
 
-pub type HubFlusher = hub_core::HubFlusher<MemDisk, Silent>;
+pub type HubFlusher = engine_core::HubFlusher<MemDisk, Silent>;
 
 pub type MemDesk = Desk<Silent, Client>;
 

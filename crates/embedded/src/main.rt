@@ -4,7 +4,7 @@
 
 ghost use Rattle.std.specs.Prelude.{◌≡◌, ◌<◌, ◌+◌, IsSome, length};
 ghost use Rattle.flush_core.specs.Flushed.{Flushed};
-ghost use Rattle.hub_core.specs.Hubs.{IsWhole};
+ghost use Rattle.engine_core.specs.Hubs.{IsWhole};
 
 use area_core::format;
 use claim_core::{BrokerRing, BrokerSeat};

@@ -1,3 +1,13 @@
+pub mod Shares
+pub mod Taken
+pub mod Steps
+pub mod Histories
+pub mod Desks
+pub mod Sizes
+pub mod Beginning
+pub mod Serving
+pub mod Shown
+pub mod Rounds
 pub mod Fronts
 pub mod Going
 pub mod Placing

@@ -1,3 +1,10 @@
+pub mod Sessions
+pub mod Desks
+pub mod Rooms
+pub mod Closings
+pub mod Flushes
+pub mod Hubs
+pub mod Serving
 pub mod Faults
 pub mod Going
 pub mod Journals

@@ -10,8 +10,8 @@ use Rattle.broker_state.specs.States.{IsInOrder}
 use Rattle.broker_core.specs.States.{State}
 use Rattle.broker_core.specs.Steps.{outs, outs_of, state_after, step}
 use Rattle.broker_state.specs.declared.nack_rule.NackRule.TheVariants.{Keeps}
-use Rattle.broker_laws.proofs.Numbers.{outs_numbered}
-use Rattle.broker_laws.proofs.Ordered.{done_count, step_in_order}
+use Rattle.broker_state.proofs.Numbers.{outs_numbered}
+use Rattle.broker_state.proofs.Ordered.{done_count, step_in_order}
 use Rattle.recover_core.proofs.Stores.{after-append}
 use Rattle.claim_core.specs.Seats.{FlushSeatValue, next_ticket}
 use Rattle.flush_core.specs.Batches.{between, from_on, state_at, state_taken, with_more}

@@ -8,6 +8,8 @@ mod compacting_tests;
 #[cfg(test)]
 mod failing_tests;
 #[cfg(test)]
+mod pace_tests;
+#[cfg(test)]
 mod refusal_tests;
 #[cfg(test)]
 mod room_tests;

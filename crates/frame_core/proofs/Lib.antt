@@ -1,3 +1,4 @@
+pub mod Reading
 pub mod BodySteps
 pub mod Decided
 pub mod HeadSteps

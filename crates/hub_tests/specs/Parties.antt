@@ -3,7 +3,7 @@ use Rattle.std.specs.Prelude.{◌≡◌, ◌+◌, List, All, length}
 use Rattle.atomic_table.specs.Seated.{TableId}
 use Rattle.claim_core.specs.Seats.{SessionSeatValue}
 use Rattle.flush_core.specs.Flushed.{Flushed}
-use Rattle.hub_core.specs.Hubs.{HubValue}
+use Rattle.engine_core.specs.Hubs.{HubValue}
 
 -- two seats and the flusher are of the hub's ring, and the hub has all other seats of it
 abbrev pub AreTogether : {D : Type 0} → HubValue D → SessionSeatValue → SessionSeatValue → Flushed D → Type 0

@@ -6,7 +6,7 @@ use crate::paces::{Free, Shut};
 use command_core::{Command, Dest, Entry, Op, Sending};
 use disk_core::MemDisk;
 use frame_core::{Bytes, Headers};
-use hub_core::{Closed, flush_loop};
+use engine_core::{Closed, flush_loop};
 use outbox_core::{OutSender, Silent};
 use std::alloc::Global;
 use std::test::Fail;

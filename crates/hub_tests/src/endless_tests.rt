@@ -7,7 +7,7 @@ use crate::hubs::{HubRing, HubSeat, Party, SMALL_AREA, link_of, new_party};
 use crate::links::Endless;
 use crate::paces::Free;
 use crate::texts::{CONNECT, SEND_X};
-use hub_core::{Ended, flush_loop, worker};
+use engine_core::{Ended, flush_loop, worker};
 use outbox_core::Silent;
 use std::alloc::Global;
 use std::test::Fail;

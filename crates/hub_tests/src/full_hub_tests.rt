@@ -1,6 +1,6 @@
 ghost use Rattle.std.specs.Prelude.{◌≡◌, ◌+◌, ◌<◌, ◌≤◌, [], All, IfSome, OnOk, length};
 ghost use Rattle.flush_core.specs.Flushed.{Flushed};
-ghost use Rattle.hub_core.specs.Hubs.{IsWhole};
+ghost use Rattle.engine_core.specs.Hubs.{IsWhole};
 ghost use Rattle.hub_tests.specs.Parties.{AreAllOut, AreSixteen};
 
 use crate::hubs::{
@@ -10,7 +10,7 @@ use crate::hubs::{
 use crate::many_commands_tests::{append_next, flush_to};
 use crate::paces::Pause;
 use disk_core::MemDisk;
-use hub_core::{Closed, Hub};
+use engine_core::{Closed, Hub};
 use std::alloc::{AllocError, Global};
 use std::test::Fail;
 use std::thread::{Threads, join_mut};

@@ -2,8 +2,8 @@
 
 ghost use Rattle.std.specs.Prelude.{◌≡◌, ◌≤◌, ◌<◌, ◌+◌, ◌++◌, ◌∷◌, [], List, IfSome, IsSome, All, length, vec_capacity};
 ghost use Rattle.command_core.specs.Commands.{CommandValue};
-ghost use Rattle.hub_core.specs.Closings.{shown};
-ghost use Rattle.hub_core.specs.Hubs.{IsWhole};
+ghost use Rattle.engine_core.specs.Closings.{shown};
+ghost use Rattle.engine_core.specs.Hubs.{IsWhole};
 ghost use Rattle.flush_core.specs.Flushed.{Flushed};
 ghost use Rattle.world_core.specs.Schedules.{Holds};
 ghost use Rattle.hub_tests.specs.Parties.{AreTogether};
@@ -11,7 +11,7 @@ ghost use Rattle.hub_tests.specs.Parties.{AreTogether};
 use area_core::format;
 use claim_core::{BrokerRing, BrokerSeat};
 use disk_core::MemDisk;
-use hub_core::{Closed, Hub};
+use engine_core::{Closed, Hub};
 use outbox_core::{OutSender, Silent};
 use std::alloc::{AllocError, Global};
 use ws_core::MemLink;
@@ -22,7 +22,7 @@ pub type HubRing = BrokerRing<OutSender<Silent>>;
 
 pub type HubSeat = BrokerSeat<OutSender<Silent>>;
 
-pub type HubFlusher = hub_core::HubFlusher<MemDisk, Silent>;
+pub type HubFlusher = engine_core::HubFlusher<MemDisk, Silent>;
 
 /// The bytes of a roomy area.
 pub const AREA: u64 = 262_144;

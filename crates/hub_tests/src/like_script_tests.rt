@@ -6,7 +6,7 @@ use crate::hubs::{
 };
 use crate::paces::Pause;
 use crate::texts::{SUBSCRIBER, THREE_MESSAGES};
-use hub_core::{Ended, flush_loop, worker};
+use engine_core::{Ended, flush_loop, worker};
 use outbox_core::Silent;
 use std::alloc::Global;
 use std::sync::Wait;

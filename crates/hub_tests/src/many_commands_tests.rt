@@ -5,7 +5,7 @@ use crate::hubs::{AREA, HubFlusher, HubRing, HubSeat, Party, close, new_party, n
 use crate::paces::Pause;
 use claim_core::Refused;
 use command_core::{Command, Entry, Op};
-use hub_core::{Gate, flush_loop};
+use engine_core::{Gate, flush_loop};
 use outbox_core::{OutSender, Silent};
 use std::alloc::Global;
 use std::mem;

@@ -1,6 +1,6 @@
 //! Gates that let threads wait for one another.
 
-use hub_core::Gate;
+use engine_core::Gate;
 use std::sync::atomic::{AtomicBool, AtomicU64, Ordering};
 use std::thread;
 use std::time::{Clock, Duration};

@@ -11,7 +11,7 @@ use crate::paces::{Free, Noting};
 use crate::texts::{CONNECT, SEND_X, SEND_Y, SUBSCRIBE, SUBSCRIBER, THREE_MESSAGES};
 use disk_core::MemDisk;
 use flush_core::FlushFault;
-use hub_core::{Ended, flush_loop, worker};
+use engine_core::{Ended, flush_loop, worker};
 use outbox_core::Silent;
 use std::alloc::Global;
 use std::sync::Wait;

@@ -8,7 +8,7 @@ use crate::hubs::{
 };
 use crate::links::{NO_SHORTAGE, Scarce, ScriptedLink, Shortage};
 use crate::paces::{Awaited, Noting};
-use hub_core::{Ended, flush_loop, worker};
+use engine_core::{Ended, flush_loop, worker};
 use std::alloc::Global;
 use std::cell::Cell;
 use std::sync::Wait;

@@ -6,7 +6,7 @@ use crate::texts::{
     LAST_RECEIPT, LAST_WORD, LONG_BODY, LONG_END, LONG_HEAD, NOT_EXPECTED, SEND_X, SUBSCRIBER,
     THREE_MESSAGES, TRANSACTION, TWENTY_RECEIPTED, TWENTY_SENDS,
 };
-use hub_core::Ended;
+use engine_core::Ended;
 use std::test::Fail;
 
 const ROWS: [Row; 11] = [

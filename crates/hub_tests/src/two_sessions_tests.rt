@@ -3,7 +3,7 @@ ghost use Rattle.hub_tests.specs.Parties.{AreTogether};
 
 use crate::hubs::{AREA, HubFlusher, HubRing, HubSeat, Party, first_wrong, link_of, new_party};
 use crate::paces::Turnstile;
-use hub_core::{Ended, flush_loop, worker};
+use engine_core::{Ended, flush_loop, worker};
 use outbox_core::Silent;
 use std::alloc::Global;
 use std::sync::Wait;

@@ -1,13 +1,13 @@
 //! The escapes of header texts, and the texts of the faults.
 
 use command_core::{DecodeFault, DestFault, Fault, fault_text, is_header_text};
-use escape_core::{EscapeFault, escape, is_defined, unescape};
+use frame_core::{EscapeFault, escape, is_defined, unescape};
 use frame_core::{FeedFault, FrameFault};
-use line_core::SettleFault;
+use broker_state::SettleFault;
 use session_core::SessionFault;
 use std::alloc::{AllocError, Global};
 use std::test::Fail;
-use tx_core::TxFault;
+use session_core::TxFault;
 
 // Texts and how they are written in a header (STOMP 1.2, "Value Encoding").
 const ESCAPED: [(&[u8], &[u8]); 4] = [

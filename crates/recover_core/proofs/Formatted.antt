@@ -4,7 +4,7 @@ use Rattle.area_core.specs.declared.version.Version.TheVariants.{Two}
 use Rattle.area_core.specs.Areas.{first_snapshot}
 use Rattle.area_core.specs.Journals.{Reads}
 use Rattle.broker_core.specs.States.{empty_state}
-use Rattle.broker_laws.proofs.SoundSteps.{sound_first}
+use Rattle.broker_state.proofs.SoundSteps.{sound_first}
 use Rattle.recover_core.specs.Standing.{Leads, Stands}
 use Rattle.snapshot_core.specs.Snapshots.{Spells}
 

@@ -9,11 +9,11 @@ use Rattle.claim_core.specs.Seats.{SessionSeatValue}
 use Rattle.claim_core.specs.declared.limits.TheConstants.{SEATS}
 use Rattle.disk_core.specs.declared.file.FileDisk.{FileDisk}
 use Rattle.flush_core.specs.Flushed.{Flushed}
-use Rattle.hub_core.specs.Hubs.{HubValue, IsWhole}
+use Rattle.engine_core.specs.Hubs.{HubValue, IsWhole}
 use Rattle.command_core.specs.Commands.{CommandValue}
-use Rattle.hub_core.specs.Closings.{Closes}
-use Rattle.hub_core.specs.declared.closed.Closed.{Closed}
-use Rattle.hub_core.specs.declared.hub.SeatRoom.{SeatRoom}
+use Rattle.engine_core.specs.Closings.{Closes}
+use Rattle.engine_core.specs.declared.closed.Closed.{Closed}
+use Rattle.engine_core.specs.declared.hub.SeatRoom.{SeatRoom}
 use Rattle.event_log.specs.declared.fault.ServeFault.TheVariants.{Output, Flushing}
 use Rattle.server_core.specs.declared.mailbox.ClientWaker.{ClientWaker}
 use Rattle.server_core.specs.declared.service.Service.{Service}

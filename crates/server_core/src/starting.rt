@@ -17,7 +17,7 @@ use crate::worker_setup::WorkerSetup;
 use claim_core::SEATS;
 use disk_core::{Disk, FileDisk};
 use event_log::ServeFault;
-use hub_core::{Closed, Hub, SeatRoom};
+use engine_core::{Closed, Hub, SeatRoom};
 use std::alloc::{AllocError, Global};
 use std::io::Write;
 use std::sync::{Arc, Wait};

@@ -6,7 +6,7 @@ use crate::doorbell::Doorbell;
 use crate::ending::Ending;
 use crate::log_thread::LogThread;
 use event_log::Event;
-use hub_core::Gate;
+use engine_core::Gate;
 use std::alloc::AllocError;
 use std::sync::atomic::{AtomicBool, AtomicU64, Ordering};
 use std::sync::{Arc, Wait};

@@ -1,3 +1,6 @@
+pub mod Entries
+pub mod Named
+pub mod Orders
 pub mod ReadFrames
 pub mod Acting
 pub mod Hearings

@@ -3,13 +3,17 @@
 #![tactic(auto)]
 
 mod act;
+mod fault;
 mod headers;
 mod laws;
 mod notice;
 mod numbers;
+mod open_tx;
 mod phase;
 mod requests;
 mod session;
+mod transaction;
+mod transaction_laws;
 mod transition;
 mod versions;
 mod worked;

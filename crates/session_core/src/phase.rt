@@ -1,6 +1,6 @@
 //! Where a session stands.
 
-use tx_core::OpenTx;
+use crate::OpenTx;
 
 /// Where a session stands.
 #[derive(Drop)]

@@ -2,7 +2,7 @@ use Rattle.std.proofs.Common.{◌≡◌, List, ℕ, false, rules, tests, true}
 use Rattle.std.proofs.lemmas.Iterator.{cases_from_all}
 use Rattle.std.proofs.lemmas.Iterator.Consumers.{YieldsList-from_rest}
 use Rattle.command_core.specs.Destinations.{is_queue}
-use Rattle.line_core.specs.declared.message.Message.{Message}
+use Rattle.broker_state.specs.declared.message.Message.{Message}
 use Rattle.broker_state.specs.Lists.{is_none}
 use Rattle.broker_state.specs.Sound.{AreTo}
 use Rattle.broker_state.proofs.Alls.{all_tells}

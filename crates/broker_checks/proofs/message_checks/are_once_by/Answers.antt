@@ -1,5 +1,5 @@
 use Rattle.std.proofs.Common.{◌≡◌, ◌≤◌, ◌+◌, ◌++◌, ◌↔◌, Bool, IsTrue, arith, true}
-use Rattle.line_core.specs.declared.message.MessageNumber.{MessageNumber}
+use Rattle.broker_state.specs.declared.message.MessageNumber.{MessageNumber}
 use Rattle.broker_state.specs.Kept.{unacknowledged_by}
 use Rattle.broker_checks.specs.Seen.{count_of, seen_at}
 use Rattle.broker_state.specs.Sound.{AreOnce}

@@ -1,8 +1,8 @@
 use Rattle.std.proofs.Common.{◌≡◌, ◌+◌, ◌∙◌, Some, ap, arith, cond, length, refl, slice_get, sym, take, true}
 use Rattle.std.proofs.lemmas.Option.{slice_get_read}
 use Rattle.std.specs.BTreeSet as tree
-use Rattle.line_core.proofs.RisingLines.{by_number-total}
-use Rattle.line_core.specs.Lines.{by_number, is_same}
+use Rattle.broker_state.proofs.RisingLines.{by_number-total}
+use Rattle.broker_state.specs.Lines.{by_number, is_same}
 use Rattle.broker_checks.specs.Seen.{seen_at, seen_cmp}
 use Rattle.broker_checks.proofs.SeenCounts.{count_under, unless_false, unless_true}
 use Rattle.broker_checks.proofs.SeenNumbers.{counted_more, in_flight, itself, number_noted, under_key}

@@ -1,7 +1,7 @@
 use Rattle.std.proofs.Common.{◌≡◌, ◌+◌, cond, count_by, take}
 use Rattle.std.specs.BTreeMap.{is_at}
-use Rattle.line_core.specs.Lines.{is_same}
-use Rattle.line_core.specs.declared.message.MessageNumber.{MessageNumber}
+use Rattle.broker_state.specs.Lines.{is_same}
+use Rattle.broker_state.specs.declared.message.MessageNumber.{MessageNumber}
 use Rattle.broker_checks.specs.Seen.{seen_at}
 use Rattle.broker_checks.proofs.message_checks.deliveries_are_new.Given as goal
 

@@ -1,6 +1,6 @@
 use Rattle.std.proofs.Common.{◌≡◌, ◌≤◌, ◌+◌, ◌↔◌, Bool, IsTrue, ap, arith, map, ℕ, true}
-use Rattle.line_core.specs.declared.message.Message.{Message}
-use Rattle.line_core.specs.declared.message.MessageNumber.{MessageNumber}
+use Rattle.broker_state.specs.declared.message.Message.{Message}
+use Rattle.broker_state.specs.declared.message.MessageNumber.{MessageNumber}
 use Rattle.broker_state.specs.Names.{text_cmp}
 use Rattle.broker_checks.specs.Seen.{count_of, seen_at}
 use Rattle.broker_state.specs.Sound.{AreOnce, had_by}

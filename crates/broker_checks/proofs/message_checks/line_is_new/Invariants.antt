@@ -1,6 +1,6 @@
 use Rattle.std.proofs.Common.{◌≡◌, ◌+◌, cond, take}
 use Rattle.std.specs.BTreeMap.{is_at}
-use Rattle.line_core.specs.declared.message.MessageNumber.{MessageNumber}
+use Rattle.broker_state.specs.declared.message.MessageNumber.{MessageNumber}
 use Rattle.broker_checks.specs.Seen.{count_of, seen_at}
 use Rattle.broker_checks.proofs.message_checks.line_is_new.Given as goal
 

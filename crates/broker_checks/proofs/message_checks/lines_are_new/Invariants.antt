@@ -1,7 +1,7 @@
 use Rattle.std.proofs.Common.{◌≡◌, ◌+◌}
 use Rattle.std.specs.List.Sorted.{IsStrictlySortedBy}
 use Rattle.std.specs.Map.{keys_of}
-use Rattle.line_core.specs.declared.message.MessageNumber.{MessageNumber}
+use Rattle.broker_state.specs.declared.message.MessageNumber.{MessageNumber}
 use Rattle.broker_checks.specs.Seen.{count_of, seen_at}
 use Rattle.broker_state.specs.Waiting.{line_at}
 use Rattle.broker_checks.proofs.message_checks.lines_are_new.Given as goal

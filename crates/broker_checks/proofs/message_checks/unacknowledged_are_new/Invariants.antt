@@ -1,5 +1,5 @@
 use Rattle.std.proofs.Common.{◌≡◌, ◌+◌, Bool, take}
-use Rattle.line_core.specs.declared.message.MessageNumber.{MessageNumber}
+use Rattle.broker_state.specs.declared.message.MessageNumber.{MessageNumber}
 use Rattle.broker_state.specs.Kept.{unacknowledged_by}
 use Rattle.broker_state.specs.declared.subscription.Subscription.{Subscription}
 use Rattle.broker_checks.specs.Seen.{Tells, count_of, seen_at}

@@ -1,7 +1,7 @@
 use Rattle.std.proofs.Common.{◌<◌, ℕ, List, map, refl, subst, sym}
 use Rattle.std.specs.List.{AllByRecursion}
 use Rattle.frame_core.proofs.Lists.{all_append, all_left, all_right}
-use Rattle.line_core.specs.declared.message.Message.{Message}
+use Rattle.broker_state.specs.declared.message.Message.{Message}
 use Rattle.broker_state.proofs.Alls.{all_given, each_given}
 use Rattle.broker_checks.proofs.number_checks.has_counted.Goals as goal
 

@@ -1,6 +1,6 @@
 use Rattle.std.proofs.Common.{◌==◌, ◌<◌, ◌≤◌, ◌^◌, ◌↔◌, Bool, IsTrue, List, ℕ, arith, count_by, refl, rules, subst, sym}
 use Rattle.std.specs.List.{AllByRecursion, sum_by}
-use Rattle.line_core.specs.Flights.{IsOver}
+use Rattle.broker_state.specs.Flights.{IsOver}
 use Rattle.broker_state.specs.PartsOf.{state_of_parts}
 use Rattle.broker_state.specs.Sound.{HasNumbers}
 use Rattle.broker_state.specs.States.{standing}

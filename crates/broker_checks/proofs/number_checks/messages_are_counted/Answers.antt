@@ -1,6 +1,6 @@
 use Rattle.std.proofs.Common.{◌<◌, List, refl, subst, sym}
 use Rattle.std.specs.List.{AllByRecursion}
-use Rattle.line_core.specs.declared.message.Message.{Message}
+use Rattle.broker_state.specs.declared.message.Message.{Message}
 use Rattle.broker_state.specs.PartsOf.{state_of_parts}
 use Rattle.broker_state.specs.Sound.{had_by}
 use Rattle.broker_state.specs.declared.subscription.Subscription.{Subscription}

@@ -2,7 +2,7 @@ use Rattle.std.proofs.Common.{◌≡◌, ◌∷◌, ◌++◌, ◌∙◌, [], Lis
 use Rattle.std.specs.Prelude.{IfSome}
 use Rattle.command_core.specs.Commands.{CommandValue}
 use Rattle.claim_core.specs.Seats.{SessionSeatValue}
-use Rattle.hub_core.specs.Closings.{shown}
+use Rattle.engine_core.specs.Closings.{shown}
 use Rattle.world_core.specs.Schedules.{Holds}
 use Rattle.hub_tests.proofs.hubs.close_with.Goals as goal
 

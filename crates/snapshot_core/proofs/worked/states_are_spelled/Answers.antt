@@ -1,10 +1,10 @@
 use Rattle.std.proofs.Common.{arith, refl}
-use Rattle.broker_laws.proofs.Ordered.{empty_in_order}
-use Rattle.broker_laws.proofs.SubscriptionLimits.{empty_limits}
-use Rattle.broker_laws.proofs.BoundNames.{empty_names}
-use Rattle.broker_laws.proofs.StateNumbers.{empty_numbers}
-use Rattle.broker_laws.proofs.StateLines.{empty_lines}
-use Rattle.broker_laws.proofs.HeldLimits.{empty_held}
+use Rattle.broker_state.proofs.Ordered.{empty_in_order}
+use Rattle.broker_state.proofs.SubscriptionLimits.{empty_limits}
+use Rattle.broker_state.proofs.BoundNames.{empty_names}
+use Rattle.broker_state.proofs.StateNumbers.{empty_numbers}
+use Rattle.broker_state.proofs.StateLines.{empty_lines}
+use Rattle.broker_state.proofs.HeldLimits.{empty_held}
 use Rattle.snapshot_core.proofs.worked.states_are_spelled.Goals as goal
 
 pub returns-clause-first : goal.returns-clause-first

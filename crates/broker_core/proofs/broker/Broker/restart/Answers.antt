@@ -1,6 +1,6 @@
 use Rattle.std.proofs.Common.{◌∙◌, subst, sym}
 use Rattle.broker_state.specs.Sound.{IsSound}
-use Rattle.broker_laws.proofs.SoundSteps.{sound_restart}
+use Rattle.broker_state.proofs.SoundSteps.{sound_restart}
 use Rattle.broker_core.proofs.Outcomes.{is_whole}
 use Rattle.broker_core.proofs.broker.Broker.restart.Goals as goal
 

@@ -4,7 +4,7 @@ use Rattle.broker_state.specs.Sound.{IsSound}
 use Rattle.broker_state.specs.States.{BrokerValue}
 use Rattle.broker_state.specs.Steps.{outs_by}
 use Rattle.broker_tables.specs.Answers.{with_outs}
-use Rattle.broker_laws.proofs.SoundSteps.{sound_step}
+use Rattle.broker_state.proofs.SoundSteps.{sound_step}
 use Rattle.broker_core.proofs.Outcomes.{is_whole}
 use Rattle.broker_core.proofs.broker.Broker.step_by.Goals as goal
 

@@ -1,5 +1,0 @@
-use Rattle.broker_laws.proofs.CommandLists.{state_after-append, outs_of-append}
-use Rattle.broker_laws.proofs.laws.commands_follow_one_another.Goals as goal
-
-pub returns : goal.returns
-returns c = record { state = state_after-append; outputs = outs_of-append }

@@ -1,6 +1,0 @@
-use Rattle.broker_state.specs.States.{bytes}
-use Rattle.broker_laws.proofs.Standing.{all_stand, count_stands}
-use Rattle.broker_laws.proofs.laws.held_counts_what_stands.Goals as goal
-
-pub returns : goal.returns
-returns c = record { messages = count_stands; bytes = all_stand bytes }

@@ -1,6 +1,0 @@
-use Rattle.broker_laws.proofs.Ordered.{done_count}
-use Rattle.broker_laws.proofs.Numbers.{outs_numbered}
-use Rattle.broker_laws.proofs.laws.outputs_have_the_number_of_their_command.Goals as goal
-
-pub returns : goal.returns
-returns c = λ rule s d order. outs_numbered rule s d (done_count rule s d order)

@@ -1,0 +1,50 @@
+-- What a worker has done by its end.
+use Rattle.std.specs.Prelude.{◌≡◌, ◌++◌, ℕ, List, Option, Some, map, option_map}
+use Rattle.std.specs.List.{AllByRecursion}
+use Rattle.claim_core.specs.Seats.{SessionSeatValue}
+use Rattle.desk_core.specs.declared.ended.Ended as connections
+use Rattle.desk_core.specs.declared.ended.Ended.TheVariants as ends
+use Rattle.desk_core.specs.declared.stage.Stage.TheVariants.{Over}
+use Rattle.desk_core.specs.Answers.{GoesOnYet}
+use Rattle.desk_core.specs.Conversations.{IsConversation}
+use Rattle.desk_core.specs.Effects.{Effect, commands_of, told_of}
+use Rattle.desk_core.specs.Halting.{FindsEnd}
+use Rattle.desk_core.specs.Histories.{LivesAt}
+use Rattle.desk_core.specs.Slots.{IsOwn, Message, bytes_of, frames_of}
+use Rattle.desk_core.specs.declared.slot.Slot.{Slot}
+use Rattle.engine_core.specs.declared.ended.Ended.{Ended}
+use Rattle.engine_core.specs.declared.ended.Ended.TheVariants.{Bye, Lost, Bad, Stopped, Turns}
+
+-- a worker ends as its connection has
+abbrev pub end_of : connections.Ended → Ended
+end_of ends.Bye = Bye
+end_of ends.Lost = Lost
+end_of ends.Bad = Bad
+end_of ends.Stopped = Stopped
+
+-- Its connection has ended so; or its turns have run out, and it goes on.
+abbrev pub IsEndAt : {B : Type 0} → Ended → Slot B → Type 0
+IsEndAt Turns slot = GoesOnYet slot.connection.stage
+IsEndAt Bye slot = slot.connection.stage ≡ Over ends.Bye
+IsEndAt Lost slot = slot.connection.stage ≡ Over ends.Lost
+IsEndAt Bad slot = slot.connection.stage ≡ Over ends.Bad
+IsEndAt Stopped slot = slot.connection.stage ≡ Over ends.Stopped
+
+-- One client alone was served through a seat, with a connection that came so far by its last turn. The seat got one conversation. The
+-- client was sent outputs of that session alone, and at once the frames that were told it. These commands and frames are what the bytes
+-- ask for that its link gave.
+pub record Serves (B : Type 0) {L : Type 0} (sent : L → Option (List (List ℕ))) (received : L → Option (List ℕ)) (old : SessionSeatValue) (from : L) (new : SessionSeatValue) (to : L) (ended : Ended) : Type 0 where
+  pub effects : List Effect
+  pub slot : Slot B
+  pub ends : IsEndAt ended slot
+  pub added : new.own ≡ old.own ++ commands_of effects
+  pub number : ℕ
+  pub conversation : IsConversation number (commands_of effects)
+  pub messages : List Message
+  pub told : sent to ≡ option_map (λ s. s ++ map bytes_of messages) (sent from)
+  pub own : AllByRecursion (IsOwn (Some number)) messages
+  pub frames_are : frames_of messages ≡ told_of effects
+  pub got : List ℕ
+  pub read : received to ≡ option_map (λ bytes. bytes ++ got) (received from)
+  pub lives : LivesAt got effects slot
+  pub stopped : ended ≡ Stopped → FindsEnd new

@@ -1,0 +1,94 @@
+//! What a worker's thread does.
+
+ghost use Rattle.std.specs.Prelude.{◌≡◌};
+ghost use Rattle.desk_core.specs.Answers.{GoesOnYet};
+ghost use Rattle.desk_core.specs.Steps.{GoesOn};
+ghost use Rattle.engine_core.specs.Serving.{IsEndAt, Serves};
+
+use crate::ended::Ended;
+use crate::gate::Gate;
+use claim_core::{BrokerRing, BrokerSeat};
+use desk_core::{Next, Ringers, SESSION_BYTES, Slot, Turned};
+use outbox_core::{Bell, OutSender};
+use std::alloc::Global;
+use ws_core::Link;
+
+/// Serves one connection to its end, or for so many turns, counting those that its gate held up. Its link may wait within its calls.
+/// `&Silent` makes bells that nobody hears.
+///
+/// What it appends is one conversation: an Open, then commands of the session whose number is the Open's ticket, and last its End, if it
+/// comes to that. It is what the bytes ask for that the link gave, however they were cut: no command is left out, and none is put before
+/// another. The client is sent outputs of that session alone, and before it has one the ERROR that its bytes ask for, once.
+///
+/// `Stopped` comes only if the ring takes nothing more. A growth that memory refuses is tried again in the next turn.
+pub fn worker<B: Bell, M: Ringers<B>, L: Link, G: Gate>(
+    alloc: Global,
+    ring: &BrokerRing<OutSender<B>>,
+    seat: &mut BrokerSeat<OutSender<B>>,
+    link: &mut L,
+    ringers: &M,
+    gate: &G,
+    turns: u64,
+) -> Ended
+    requires { seat.old.ring ≡ ring.now }
+    ensures seat { (seat.new.ring ≡ seat.old.ring) × (seat.new.number ≡ seat.old.number) }
+    ensures serves { Serves B L.sent L.received seat.old link.old seat.new link.new result }
+{
+    let rounds = Rounds {
+        gate,
+        worker: seat.number(),
+        turns,
+    };
+    let mut slot = Slot::new(alloc, SESSION_BYTES);
+    let ended = serve(alloc, ring, seat, link, ringers, &mut slot, &rounds);
+    drop(slot);
+    ended
+}
+
+// By which gate turns are taken, and how many at most.
+#[derive(Drop)]
+struct Rounds<'a, G> {
+    gate: &'a G,
+    worker: u32,
+    turns: u64,
+}
+
+// Gives a connection its turns, until it ends or there are no more.
+fn serve<B: Bell, M: Ringers<B>, L: Link, G: Gate>(
+    alloc: Global,
+    ring: &BrokerRing<OutSender<B>>,
+    seat: &mut BrokerSeat<OutSender<B>>,
+    link: &mut L,
+    ringers: &M,
+    slot: &mut Slot<B>,
+    rounds: &Rounds<'_, G>,
+) -> Ended
+    requires ring { seat.old.ring ≡ ring.now }
+    requires yet { GoesOnYet slot.old.connection.stage }
+    ensures goes { GoesOn L.sent L.received slot.old seat.old link.old slot.new seat.new link.new }
+    ensures ends { IsEndAt result slot.new }
+{
+    for turn in 0..rounds.turns {
+        if !rounds.gate.pass(rounds.worker, turn) {
+            continue;
+        }
+        let turned = slot.turn(alloc, ring, seat, link, ringers);
+        if let Next::Over(ended) = turned.next {
+            return Ended::of(ended);
+        }
+        wait(rounds.gate, rounds.worker, turned);
+    }
+    Ended::Turns
+}
+
+// Tells the gate of a turn, and leaves it to the gate when the next comes, if a mark is waited for or memory was refused.
+fn wait<G: Gate>(gate: &G, worker: u32, turned: Turned) {
+    if turned.appended {
+        gate.appended(worker);
+    }
+    match turned.next {
+        Next::Room(mark) | Next::Output(mark) => gate.wait_for_mark(worker, mark),
+        Next::Memory => gate.wait_for_memory(worker),
+        _ => {}
+    }
+}

@@ -1,4 +1,0 @@
-pub mod Beginning
-pub mod Serving
-pub mod Shown
-pub mod Turning

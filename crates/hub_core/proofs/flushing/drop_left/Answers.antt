@@ -1,5 +1,0 @@
-use Rattle.std.proofs.Common.{rules}
-use Rattle.hub_core.proofs.flushing.drop_left.Goals as goal
-
-pub returns : goal.returns
-returns g c = search rules

@@ -1,4 +1,0 @@
-pub mod Closings
-pub mod Flushes
-pub mod Hubs
-pub mod Serving

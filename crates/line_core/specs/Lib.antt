@@ -1,3 +1,0 @@
-pub mod Flights
-pub mod Lines
-pub mod Messages

@@ -1,3 +1,0 @@
-pub mod Sessions
-pub mod Desks
-pub mod Rooms

@@ -1,4 +1,0 @@
-pub mod TxFaults
-pub mod Transactions
-pub mod Refusals
-pub mod Places
