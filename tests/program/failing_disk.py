@@ -285,17 +285,33 @@ def replaced(path):
     os.rename(path + ".new", path)
 
 
+def removed_beside_others(path):
+    """Other files of the folder come and go before and after it, within a tick of the system's clock."""
+    for number in range(50):
+        pathlib.Path(f"{path}.{number}").touch()
+    os.remove(path)
+    for number in range(50):
+        os.remove(f"{path}.{number}")
+
+
 def cut(path):
     os.truncate(path, PAGE)
 
 
 def losing(checks):
     """The file is removed, replaced by another or cut while the server runs: what is sent then has no receipt, and the server ends."""
-    for lose in (os.remove, replaced, cut):
-        what, path, port = f"a file that is lost by {lose.__name__}", make(checks, f"lost-{lose.__name__}"), free_port()
+    for lose, link in ((os.remove, None), (os.remove, os.symlink), (replaced, None), (removed_beside_others, None), (cut, None)):
+        what = f"a file{' behind a link' if link else ''} that is lost by {lose.__name__}"
+        path, port = make(checks, what.replace(" ", "-")), free_port()
         shutil.copy(path, path + ".new")
-        with serving([checks.program, "serve", path, str(port)], port) as server:
+        if link:
+            os.mkdir(path + ".folder")
+            link(path, path + ".folder/link")
+        with serving([checks.program, "serve", path + ".folder/link" if link else path, str(port)], port) as server:
             client = Client(port).connect()
+            for number in range(100):
+                client.send("SEND", [("destination", "/topic/nobody"), ("receipt", f"{number}")], "x")
+                checks.same(f"{what}: a receipt before", client.frame().command, "RECEIPT")
             lose(path)
             client.send("SEND", [("destination", "/queue/kept"), ("receipt", "r")], "x")
             checks.same(f"{what}: what the client hears", frames_to_the_end(client), [])

@@ -2,10 +2,11 @@
 ghost use Rattle.std.specs.Prelude.{◌≡◌, replicate, IfOk, ⊤};
 
 use crate::faults::count;
+use crate::naming::{Naming, folder_of};
 use crate::{DeviceFault, Disk};
 use std::fs::{File, OpenOptions, TryLockError};
-use std::os::unix::fs::{FileExt, MetadataExt, OpenOptionsExt};
-use std::path::Path;
+use std::io::{Seek, SeekFrom};
+use std::os::unix::fs::{FileExt, OpenOptionsExt};
 use std::rt::Files;
 use std::{error, fmt, io};
 
@@ -60,6 +61,7 @@ pub struct FileDisk {
     failures: u64,
     // Whether the first bytes were not written back since the file was opened.
     is_stale: bool,
+    naming: Naming,
 }
 
 // How many bytes are written back: a journal's header.
@@ -93,6 +95,7 @@ impl FileDisk {
             size,
             failures: 0,
             is_stale: false,
+            naming: Naming::dear(),
         })
     }
 
@@ -100,7 +103,7 @@ impl FileDisk {
     pub fn open<R: Files<File = File>>(rt: &R, path: &str) -> Result<FileDisk, OpenError>
         ensures { IfOk result (λ disk. file_failures disk ≡ 0) }
     {
-        FileDisk::over(opened(rt, path)?)
+        FileDisk::over(opened(rt, path)?, Naming::dear())
     }
 
     /// The same, with the file's exclusive lock, taken before the file's size is read. The error is `Locked` if the
@@ -111,14 +114,14 @@ impl FileDisk {
     {
         let file = opened(rt, path)?;
         match file.try_lock() {
-            Ok(()) => FileDisk::over(file),
+            Ok(()) => FileDisk::over(file, Naming::of(rt, path)),
             Err(TryLockError::WouldBlock) => Err(OpenError::Locked),
             Err(TryLockError::Error(error)) => Err(OpenError::System(error)),
         }
     }
 
     // A disk in that file, of the size that it has now.
-    fn over(file: File) -> Result<FileDisk, OpenError>
+    fn over(file: File, naming: Naming) -> Result<FileDisk, OpenError>
         ensures { IfOk result (λ disk. file_failures disk ≡ 0) }
     {
         let there = file.metadata()?;
@@ -131,6 +134,7 @@ impl FileDisk {
             size,
             failures: 0,
             is_stale: size >= HEADER as u64,
+            naming,
         })
     }
 
@@ -149,8 +153,8 @@ impl FileDisk {
     {
         self.write_header_back()?;
         self.file.sync_all()?;
-        let there = self.file.metadata()?;
-        if there.nlink() == 0 || there.len() < self.size {
+        let end = self.file.seek(SeekFrom::End(0))?;
+        if end < self.size || !self.naming.has_name(&self.file)? {
             return Err(io::Error::from(io::ErrorKind::NotFound));
         }
         Ok(())
@@ -180,11 +184,7 @@ fn opened<R: Files<File = File>>(rt: &R, path: &str) -> io::Result<File> {
 fn settle<R: Files<File = File>>(rt: &R, file: &File, path: &str, size: u64) -> io::Result<()> {
     file.set_len(size)?;
     file.sync_all()?;
-    let folder = match Path::new(path).parent() {
-        Some(folder) if !folder.as_str().is_empty() => folder,
-        _ => Path::new("."),
-    };
-    File::open(rt, folder)?.sync_all()
+    File::open(rt, folder_of(path))?.sync_all()
 }
 
 impl Disk for FileDisk {

@@ -12,6 +12,7 @@ mod faults;
 mod file;
 mod fuse;
 mod memory;
+mod naming;
 mod span;
 
 pub use call::Call;
