@@ -311,7 +311,7 @@ def losing(checks):
             client = Client(port).connect()
             for number in range(100):
                 client.send("SEND", [("destination", "/topic/nobody"), ("receipt", f"{number}")], "x")
-                checks.same(f"{what}: a receipt before", client.frame().command, "RECEIPT")
+                client.receipt(f"{number}")
             lose(path)
             client.send("SEND", [("destination", "/queue/kept"), ("receipt", "r")], "x")
             checks.same(f"{what}: what the client hears", frames_to_the_end(client), [])
