@@ -19,8 +19,11 @@ mod versions;
 mod worked;
 
 pub use act::{Act, CloseCode};
+pub use fault::TxFault;
 pub use laws::{ids_are_decimals, pieces_are_heard_as_one};
 pub use notice::Notice;
+pub use open_tx::OpenTx;
 pub use phase::Phase;
 pub use session::{Session, SessionFault};
+pub use transaction_laws::members_keep_their_order;
 pub use worked::{frames_are_answered, transactions_are_answered};
