@@ -4,29 +4,29 @@ use Rattle.std.proofs.Math.Seq.{drop-append_seam, take-append_seam}
 use Rattle.std.proofs.lemmas.Bool.{lt-ltb}
 use Rattle.std.proofs.lemmas.List.{append-nil, append_assoc, length-take-le, take-append-drop}
 use Rattle.client_schedule.specs.Frames.{Passes, ended, is_front, passed, step}
-use Rattle.client_schedule.specs.declared.frames.Place.{Place}
-use Rattle.client_schedule.specs.declared.frames.Place.TheVariants.{Front, Payload}
+use Rattle.client_schedule.specs.declared.frames.FrameProgress.{FrameProgress}
+use Rattle.client_schedule.specs.declared.frames.FrameProgress.TheVariants.{Front, Payload}
 
 -- one byte
-one : (old new : Place) (before left : ℕ) (bytes : List ℕ) → bytes ≢ [] → new ≡ step old (get_or bytes 0 0) → cond (is_front new) 1 0 + left ≡ before → Passes old new before left bytes 1
+one : (old new : FrameProgress) (before left : ℕ) (bytes : List ℕ) → bytes ≢ [] → new ≡ step old (get_or bytes 0 0) → cond (is_front new) 1 0 + left ≡ before → Passes old new before left bytes 1
 one old new before left [] some is count = absurd (some refl)
 one old new before left (byte ∷ bytes) some is count =
     record { front = byte ∷ []; rest = bytes; whole = refl; count_is = refl; place = is; ends = omega (arith, subst (λ p. cond (is_front p) 1 0 + left ≡ before) is count) }
 
-pub one_ends : (old new : Place) (left : ℕ) (bytes : List ℕ) → bytes ≢ [] → new ≡ step old (get_or bytes 0 0) → is_front new ≡ true → 0 < left → Passes old new left (left - 1) bytes 1
+pub one_ends : (old new : FrameProgress) (left : ℕ) (bytes : List ℕ) → bytes ≢ [] → new ≡ step old (get_or bytes 0 0) → is_front new ≡ true → 0 < left → Passes old new left (left - 1) bytes 1
 one_ends old new left bytes some is front more =
     one old new left (left - 1) bytes some is (subst (λ b. cond b 1 0 + (left - 1) ≡ left) (sym front) (omega (arith, more)))
 
-pub one_goes_on : (old new : Place) (left : ℕ) (bytes : List ℕ) → bytes ≢ [] → new ≡ step old (get_or bytes 0 0) → is_front new ≡ false → Passes old new left left bytes 1
+pub one_goes_on : (old new : FrameProgress) (left : ℕ) (bytes : List ℕ) → bytes ≢ [] → new ≡ step old (get_or bytes 0 0) → is_front new ≡ false → Passes old new left left bytes 1
 one_goes_on old new left bytes some is front =
     one old new left left bytes some is (subst (λ b. cond b 1 0 + left ≡ left) (sym front) (omega arith))
 
 -- more bytes
-pub passed_more : (place : Place) (a b : List ℕ) → passed place (a ++ b) ≡ passed (passed place a) b
+pub passed_more : (place : FrameProgress) (a b : List ℕ) → passed place (a ++ b) ≡ passed (passed place a) b
 passed_more place [] b = refl
 passed_more place (byte ∷ a) b = passed_more (step place byte) a b
 
-pub ended_more : (place : Place) (a b : List ℕ) → ended place (a ++ b) ≡ ended place a + ended (passed place a) b
+pub ended_more : (place : FrameProgress) (a b : List ℕ) → ended place (a ++ b) ≡ ended place a + ended (passed place a) b
 ended_more place [] b = omega arith
 ended_more place (byte ∷ a) b = grind (arith, ended_more (step place byte) a b)
 
@@ -58,13 +58,13 @@ ends (suc (suc n)) (byte ∷ bytes) some within =
     let one : 0 + ended (Payload (suc n)) (take (suc n) bytes) ≡ 1 = omega (arith, rest.1) in
     (ap (λ p. passed p (take (suc n) bytes)) next ∙ rest.0, ap (λ p. cond (is_front p) 1 0 + ended p (take (suc n) bytes)) next ∙ one)
 
-pub part : (old : Place) (count left : ℕ) (bytes : List ℕ) → old ≡ Payload count → length bytes < count → Passes old (Payload (count - length bytes)) left left bytes (length bytes)
+pub part : (old : FrameProgress) (count left : ℕ) (bytes : List ℕ) → old ≡ Payload count → length bytes < count → Passes old (Payload (count - length bytes)) left left bytes (length bytes)
 part old count left bytes is less =
     let on = goes_on count bytes less in
     subst (λ p. Passes p (Payload (count - length bytes)) left left bytes (length bytes)) (sym is)
     (record { front = bytes; rest = []; whole = sym (append-nil bytes); count_is = refl; place = sym on.0; ends = omega (arith, on.1) })
 
-pub all : (old : Place) (count left : ℕ) (bytes : List ℕ) → old ≡ Payload count → 0 < count → count ≤ length bytes → 0 < left → Passes old Front left (left - 1) bytes count
+pub all : (old : FrameProgress) (count left : ℕ) (bytes : List ℕ) → old ≡ Payload count → 0 < count → count ≤ length bytes → 0 < left → Passes old Front left (left - 1) bytes count
 all old count left bytes is some within more =
     let end = ends count bytes some within in
     subst (λ p. Passes p Front left (left - 1) bytes count) (sym is)
@@ -78,16 +78,16 @@ all old count left bytes is some within more =
     })
 
 -- what was passed before, and what is now
-pub record Passed (first now : Place) (most left : ℕ) (bytes rest : List ℕ) : Type 0 where
+pub record Passed (first now : FrameProgress) (most left : ℕ) (bytes rest : List ℕ) : Type 0 where
   pub done : List ℕ
   pub whole : bytes ≡ done ++ rest
   pub place : now ≡ passed first done
   pub ends : ended first done + left ≡ most
 
-pub begins : (first : Place) (most : ℕ) (bytes : List ℕ) → Passed first first most most bytes bytes
+pub begins : (first : FrameProgress) (most : ℕ) (bytes : List ℕ) → Passed first first most most bytes bytes
 begins first most bytes = record { done = []; whole = refl; place = refl; ends = omega arith }
 
-pub passes : (first old new : Place) (most before left : ℕ) (bytes rest : List ℕ) (count : ℕ) → Passed first old most before bytes rest → Passes old new before left rest count
+pub passes : (first old new : FrameProgress) (most before left : ℕ) (bytes rest : List ℕ) (count : ℕ) → Passed first old most before bytes rest → Passes old new before left rest count
     → Passed first new most left bytes (drop count rest)
 passes first old new most before left bytes rest count at more =
     let behind : drop count rest ≡ more.rest =
@@ -111,7 +111,7 @@ whole_of : (left most ended : ℕ) (bytes rest : List ℕ) → (left ≡ 0) ⊎ 
 whole_of left most ended bytes rest (inl none) some less = absurd (omega (arith, none, some, less))
 whole_of left most ended bytes rest (inr none) some less = omega (arith, ap length none)
 
-pub at_end : (first now : Place) (most left : ℕ) (bytes rest : List ℕ) → Passed first now most left bytes rest → (left ≡ 0) ⊎ (rest ≡ [])
+pub at_end : (first now : FrameProgress) (most left : ℕ) (bytes rest : List ℕ) → Passed first now most left bytes rest → (left ≡ 0) ⊎ (rest ≡ [])
     → let count = length bytes - length rest in
     (count ≤ length bytes) × (now ≡ passed first (take count bytes)) × (ended first (take count bytes) ≤ most) × (ended first (take count bytes) < most → count ≡ length bytes)
 at_end first now most left bytes rest at over =

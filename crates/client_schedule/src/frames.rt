@@ -8,7 +8,7 @@ const MASK: u64 = 4;
 
 /// How far a stream has come in a frame of a client (section 5.2).
 #[derive(Clone, Copy)]
-pub enum Place {
+pub enum FrameProgress {
     /// Before a frame.
     Front,
     /// Behind its first byte. The next one says how long its payload is, or its length.
@@ -20,7 +20,7 @@ pub enum Place {
 }
 
 /// How many of these bytes come before the end of so many frames, and with the last of these: all, if no more end there.
-pub(crate) fn front_of(place: &mut Place, most: u32, bytes: &[u8]) -> usize
+pub(crate) fn front_of(place: &mut FrameProgress, most: u32, bytes: &[u8]) -> usize
     ensures within { result ≤ length bytes.now }
     ensures place { place.new ≡ passed place.old (take result bytes.now) }
     ensures most { ended place.old (take result bytes.now) ≤ most }
@@ -36,14 +36,14 @@ pub(crate) fn front_of(place: &mut Place, most: u32, bytes: &[u8]) -> usize
 }
 
 // Passes what there is of a payload, or else a byte, and answers how many bytes these are.
-fn pass(place: &mut Place, left: &mut u32, bytes: &[u8]) -> usize
+fn pass(place: &mut FrameProgress, left: &mut u32, bytes: &[u8]) -> usize
     requires some { bytes.now ≢ [] }
     requires left { 0 < left.old }
     ensures some { 0 < result }
     ensures passes { Passes place.old place.new left.old left.new bytes.now result }
 {
     match *place {
-        Place::Payload(count) if count > 1 => pass_payload(place, count, left, bytes),
+        FrameProgress::Payload(count) if count > 1 => pass_payload(place, count, left, bytes),
         _ => {
             *place = step(*place, bytes[0]);
             if is_front(*place) {
@@ -55,59 +55,59 @@ fn pass(place: &mut Place, left: &mut u32, bytes: &[u8]) -> usize
 }
 
 // Passes what there is of so many bytes.
-fn pass_payload(place: &mut Place, count: u64, left: &mut u32, bytes: &[u8]) -> usize
+fn pass_payload(place: &mut FrameProgress, count: u64, left: &mut u32, bytes: &[u8]) -> usize
     requires some { bytes.now ≢ [] }
     requires left { 0 < left.old }
-    requires place { place.old ≡ Place.Payload count }
+    requires place { place.old ≡ FrameProgress.Payload count }
     requires count { 1 < count }
     ensures some { 0 < result }
     ensures passes { Passes place.old place.new left.old left.new bytes.now result }
 {
     let there = bytes.len() as u64;
     if there < count {
-        *place = Place::Payload(count - there);
+        *place = FrameProgress::Payload(count - there);
         return bytes.len();
     }
-    *place = Place::Front;
+    *place = FrameProgress::Front;
     *left -= 1;
     count as usize
 }
 
 // Behind one byte more.
-fn step(place: Place, byte: u8) -> Place
+fn step(place: FrameProgress, byte: u8) -> FrameProgress
     ensures { result ≡ step place byte }
 {
     match place {
-        Place::Front => Place::Second,
-        Place::Second => behind_second(byte % 128),
-        Place::Length(count, before) => {
+        FrameProgress::Front => FrameProgress::Second,
+        FrameProgress::Second => behind_second(byte % 128),
+        FrameProgress::Length(count, before) => {
             let length = before.saturating_mul(256).saturating_add(u64::from(byte));
             if count > 1 {
-                Place::Length(count - 1, length)
+                FrameProgress::Length(count - 1, length)
             } else {
-                Place::Payload(length.saturating_add(MASK))
+                FrameProgress::Payload(length.saturating_add(MASK))
             }
         }
-        Place::Payload(count) if count > 1 => Place::Payload(count - 1),
-        Place::Payload(_) => Place::Front,
+        FrameProgress::Payload(count) if count > 1 => FrameProgress::Payload(count - 1),
+        FrameProgress::Payload(_) => FrameProgress::Front,
     }
 }
 
 // Behind the second byte, which says this of the length.
-fn behind_second(length: u8) -> Place
+fn behind_second(length: u8) -> FrameProgress
     requires { length < 128 }
     ensures { result ≡ behind_second length }
 {
     match length {
-        126 => Place::Length(2, 0),
-        127 => Place::Length(8, 0),
-        length => Place::Payload(MASK + u64::from(length)),
+        126 => FrameProgress::Length(2, 0),
+        127 => FrameProgress::Length(8, 0),
+        length => FrameProgress::Payload(MASK + u64::from(length)),
     }
 }
 
 // Whether a frame has just ended.
-fn is_front(place: Place) -> bool
+fn is_front(place: FrameProgress) -> bool
     ensures { result ≡ is_front place }
 {
-    matches!(place, Place::Front)
+    matches!(place, FrameProgress::Front)
 }

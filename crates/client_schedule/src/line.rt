@@ -12,13 +12,13 @@ use std::marker::Model;
 /// A line of clients, by their numbers. Each stands in it once at most, so the room that is made for it at the beginning is
 /// enough. Contracts see it as a list, the first one first.
 #[derive(Drop)]
-pub struct Line {
+pub struct ClientLine {
     order: VecDeque<usize>,
     // Whether each client stands there, by its number.
     stands: Vec<bool>,
 }
 
-impl Model for Line {
+impl Model for ClientLine {
     ghost use Rattle.std.specs.Prelude.{List, ℕ};
     ghost use Rattle.std.specs.VecDeque.{deque_capacity};
     ghost use Rattle.client_schedule.specs.Kept.{IsKept};
@@ -30,14 +30,14 @@ impl Model for Line {
     ghost invariant = { λ a. IsKept a.order.items a.stands.items (deque_capacity a.order) };
 }
 
-impl Line {
+impl ClientLine {
     /// Nobody stands there.
-    pub fn new(alloc: Global) -> Result<Line, AllocError>
+    pub fn new(alloc: Global) -> Result<ClientLine, AllocError>
         ensures { IfOk result (λ line. line ≡ []) }
     {
         let order = VecDeque::with_capacity(alloc, CLIENTS)?;
         let stands = Vec::from_elem(alloc, false, CLIENTS)?;
-        Ok(Line { order, stands })
+        Ok(ClientLine { order, stands })
     }
 
     /// How many stand there.

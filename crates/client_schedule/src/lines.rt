@@ -4,7 +4,7 @@ ghost use Rattle.std.specs.Prelude.{◌≡◌, ◌+◌, [], ◌∷◌, None, IfO
 ghost use Rattle.client_schedule.specs.Lines.{is_over};
 ghost use Rattle.client_schedule.specs.Turns.{woken, going_on, let_in, after_let_in, settled};
 
-use crate::line::Line;
+use crate::line::ClientLine;
 use crate::waiting::Waiting;
 use desk_core::{Next, Turned};
 use std::alloc::{AllocError, Global};
@@ -13,9 +13,9 @@ use std::alloc::{AllocError, Global};
 #[derive(Drop)]
 pub struct Lines {
     // Clients that have a turn next.
-    pub(crate) ready: Line,
+    pub(crate) ready: ClientLine,
     // Clients that go on by themselves: they have one after those that something has woken.
-    pub(crate) again: Line,
+    pub(crate) again: ClientLine,
     // Clients that found the window full, in the order in which they were refused.
     pub(crate) room: Waiting,
     // Clients whose next output waits for the mark.
@@ -33,8 +33,8 @@ impl Lines {
         ensures { IfOk result IsNobody }
     {
         Ok(Lines {
-            ready: Line::new(alloc)?,
-            again: Line::new(alloc)?,
+            ready: ClientLine::new(alloc)?,
+            again: ClientLine::new(alloc)?,
             room: Waiting::new(alloc)?,
             outputs: Waiting::new(alloc)?,
             let_in: None,

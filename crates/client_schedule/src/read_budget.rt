@@ -5,7 +5,7 @@ ghost use Rattle.std.specs.Io.{ReadsAtMost, WritesAtMost};
 ghost use Rattle.std.specs.Io.KnownBytes.{Keeps, ReadConsumes, WriteAppends};
 ghost use Rattle.client_schedule.specs.declared.read_budget.TheConstants.{FRAMES, READS};
 
-use crate::frames::{Place, front_of};
+use crate::frames::{FrameProgress, front_of};
 use crate::supply::{Reported, Supply, is_dry, reported_after, supply_behind, supply_with};
 use mio::net::TcpStream;
 use std::alloc::{AllocError, Global};
@@ -64,7 +64,7 @@ pub struct ReadBudget<S> {
     given: u64,
     // Whether what comes is frames, how far it has come in one, and what was read and not given.
     is_framed: Cell<bool>,
-    place: Place,
+    place: FrameProgress,
     spare: Vec<u8>,
     ghost most: { left ≤ READS },
 }
@@ -89,7 +89,7 @@ impl<S: Drop> ReadBudget<S> {
             reported: Cell::new(Reported::Nothing),
             given: 0,
             is_framed: Cell::new(false),
-            place: Place::Front,
+            place: FrameProgress::Front,
             spare: Vec::new(alloc),
         }
     }

@@ -5,14 +5,14 @@ ghost use Rattle.client_schedule.specs.declared.limits.TheConstants.{CLIENTS};
 ghost use Rattle.client_schedule.specs.Lines.{IsLine, is_over, waiting, waiting_first, without_first};
 
 use crate::limits::CLIENTS;
-use crate::line::Line;
+use crate::line::ClientLine;
 use std::alloc::{AllocError, Global};
 use std::marker::Model;
 
 /// A line of clients that wait for a mark, each for one over its own. It moves only at its front: nobody goes on before the first.
 #[derive(Drop)]
 pub struct Waiting {
-    line: Line,
+    line: ClientLine,
     // The mark over which each waits for one, or waited last, by the clients' numbers.
     marks: Vec<u64>,
 }
@@ -34,7 +34,7 @@ impl Waiting {
     pub fn new(alloc: Global) -> Result<Waiting, AllocError>
         ensures { IfOk result (λ waiting. waiting.line ≡ []) }
     {
-        let line = Line::new(alloc)?;
+        let line = ClientLine::new(alloc)?;
         let marks = Vec::from_elem(alloc, 0, CLIENTS)?;
         Ok(Waiting { line, marks })
     }

@@ -12,7 +12,7 @@ use Rattle.session_core.specs.declared.phase.Phase.{Phase}
 use Rattle.session_core.specs.declared.phase.Phase.TheVariants.{New, Open, Ended, Failed}
 use Rattle.session_core.specs.Sessions.{Hearing, Hears, IsOver, loss_of}
 use Rattle.session_core.proofs.Hearings.{heard_in_one_way, nothing_heard}
-use Rattle.engine_core.specs.declared.running_script.Connection.{Connection}
+use Rattle.engine_core.specs.declared.running_script.ScriptConnection.{ScriptConnection}
 use Rattle.engine_core.specs.Connections.{new_connection}
 use Rattle.engine_core.specs.Queues.{QueueValue, Progress, acted, acted_on}
 use Rattle.engine_core.specs.Running.{ScriptValue, connection_at, with_connection, Loses, Receives}
@@ -27,10 +27,10 @@ kept (Failed held) rest = []
 abbrev pub shown_of : Hearing → Hearing
 shown_of h = record { rest = kept h.phase h.rest; phase = h.phase }
 
-abbrev pub shown : Connection → Connection
+abbrev pub shown : ScriptConnection → ScriptConnection
 shown c = record { session = shown_of c.session; number = c.number }
 
-abbrev pub bare : List (ℕ × Connection) → List (ℕ × Connection)
+abbrev pub bare : List (ℕ × ScriptConnection) → List (ℕ × ScriptConnection)
 bare [] = []
 bare (e ∷ connections) = (e.0, shown e.1) ∷ bare connections
 
@@ -39,7 +39,7 @@ abbrev pub all_bare : ScriptValue → ScriptValue
 all_bare s = record { connections = bare s.connections; queue = s.queue; disk = fresh 0 }
 
 -- connections that are looked up, taken out and put in
-bare_lookup : (test : ℕ → Bool) (connections : List (ℕ × Connection)) → unwrap_or (lookup test (bare connections)) new_connection ≡ shown (unwrap_or (lookup test connections) new_connection)
+bare_lookup : (test : ℕ → Bool) (connections : List (ℕ × ScriptConnection)) → unwrap_or (lookup test (bare connections)) new_connection ≡ shown (unwrap_or (lookup test connections) new_connection)
 bare_lookup test [] = refl
 bare_lookup test (e ∷ connections) = by (test e.0) (bare_lookup test connections)
   where
@@ -48,7 +48,7 @@ bare_lookup test (e ∷ connections) = by (test e.0) (bare_lookup test connectio
     by true others = refl
     by false others = others
 
-bare_remove : (test : ℕ → Bool) (connections : List (ℕ × Connection)) → remove_entry test (bare connections) ≡ bare (remove_entry test connections)
+bare_remove : (test : ℕ → Bool) (connections : List (ℕ × ScriptConnection)) → remove_entry test (bare connections) ≡ bare (remove_entry test connections)
 bare_remove test [] = refl
 bare_remove test (e ∷ connections) = by (test e.0) (bare_remove test connections)
   where
@@ -57,7 +57,7 @@ bare_remove test (e ∷ connections) = by (test e.0) (bare_remove test connectio
     by true others = refl
     by false others = ap (λ x. (e.0, shown e.1) ∷ x) others
 
-bare_insert : (compare : ℕ → ℕ → Ordering) (connections : List (ℕ × Connection)) (n : ℕ) (c : Connection) → insert_entry compare (bare connections) n (shown c) ≡ bare (insert_entry compare connections n c)
+bare_insert : (compare : ℕ → ℕ → Ordering) (connections : List (ℕ × ScriptConnection)) (n : ℕ) (c : ScriptConnection) → insert_entry compare (bare connections) n (shown c) ≡ bare (insert_entry compare connections n c)
 bare_insert compare [] n c = refl
 bare_insert compare (e ∷ connections) n c = by (compare n e.0) (bare_insert compare connections n c)
   where
@@ -72,7 +72,7 @@ bare_insert compare (e ∷ connections) n c = by (compare n e.0) (bare_insert co
 alike_at : (n : ℕ) (s t : ScriptValue) → all_bare s ≡ all_bare t → shown (connection_at n s) ≡ shown (connection_at n t)
 alike_at n s t alike = sym (bare_lookup (is_at (nat_cmp n)) s.connections) ∙ ap (connection_at n) alike ∙ bare_lookup (is_at (nat_cmp n)) t.connections
 
-bare_with : (n : ℕ) (c : Connection) (connections : List (ℕ × Connection)) → bare (with_connection n c connections) ≡ with_connection n (shown c) (bare connections)
+bare_with : (n : ℕ) (c : ScriptConnection) (connections : List (ℕ × ScriptConnection)) → bare (with_connection n c connections) ≡ with_connection n (shown c) (bare connections)
 bare_with n c connections =
     sym (bare_insert nat_cmp (remove_entry (is_at (nat_cmp n)) connections) n c) ∙ ap (λ others. insert_entry nat_cmp others n (shown c)) (sym (bare_remove (is_at (nat_cmp n)) connections))
 
@@ -144,15 +144,15 @@ pub receive_alike : (s r t u : ScriptValue) (n : ℕ) (bytes printed other : Lis
 receive_alike s r t u n bytes printed other alike h k =
     let connection = alike_at n s r alike in
     let queue : s.queue ≡ r.queue = ap (λ (x : ScriptValue). x.queue) alike in
-    let number : (connection_at n s).number ≡ (connection_at n r).number = ap (λ (c : Connection). c.number) connection in
-    let heard = hear_alike (connection_at n s).session (connection_at n r).session h.session k.session bytes h.acts k.acts (ap (λ (c : Connection). c.session) connection) h.hears k.hears in
+    let number : (connection_at n s).number ≡ (connection_at n r).number = ap (λ (c : ScriptConnection). c.number) connection in
+    let heard = hear_alike (connection_at n s).session (connection_at n r).session h.session k.session bytes h.acts k.acts (ap (λ (c : ScriptConnection). c.session) connection) h.hears k.hears in
     let progress : h.progress ≡ k.progress = h.done ∙ ap (λ m. led_to n m s.queue h.acts) number ∙ ap (λ q. led_to n (connection_at n r).number q h.acts) queue
     ∙ ap (led_to n (connection_at n r).number r.queue) heard.0 ∙ sym k.done in
-    let of : Hearing → ℕ → Connection = λ session m. record { session = session; number = m } in
+    let of : Hearing → ℕ → ScriptConnection = λ session m. record { session = session; number = m } in
     let left : of (shown_of h.session) h.progress.number ≡ of (shown_of k.session) k.progress.number =
     ap (λ x. of x h.progress.number) heard.1 ∙ ap (λ (p : Progress). of (shown_of k.session) p.number) progress in
-    let after : ScriptValue → Connection → Progress → ScriptValue = λ x c p. record { connections = with_connection n c x.connections; queue = p.queue; disk = fresh 0 } in
-    let bared : (x : ScriptValue) (c : Connection) (p : Progress) → all_bare (after x c p) ≡ after (all_bare x) (shown c) p =
+    let after : ScriptValue → ScriptConnection → Progress → ScriptValue = λ x c p. record { connections = with_connection n c x.connections; queue = p.queue; disk = fresh 0 } in
+    let bared : (x : ScriptValue) (c : ScriptConnection) (p : Progress) → all_bare (after x c p) ≡ after (all_bare x) (shown c) p =
     λ x c p. ap (λ cs. record { connections = cs; queue = p.queue; disk = fresh 0 }) (bare_with n c x.connections) in (
       h.same_text ∙ ap (λ (p : Progress). p.text) progress ∙ sym k.same_text,
       ap all_bare h.after ∙ bared s (of h.session h.progress.number) h.progress
@@ -164,7 +164,7 @@ receive_alike s r t u n bytes printed other alike h k =
 
 pub lose_alike : (s r t u : ScriptValue) (n : ℕ) (printed other : List ℕ) → all_bare s ≡ all_bare r → Loses s n printed t → Loses r n other u → PrintAlike printed other t u
 lose_alike s r t u n printed other alike h k =
-    let of : Connection → QueueValue → Progress = λ c q. acted_on n (record { number = c.number; queue = q; text = [] }) (loss_of c.session.phase) in
+    let of : ScriptConnection → QueueValue → Progress = λ c q. acted_on n (record { number = c.number; queue = q; text = [] }) (loss_of c.session.phase) in
     let queue : s.queue ≡ r.queue = ap (λ (x : ScriptValue). x.queue) alike in
     let progress : h.progress ≡ k.progress = h.done ∙ ap (λ c. of c s.queue) (alike_at n s r alike) ∙ ap (of (connection_at n r)) queue ∙ sym k.done in
     let after : ScriptValue → Progress → ScriptValue = λ x p. record { connections = remove_entry (is_at (nat_cmp n)) x.connections; queue = p.queue; disk = fresh 0 } in

@@ -2,7 +2,7 @@
 use Rattle.std.proofs.Common.{◌≡◌, List, [], ◌∷◌, ◌++◌, ℕ, Option, Some, None, IsSomeAnd, ap, sym, ◌∙◌, subst}
 use Rattle.std.specs.List.{fold}
 use Rattle.session_core.specs.declared.act.Act.{Act}
-use Rattle.engine_core.specs.declared.running_script.Connection.{Connection}
+use Rattle.engine_core.specs.declared.running_script.ScriptConnection.{ScriptConnection}
 use Rattle.session_core.specs.Sessions.{loss_of}
 use Rattle.engine_core.specs.Queues.{QueueValue, Progress, ComeTo, acted}
 use Rattle.engine_core.specs.Running.{ScriptValue, connection_at, HearsSuch, LosesSuch, ReceivesSuch}
@@ -37,12 +37,12 @@ module _ (Such : ℕ → QueueValue → Act → Type 0) where
     such = subst (λ (p : Progress). Such connection p.queue act) done such;
   }
 
-  pub receives_such : (s : ScriptValue) (n : ℕ) (bytes text : List ℕ) (taken : Connection) → taken ≡ connection_at n s → text ≡ []
+  pub receives_such : (s : ScriptValue) (n : ℕ) (bytes text : List ℕ) (taken : ScriptConnection) → taken ≡ connection_at n s → text ≡ []
       → HearsSuch Such n bytes taken s.queue text → ReceivesSuch Such s n bytes
   receives_such s n bytes text taken is_taken none hears =
-      subst (λ (c : Connection). HearsSuch Such n bytes c s.queue []) is_taken (subst (λ t. HearsSuch Such n bytes taken s.queue t) none hears)
+      subst (λ (c : ScriptConnection). HearsSuch Such n bytes c s.queue []) is_taken (subst (λ t. HearsSuch Such n bytes taken s.queue t) none hears)
 
-  pub loses_such : (s : ScriptValue) (n : ℕ) (taken : Connection) (act : Option Act)
+  pub loses_such : (s : ScriptValue) (n : ℕ) (taken : ScriptConnection) (act : Option Act)
       → taken ≡ connection_at n s → act ≡ loss_of taken.session.phase → IsSomeAnd act (Such n s.queue) → LosesSuch Such s n
   loses_such s n taken None is_taken is such = absurd such
-  loses_such s n taken (Some act) is_taken is such = record { act = act; is_loss = sym (is ∙ ap (λ (c : Connection). loss_of c.session.phase) is_taken); such = such }
+  loses_such s n taken (Some act) is_taken is such = record { act = act; is_loss = sym (is ∙ ap (λ (c : ScriptConnection). loss_of c.session.phase) is_taken); such = such }

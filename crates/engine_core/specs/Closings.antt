@@ -6,9 +6,9 @@ use Rattle.claim_core.specs.Counts.{Pair}
 use Rattle.claim_core.specs.Endings.{Ends}
 use Rattle.claim_core.specs.Seats.{SessionSeatValue, next_ticket}
 use Rattle.flush_core.specs.Flushed.{Flushed}
-use Rattle.world_core.specs.declared.place.Phase.TheVariants.{Running}
-use Rattle.world_core.specs.declared.place.Place.{Place}
-use Rattle.world_core.specs.declared.place.Place.TheVariants.{Rest, Broken}
+use Rattle.world_core.specs.declared.place.Life.TheVariants.{Running}
+use Rattle.world_core.specs.declared.place.LastCall.{LastCall}
+use Rattle.world_core.specs.declared.place.LastCall.TheVariants.{Rest, Broken}
 use Rattle.world_core.specs.declared.seat.Seat.{Seat}
 use Rattle.world_core.specs.Promises.{HoldsOn, numbers}
 use Rattle.world_core.specs.Schedules.{life_of}
@@ -25,7 +25,7 @@ most_seen least [] = least
 most_seen least (seat ∷ seats) = max seat.seen (most_seen least seats)
 
 -- no list of device calls is in progress; after a step of the flusher that failed, only opening may begin one
-abbrev pub place_of : Bool → Place
+abbrev pub place_of : Bool → LastCall
 place_of false = Rest
 place_of true = Broken
 

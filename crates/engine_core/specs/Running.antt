@@ -10,11 +10,11 @@ use Rattle.session_core.specs.Sessions.{Hearing, Hears, loss_of}
 use Rattle.session_core.specs.declared.act.Act.{Act}
 use Rattle.engine_core.specs.Connections.{new_connection}
 use Rattle.engine_core.specs.Queues.{QueueOnDisk, QueueValue, Progress, ComeTo, IsTooFar, acted, acted_on, progress_of}
-use Rattle.engine_core.specs.declared.running_script.Connection.{Connection}
+use Rattle.engine_core.specs.declared.running_script.ScriptConnection.{ScriptConnection}
 
 -- a script while its disk runs: its connections by rising number, the queue, and the disk
 pub record ScriptValue : Type 0 where
-  pub connections : List (ℕ × Connection)
+  pub connections : List (ℕ × ScriptConnection)
   pub queue : QueueValue
   pub disk : Memory
 
@@ -27,11 +27,11 @@ abbrev pub beginning : State → Memory → ScriptValue
 beginning state disk = record { connections = []; queue = record { waiting = []; openers = []; state = state; durable = true }; disk = disk }
 
 -- a connection, new if there is none
-abbrev pub connection_at : ℕ → ScriptValue → Connection
+abbrev pub connection_at : ℕ → ScriptValue → ScriptConnection
 connection_at n s = unwrap_or (lookup (is_at (nat_cmp n)) s.connections) new_connection
 
 -- the script with a connection as it is now
-abbrev pub with_connection : ℕ → Connection → List (ℕ × Connection) → List (ℕ × Connection)
+abbrev pub with_connection : ℕ → ScriptConnection → List (ℕ × ScriptConnection) → List (ℕ × ScriptConnection)
 with_connection n connection connections = insert_entry nat_cmp (remove_entry (is_at (nat_cmp n)) connections) n connection
 
 -- A connection receives bytes: its session hears them, and what they ask for is done, act by act. None of it is a command that
@@ -48,14 +48,14 @@ pub record Receives (s : ScriptValue) (n : ℕ) (bytes printed : List ℕ) (t : 
 
 -- A connection acts on bytes: its session hears them, and what they ask for is done, act by act, and adds to a text. None of it is a
 -- command that comes once as many have been carried out as may be.
-pub record ActsOn (n : ℕ) (bytes : List ℕ) (old : Connection) (before : QueueValue) (text : List ℕ) (new : Connection) (after : QueueValue) (printed : List ℕ) : Type 0 where
+pub record ActsOn (n : ℕ) (bytes : List ℕ) (old : ScriptConnection) (before : QueueValue) (text : List ℕ) (new : ScriptConnection) (after : QueueValue) (printed : List ℕ) : Type 0 where
   pub acts : List Act
   pub hears : Hears old.session bytes acts new.session
   pub within : ComeTo n IsTooFar (progress_of old.number before text) acts → ⊥
   pub done : progress_of new.number after printed ≡ fold (acted n) (progress_of old.number before text) acts
 
 -- a connection's session hears bytes of which one asks for such an act
-pub record HearsSuch (Such : ℕ → QueueValue → Act → Type 0) (n : ℕ) (bytes : List ℕ) (connection : Connection) (queue : QueueValue) (text : List ℕ) : Type 0 where
+pub record HearsSuch (Such : ℕ → QueueValue → Act → Type 0) (n : ℕ) (bytes : List ℕ) (connection : ScriptConnection) (queue : QueueValue) (text : List ℕ) : Type 0 where
   pub acts : List Act
   pub session : Hearing
   pub hears : Hears connection.session bytes acts session

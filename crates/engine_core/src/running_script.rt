@@ -24,7 +24,7 @@ use std::marker::Model;
 
 /// A connection of a script: its session, and that session's number once it has one.
 #[derive(Drop)]
-pub struct Connection {
+pub struct ScriptConnection {
     pub session: Session,
     pub number: u64,
 }
@@ -32,7 +32,7 @@ pub struct Connection {
 /// A script while its disk runs. Contracts see its connections by rising number, the queue, and the disk.
 #[derive(Drop)]
 pub struct RunningScript {
-    connections: BTreeMap<u8, Connection>,
+    connections: BTreeMap<u8, ScriptConnection>,
     queue: CommandQueue,
 }
 
@@ -118,7 +118,7 @@ impl RunningScript {
         ensures calm { OnOk result (self.new.disk.failures ≡ self.old.disk.failures) }
         ensures refuses { IfErr result (RefusesActs (λ Such. LosesSuch Such self.old n) (on_disk self.old) (on_disk self.new)) }
     {
-        let Connection {
+        let ScriptConnection {
             mut session,
             number,
         } = take_connection(alloc, &mut self.connections, n);
@@ -136,13 +136,13 @@ impl RunningScript {
 }
 
 /// Takes a connection out of the others; a new one if there is none of that number.
-fn take_connection(alloc: Global, connections: &mut BTreeMap<u8, Connection>, n: u8) -> Connection
+fn take_connection(alloc: Global, connections: &mut BTreeMap<u8, ScriptConnection>, n: u8) -> ScriptConnection
     ensures taken { result ≡ unwrap_or (lookup (is_at (nat_cmp n)) connections.old.entries) new_connection }
     ensures others { connections.new.entries ≡ remove_entry (is_at (nat_cmp n)) connections.old.entries }
 {
     match connections.remove(&n) {
         Some(connection) => connection,
-        None => Connection {
+        None => ScriptConnection {
             session: Session::new(alloc),
             number: 0,
         },
@@ -154,7 +154,7 @@ fn hear(
     alloc: Global,
     queue: &mut CommandQueue,
     n: u8,
-    connection: &mut Connection,
+    connection: &mut ScriptConnection,
     bytes: &[u8],
     text: &mut String,
 ) -> Result<(), QueueFault>

@@ -24,10 +24,10 @@ use Rattle.world_core.specs.declared.event.CallKind.TheVariants.{Read, Write, Sy
 use Rattle.world_core.specs.declared.event.CallList.{CallList}
 use Rattle.world_core.specs.declared.event.CallList.TheVariants.{Append, Snapshot, Switch, Open}
 use Rattle.world_core.specs.declared.event.Event.TheVariants.{Device, Crash, Open as Opens}
-use Rattle.world_core.specs.declared.place.Phase.{Phase}
-use Rattle.world_core.specs.declared.place.Phase.TheVariants.{Running, Reopening, Crashed}
-use Rattle.world_core.specs.declared.place.Place.{Place}
-use Rattle.world_core.specs.declared.place.Place.TheVariants.{Rest, Broken, BlockWritten, BlockSynced, GateWritten, Copying, CopySynced, SwitchWritten, OpenSynced, OpenRead, SnapshotWriting, SnapshotSynced, SelectorWritten, Opened}
+use Rattle.world_core.specs.declared.place.Life.{Life}
+use Rattle.world_core.specs.declared.place.Life.TheVariants.{Running, Reopening, Crashed}
+use Rattle.world_core.specs.declared.place.LastCall.{LastCall}
+use Rattle.world_core.specs.declared.place.LastCall.TheVariants.{Rest, Broken, BlockWritten, BlockSynced, GateWritten, Copying, CopySynced, SwitchWritten, OpenSynced, OpenRead, SnapshotWriting, SnapshotSynced, SelectorWritten, Opened}
 use Rattle.world_core.specs.declared.seat.Seat.{Seat}
 use Rattle.world_core.specs.Calls.{CanCopy, CanRestart, MayLead, MayStore, Patch, append_syncs, append_writes, batch, called, fitting, copy_of, copy_syncs, copy_writes, done_at, gate_of, idle_of, leads, open_reads, open_syncs, open_writes, patch_to, phase_after, piece, piece_end, place_after, rest_of, switch_syncs, switch_writes, synced, wrote}
 use Rattle.world_core.specs.Events.{Possible, after, with_image}
@@ -47,7 +47,7 @@ le_where a b is = ltb-false a b is
 pub is_content : (content : List ℕ) (held : List (Option ℕ)) → IsImage content held content
 is_content content held = record { size = refl; stable = λ i stable. refl }
 
-not_running : (phase : Phase) → phase_after Open phase ≢ Running
+not_running : (phase : Life) → phase_after Open phase ≢ Running
 not_running Running r = absurd (cc)
 not_running Reopening r = absurd (cc)
 not_running Crashed r = absurd (cc)
@@ -73,7 +73,7 @@ staged_synced log d to s = record {
 restarted_synced : (d : DiskValue) → Restarted d → Restarted (synced d)
 restarted_synced d p = record { reading = p.reading; is_read = p.is_read; two = p.two; can = p.can; again = p.again }
 
-at_ok : (ok : Bool) (log : Log) (d : DiskValue) (to : Place) → IsAt log d to → IsAt log d (place_after ok to)
+at_ok : (ok : Bool) (log : Log) (d : DiskValue) (to : LastCall) → IsAt log d to → IsAt log d (place_after ok to)
 at_ok true log d to is = is
 at_ok false log d to is = tt
 
@@ -88,7 +88,7 @@ module _ (w : WorldValue) (k : IsKept w) (r : Reading) (x : IsRead w.disk.size w
   here = k.images d.content (is_content d.content d.held)
 
   -- all that device calls change
-  device_keeps : (stored : ℕ) (phase : Phase) (place : Place) (disk : DiskValue)
+  device_keeps : (stored : ℕ) (phase : Life) (place : LastCall) (disk : DiskValue)
       → let new : WorldValue = record w { stored = stored; phase = phase; place = place; disk = disk } in
       disk.size ≡ w.disk.size → length disk.content ≡ length w.disk.content → length disk.held ≡ length disk.content → w.stored ≤ stored → stored ≤ w.taken
       → ((c : List ℕ) → IsImage disk.content disk.held c → HasPrefix (log_of new) disk.size c) → IsAt (log_of new) disk place → IsKept new
@@ -113,7 +113,7 @@ module _ (w : WorldValue) (k : IsKept w) (r : Reading) (x : IsRead w.disk.size w
   }
 
   -- a call that fails, and a read
-  idle_keeps : (phase : Phase) (place : Place) → (phase ≡ Running → w.phase ≡ Running)
+  idle_keeps : (phase : Life) (place : LastCall) → (phase ≡ Running → w.phase ≡ Running)
       → IsAt (log_of (record w { phase = phase; place = place })) d place → IsKept (record w { phase = phase; place = place })
   idle_keeps phase place running at =
       let new : WorldValue = record w { phase = phase; place = place } in
@@ -127,7 +127,7 @@ module _ (w : WorldValue) (k : IsKept w) (r : Reading) (x : IsRead w.disk.size w
   length-none = length-replicate (length d.content) None
 
   -- a sync
-  sync_keeps : (phase : Phase) (place : Place) → (phase ≡ Running → w.phase ≡ Running)
+  sync_keeps : (phase : Life) (place : LastCall) → (phase ≡ Running → w.phase ≡ Running)
       → let new : WorldValue = record w { phase = phase; place = place; disk = synced d } in
       IsAt (log_of new) (synced d) place → IsKept new
   sync_keeps phase place running at =
@@ -137,7 +137,7 @@ module _ (w : WorldValue) (k : IsKept w) (r : Reading) (x : IsRead w.disk.size w
       (subst (λ (l : List ℕ). HasPrefix (log_of w) d.size l) (sym (only_there c image)) here)) at
 
   -- a write, where nothing was unsynced
-  write_keeps : (phase : Phase) (place : Place) (p : Patch) → (phase ≡ Running → w.phase ≡ Running) → IsStill d → p.at + length p.bytes ≤ length d.content
+  write_keeps : (phase : Life) (place : LastCall) (p : Patch) → (phase ≡ Running → w.phase ≡ Running) → IsStill d → p.at + length p.bytes ≤ length d.content
       → let new : WorldValue = record w { phase = phase; place = place; disk = wrote d p } in
       ((c : List ℕ) → Torn p.at (length p.bytes) d.content c → HasPrefix (log_of w) d.size c) → IsAt (log_of new) (wrote d p) place → IsKept new
   write_keeps phase place p running still fits torn at =
@@ -256,7 +256,7 @@ module _ (w : WorldValue) (k : IsKept w) (r : Reading) (x : IsRead w.disk.size w
   has_exact : HasCopy (log_of w) d → Exact (log_of w) d w.stored
   has_exact c = record { running = c.running; reading = c.reading; is_read = c.is_read; two = c.two; state = c.state }
 
-  append_write : (ok : Bool) (p : Place) → IsAt (log_of w) d p → IsSomeAnd (append_writes (fitting w r) p) (MayLead w r) → IsKept (called w r (record { list = Append; kind = Write; ok = ok }) p (append_writes (fitting w r) p))
+  append_write : (ok : Bool) (p : LastCall) → IsAt (log_of w) d p → IsSomeAnd (append_writes (fitting w r) p) (MayLead w r) → IsKept (called w r (record { list = Append; kind = Write; ok = ok }) p (append_writes (fitting w r) p))
   append_write ok Rest is may = block_keeps ok (fitting w r) (fitting_taken w k r) is.0 is.1 may
   append_write ok Broken is may = k
   append_write ok (BlockWritten to) is may = k
@@ -272,7 +272,7 @@ module _ (w : WorldValue) (k : IsKept w) (r : Reading) (x : IsRead w.disk.size w
   append_write ok SelectorWritten is may = k
   append_write ok Opened is may = k
 
-  append_sync : (ok : Bool) (p : Place) → IsAt (log_of w) d p → IsKept (called w r (record { list = Append; kind = Sync; ok = ok }) p (append_syncs p))
+  append_sync : (ok : Bool) (p : LastCall) → IsAt (log_of w) d p → IsKept (called w r (record { list = Append; kind = Sync; ok = ok }) p (append_syncs p))
   append_sync ok Rest is = k
   append_sync ok Broken is = k
   append_sync true (BlockWritten to) is = sync_keeps w.phase (BlockSynced to) (λ q. q) (refl, staged_synced (log_of w) d to is)
@@ -292,7 +292,7 @@ module _ (w : WorldValue) (k : IsKept w) (r : Reading) (x : IsRead w.disk.size w
 
   -- Open
 
-  abbrev ended : Phase
+  abbrev ended : Life
   ended = phase_after Open w.phase
 
   state_here : r.state ≡ here.reading.state
@@ -351,7 +351,7 @@ module _ (w : WorldValue) (k : IsKept w) (r : Reading) (x : IsRead w.disk.size w
     same_idle : idle_of (wrote d p) ≡ idle_of d
     same_idle = ap (λ (n : ℕ). start d.size (other (is_odd n))) still_reads.reads.journal.selects
 
-    piece_keeps : (phase : Phase) (place : Place) → (phase ≡ Running → w.phase ≡ Running)
+    piece_keeps : (phase : Life) (place : LastCall) → (phase ≡ Running → w.phase ≡ Running)
         → let new : WorldValue = record w { phase = phase; place = place; disk = wrote d p } in
         IsAt (log_of new) (wrote d p) place → IsKept new
     piece_keeps phase place running at =
@@ -411,7 +411,7 @@ module _ (w : WorldValue) (k : IsKept w) (r : Reading) (x : IsRead w.disk.size w
       copy_keeps ok (piece_end done all) all c.running (same_version d.size d.size d.content r c.reading x c.is_read ∙ c.two) state may copies.torn (omega (arith, there, copies.within)) (omega arith) copies.whole
       (ap (λ (n : ℕ). take n (drop (idle_of d) d.content)) there ∙ copies.there ∙ sym (ap (λ (n : ℕ). take n (copy_of r)) there))
 
-  copy_write : (ok : Bool) (p : Place) → w.place ≡ p → IsAt (log_of w) d p → IsSomeAnd (copy_writes (length (copy_of r)) p) (MayLead w r)
+  copy_write : (ok : Bool) (p : LastCall) → w.place ≡ p → IsAt (log_of w) d p → IsSomeAnd (copy_writes (length (copy_of r)) p) (MayLead w r)
       → IsKept (called w r (record { list = Snapshot; kind = Write; ok = ok }) p (copy_writes (length (copy_of r)) p))
   copy_write ok Rest e is may = first_copy ok (ap done_at e) is.0 is.1 may
   copy_write ok Broken e is may = k
@@ -448,7 +448,7 @@ module _ (w : WorldValue) (k : IsKept w) (r : Reading) (x : IsRead w.disk.size w
   copy_sync_if true false done all c b = sync_keeps w.phase CopySynced (λ q. q) (refl, all_copied done all b c)
   copy_sync_if false false done all c b = idle_keeps w.phase Broken (λ q. q) tt
 
-  copy_sync : (ok : Bool) (p : Place) → IsAt (log_of w) d p → IsKept (called w r (record { list = Snapshot; kind = Sync; ok = ok }) p (copy_syncs p))
+  copy_sync : (ok : Bool) (p : LastCall) → IsAt (log_of w) d p → IsKept (called w r (record { list = Snapshot; kind = Sync; ok = ok }) p (copy_syncs p))
   copy_sync ok Rest is = k
   copy_sync ok Broken is = k
   copy_sync ok (BlockWritten to) is = k
@@ -486,7 +486,7 @@ module _ (w : WorldValue) (k : IsKept w) (r : Reading) (x : IsRead w.disk.size w
         state = c.state;
       }))
 
-  switch_write : (ok : Bool) (p : Place) → IsAt (log_of w) d p → IsKept (called w r (record { list = Switch; kind = Write; ok = ok }) p (switch_writes p))
+  switch_write : (ok : Bool) (p : LastCall) → IsAt (log_of w) d p → IsKept (called w r (record { list = Switch; kind = Write; ok = ok }) p (switch_writes p))
   switch_write ok Rest is = k
   switch_write ok Broken is = k
   switch_write ok (BlockWritten to) is = k
@@ -502,7 +502,7 @@ module _ (w : WorldValue) (k : IsKept w) (r : Reading) (x : IsRead w.disk.size w
   switch_write ok SelectorWritten is = k
   switch_write ok Opened is = k
 
-  switch_sync : (ok : Bool) (p : Place) → IsAt (log_of w) d p → IsKept (called w r (record { list = Switch; kind = Sync; ok = ok }) p (switch_syncs p))
+  switch_sync : (ok : Bool) (p : LastCall) → IsAt (log_of w) d p → IsKept (called w r (record { list = Switch; kind = Sync; ok = ok }) p (switch_syncs p))
   switch_sync ok Rest is = k
   switch_sync ok Broken is = k
   switch_sync ok (BlockWritten to) is = k
@@ -611,7 +611,7 @@ module _ (w : WorldValue) (k : IsKept w) (r : Reading) (x : IsRead w.disk.size w
   prepared_if true false done all c b = sync_keeps ended SnapshotSynced (λ q. absurd (not_running w.phase q)) (refl, not_running w.phase, all_prepared done all b c)
   prepared_if false false done all c b = failed
 
-  open_sync : (ok : Bool) (p : Place) → IsAt (log_of w) d p → IsKept (called w r (record { list = Open; kind = Sync; ok = ok }) p (open_syncs p))
+  open_sync : (ok : Bool) (p : LastCall) → IsAt (log_of w) d p → IsKept (called w r (record { list = Open; kind = Sync; ok = ok }) p (open_syncs p))
   open_sync true Rest is = began
   open_sync false Rest is = failed
   open_sync true Broken is = began
@@ -634,7 +634,7 @@ module _ (w : WorldValue) (k : IsKept w) (r : Reading) (x : IsRead w.disk.size w
   open_sync false SelectorWritten is = failed
   open_sync ok Opened is = k
 
-  open_read : (ok : Bool) (p : Place) → IsAt (log_of w) d p → IsKept (called w r (record { list = Open; kind = Read; ok = ok }) p (open_reads p))
+  open_read : (ok : Bool) (p : LastCall) → IsAt (log_of w) d p → IsKept (called w r (record { list = Open; kind = Read; ok = ok }) p (open_reads p))
   open_read ok Rest is = k
   open_read ok Broken is = k
   open_read ok (BlockWritten to) is = k
@@ -652,7 +652,7 @@ module _ (w : WorldValue) (k : IsKept w) (r : Reading) (x : IsRead w.disk.size w
   open_read ok SelectorWritten is = k
   open_read ok Opened is = k
 
-  open_write : (ok : Bool) (p : Place) → w.place ≡ p → IsAt (log_of w) d p → IsSomeAnd (open_writes (length (rest_of r)) p) (MayLead w r)
+  open_write : (ok : Bool) (p : LastCall) → w.place ≡ p → IsAt (log_of w) d p → IsSomeAnd (open_writes (length (rest_of r)) p) (MayLead w r)
       → IsKept (called w r (record { list = Open; kind = Write; ok = ok }) p (open_writes (length (rest_of r)) p))
   open_write ok Rest e is may = k
   open_write ok Broken e is may = k
@@ -699,7 +699,7 @@ module _ (w : WorldValue) (k : IsKept w) (r : Reading) (x : IsRead w.disk.size w
 
   pub open_keeps : Possible w r Opens → IsKept (after w r Opens)
   open_keeps may =
-      let at : IsAt (log_of w) d Opened = subst (λ (p : Place). IsAt (log_of w) d p) may k.at in
+      let at : IsAt (log_of w) d Opened = subst (λ (p : LastCall). IsAt (log_of w) d p) may k.at in
       let s = r.state in
       let same = same_state d.size d.size d.content r at.2.reading x at.2.is_read in
       let low : s.count ≤ 2 ^ 61 = omega (arith, at.2.can.low, ap (λ (t : State). t.count) same) in

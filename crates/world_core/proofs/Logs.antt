@@ -11,9 +11,9 @@ use Rattle.area_core.specs.Areas.{HasRecord, IsBlock, closed, records}
 use Rattle.area_core.specs.Journals.{is_odd, start}
 use Rattle.recover_core.proofs.Folded.{count_after}
 use Rattle.recover_core.proofs.Stores.{after-append}
-use Rattle.world_core.specs.declared.place.Phase.TheVariants.{Running}
-use Rattle.world_core.specs.declared.place.Place.{Place}
-use Rattle.world_core.specs.declared.place.Place.TheVariants.{Rest, Broken, BlockWritten, BlockSynced, GateWritten, Copying, CopySynced, SwitchWritten, OpenSynced, OpenRead, SnapshotWriting, SnapshotSynced, SelectorWritten, Opened}
+use Rattle.world_core.specs.declared.place.Life.TheVariants.{Running}
+use Rattle.world_core.specs.declared.place.LastCall.{LastCall}
+use Rattle.world_core.specs.declared.place.LastCall.TheVariants.{Rest, Broken, BlockWritten, BlockSynced, GateWritten, Copying, CopySynced, SwitchWritten, OpenSynced, OpenRead, SnapshotWriting, SnapshotSynced, SelectorWritten, Opened}
 use Rattle.world_core.specs.Keeping.{Copied, Exact, HasCopy, HasPrefix, IsAt, Log, Staged, upto}
 use Rattle.world_core.specs.Worlds.{DiskValue, between, state_under}
 
@@ -139,7 +139,7 @@ has_copy_stays log next d stored phase le same c = record {
   idle = c.idle;
 }
 
-pub at_moves : (log next : Log) (d : DiskValue) (p : Place) → next.stored ≡ log.stored → log.taken ≤ next.taken → next.phase ≡ log.phase → log.base ≤ log.stored → log.stored ≤ log.taken → AreSame log next log.taken → IsAt log d p → IsAt next d p
+pub at_moves : (log next : Log) (d : DiskValue) (p : LastCall) → next.stored ≡ log.stored → log.taken ≤ next.taken → next.phase ≡ log.phase → log.base ≤ log.stored → log.stored ≤ log.taken → AreSame log next log.taken → IsAt log d p → IsAt next d p
 at_moves log next d Rest stored taken phase low le same is = (is.0, exact_stays log next d stored phase le same is.1)
 at_moves log next d Broken stored taken phase low le same is = tt
 at_moves log next d (BlockWritten to) stored taken phase low le same is = staged_moves log next d to stored taken phase low same is

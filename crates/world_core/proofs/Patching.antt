@@ -10,8 +10,8 @@ use Rattle.area_core.specs.Journals.{is_odd, other, start}
 use Rattle.area_core.proofs.Areas.{length-closed, length-sealed}
 use Rattle.area_core.proofs.Journals.{start_most}
 use Rattle.world_core.specs.declared.patches.Patch.{Patch}
-use Rattle.world_core.specs.declared.place.Place.{Place}
-use Rattle.world_core.specs.declared.place.Place.TheVariants.{Rest, Broken, BlockWritten, BlockSynced, GateWritten, Copying, CopySynced, SwitchWritten, OpenSynced, OpenRead, SnapshotWriting, SnapshotSynced, SelectorWritten, Opened}
+use Rattle.world_core.specs.declared.place.LastCall.{LastCall}
+use Rattle.world_core.specs.declared.place.LastCall.TheVariants.{Rest, Broken, BlockWritten, BlockSynced, GateWritten, Copying, CopySynced, SwitchWritten, OpenSynced, OpenRead, SnapshotWriting, SnapshotSynced, SelectorWritten, Opened}
 use Rattle.world_core.specs.Calls.{CanCopy, CanRestart, MayLead, batch, copy_of, done_at, gate_of, idle_of, patch, patch_to, rest_of}
 use Rattle.world_core.specs.Keeping.{IsKept}
 use Rattle.world_core.specs.Readings.{IsRead, Reading}
@@ -96,7 +96,7 @@ rest_is w done all at bytes part can place is r x =
     (both.0, patch_is at (idle_of w.disk + done_at w.place) part _ place (is ∙ ap (λ (l : List ℕ). take (done - done_at w.place) (drop (done_at w.place) l)) both.1))
 
 -- what is written lies within the disk
-pub patch_fits : (w : WorldValue) → IsKept w → (to : Place) (r : Reading) → IsRead w.disk.size w.disk.content r → IsDue w to → MayLead w r to → (patch_to w r to).at + length (patch_to w r to).bytes ≤ length w.disk.content
+pub patch_fits : (w : WorldValue) → IsKept w → (to : LastCall) (r : Reading) → IsRead w.disk.size w.disk.content r → IsDue w to → MayLead w r to → (patch_to w r to).at + length (patch_to w r to).bytes ≤ length w.disk.content
 patch_fits w k (BlockWritten to) r x due may = omega (arith, k.size, may.fits, length-closed (records (batch w to)), start_most w.disk.size (is_odd (slice_index w.disk.content 16)))
 patch_fits w k (GateWritten to) r x due may = omega (arith, k.size, gate_within w.disk.size w.disk.content r x, start_most w.disk.size (is_odd (slice_index w.disk.content 16)))
 patch_fits w k (Copying done all) r x due may =
@@ -118,19 +118,19 @@ patch_fits w k Opened r x due may = omega arith
 
 -- the place that is due
 
-pub due_taken : (w : WorldValue) → IsKept w → (to : Place) (n : ℕ) → to ≡ BlockWritten n → IsDue w to → n ≤ w.taken
+pub due_taken : (w : WorldValue) → IsKept w → (to : LastCall) (n : ℕ) → to ≡ BlockWritten n → IsDue w to → n ≤ w.taken
 due_taken w k to n is due =
     let x = here w k in
-    omega (arith, (subst (λ (p : Place). IsDue w p) is due) x.reading x.is_read, fitting_taken w k x.reading)
+    omega (arith, (subst (λ (p : LastCall). IsDue w p) is due) x.reading x.is_read, fitting_taken w k x.reading)
 
-pub some_moves : {E : Type 0} (w : WorldValue) (p q : Place) (r : Result (Option Patch) E) → p ≡ q → IfOk r (λ found. IfSome found (λ x. IsPatch w q x.at x.bytes.items)) → IfOk r (λ found. IfSome found (λ x. IsPatch w p x.at x.bytes.items))
-some_moves w p q r is some = subst (λ (z : Place). IfOk r (λ found. IfSome found (λ x. IsPatch w z x.at x.bytes.items))) (sym is) some
+pub some_moves : {E : Type 0} (w : WorldValue) (p q : LastCall) (r : Result (Option Patch) E) → p ≡ q → IfOk r (λ found. IfSome found (λ x. IsPatch w q x.at x.bytes.items)) → IfOk r (λ found. IfSome found (λ x. IsPatch w p x.at x.bytes.items))
+some_moves w p q r is some = subst (λ (z : LastCall). IfOk r (λ found. IfSome found (λ x. IsPatch w z x.at x.bytes.items))) (sym is) some
 
-pub none_moves : {E : Type 0} (w : WorldValue) (p q : Place) (r : Result (Option Patch) E) → p ≡ q → IfOk r (λ found. found ≡ None → IsNoPatch w q) → IfOk r (λ found. found ≡ None → IsNoPatch w p)
-none_moves w p q r is none = subst (λ (z : Place). IfOk r (λ found. found ≡ None → IsNoPatch w z)) (sym is) none
+pub none_moves : {E : Type 0} (w : WorldValue) (p q : LastCall) (r : Result (Option Patch) E) → p ≡ q → IfOk r (λ found. found ≡ None → IsNoPatch w q) → IfOk r (λ found. found ≡ None → IsNoPatch w p)
+none_moves w p q r is none = subst (λ (z : LastCall). IfOk r (λ found. found ≡ None → IsNoPatch w z)) (sym is) none
 
-pub patch_moves : (w : WorldValue) (p q : Place) (x : Patch) → p ≡ q → IsPatch w q x.at x.bytes.items → IsPatch w p x.at x.bytes.items
-patch_moves w p q x is patch = subst (λ (z : Place). IsPatch w z x.at x.bytes.items) (sym is) patch
+pub patch_moves : (w : WorldValue) (p q : LastCall) (x : Patch) → p ≡ q → IsPatch w q x.at x.bytes.items → IsPatch w p x.at x.bytes.items
+patch_moves w p q x is patch = subst (λ (z : LastCall). IsPatch w z x.at x.bytes.items) (sym is) patch
 
 pub not_other : (a b : Bool) → a ≡ b → not a ≡ other b
 not_other a true is = ap not is

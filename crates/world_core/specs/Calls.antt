@@ -14,10 +14,10 @@ use Rattle.world_core.specs.declared.event.CallKind.{CallKind}
 use Rattle.world_core.specs.declared.event.CallKind.TheVariants.{Read, Write, Sync}
 use Rattle.world_core.specs.declared.event.CallList.{CallList}
 use Rattle.world_core.specs.declared.event.CallList.TheVariants.{Append, Snapshot, Switch, Open}
-use Rattle.world_core.specs.declared.place.Phase.{Phase}
-use Rattle.world_core.specs.declared.place.Phase.TheVariants.{Running, Reopening}
-use Rattle.world_core.specs.declared.place.Place.{Place}
-use Rattle.world_core.specs.declared.place.Place.TheVariants.{Rest, Broken, BlockWritten, BlockSynced, GateWritten, Copying, CopySynced, SwitchWritten, OpenSynced, OpenRead, SnapshotWriting, SnapshotSynced, SelectorWritten, Opened}
+use Rattle.world_core.specs.declared.place.Life.{Life}
+use Rattle.world_core.specs.declared.place.Life.TheVariants.{Running, Reopening}
+use Rattle.world_core.specs.declared.place.LastCall.{LastCall}
+use Rattle.world_core.specs.declared.place.LastCall.TheVariants.{Rest, Broken, BlockWritten, BlockSynced, GateWritten, Copying, CopySynced, SwitchWritten, OpenSynced, OpenRead, SnapshotWriting, SnapshotSynced, SelectorWritten, Opened}
 use Rattle.world_core.specs.Limits.{most_counted}
 use Rattle.world_core.specs.Readings.{Reading}
 use Rattle.world_core.specs.Worlds.{DiskValue, WorldValue, between}
@@ -30,41 +30,41 @@ abbrev pub piece_end : ℕ → ℕ → ℕ
 piece_end done whole = min (done + 65536) whole
 
 -- a block is written behind the closed gate and synced, and then its gate; the block has the commands under that number
-abbrev pub append_writes : ℕ → Place → Option Place
+abbrev pub append_writes : ℕ → LastCall → Option LastCall
 append_writes under Rest = Some (BlockWritten under)
 append_writes under CopySynced = Some (BlockWritten under)
 append_writes under (BlockSynced to) = Some (GateWritten to)
 append_writes under at = None
 
-abbrev pub append_syncs : Place → Option Place
+abbrev pub append_syncs : LastCall → Option LastCall
 append_syncs (BlockWritten to) = Some (BlockSynced to)
 append_syncs (GateWritten to) = Some Rest
 append_syncs at = None
 
 -- a snapshot of the state as it is may be written if no list is under way
-abbrev pub copy_writes : ℕ → Place → Option Place
+abbrev pub copy_writes : ℕ → LastCall → Option LastCall
 copy_writes whole Rest = Some (Copying (piece_end 0 whole) whole)
 copy_writes whole CopySynced = Some (Copying (piece_end 0 whole) whole)
 copy_writes whole (Copying done all) = if nat_lt done all then Some (Copying (piece_end done all) all) else None
 copy_writes whole at = None
 
 -- and is synced once all of it is written
-abbrev pub copy_syncs : Place → Option Place
+abbrev pub copy_syncs : LastCall → Option LastCall
 copy_syncs (Copying done all) = if nat_lt done all then None else Some CopySynced
 copy_syncs at = None
 
 -- the areas are switched right after that, and at no other time
-abbrev pub switch_writes : Place → Option Place
+abbrev pub switch_writes : LastCall → Option LastCall
 switch_writes CopySynced = Some SwitchWritten
 switch_writes at = None
 
-abbrev pub switch_syncs : Place → Option Place
+abbrev pub switch_syncs : LastCall → Option LastCall
 switch_syncs SwitchWritten = Some Rest
 switch_syncs at = None
 
 -- The list of Open may begin at rest and when broken, after a snapshot, and between two of its pieces. It may begin anew after its first
 -- sync, after a read, and between two pieces.
-abbrev pub open_syncs : Place → Option Place
+abbrev pub open_syncs : LastCall → Option LastCall
 open_syncs Rest = Some OpenSynced
 open_syncs Broken = Some OpenSynced
 open_syncs (Copying done all) = if nat_lt done all then Some OpenSynced else None
@@ -75,12 +75,12 @@ open_syncs (SnapshotWriting done all) = if nat_lt done all then Some OpenSynced 
 open_syncs SelectorWritten = Some Opened
 open_syncs at = None
 
-abbrev pub open_reads : Place → Option Place
+abbrev pub open_reads : LastCall → Option LastCall
 open_reads OpenSynced = Some OpenRead
 open_reads OpenRead = Some OpenRead
 open_reads at = None
 
-abbrev pub open_writes : ℕ → Place → Option Place
+abbrev pub open_writes : ℕ → LastCall → Option LastCall
 open_writes whole OpenRead = Some (SnapshotWriting (piece_end 0 whole) whole)
 open_writes whole (SnapshotWriting done all) = if nat_lt done all then Some (SnapshotWriting (piece_end done all) all) else None
 open_writes whole SnapshotSynced = Some SelectorWritten
@@ -109,7 +109,7 @@ abbrev pub fitting : WorldValue → Reading → ℕ
 fitting w r = w.stored + as_many (w.disk.size - (r.gate + 10)) (batch w w.taken)
 
 -- the same, if this is read of the disk
-abbrev pub leads : WorldValue → Reading → CallList → CallKind → Option Place
+abbrev pub leads : WorldValue → Reading → CallList → CallKind → Option LastCall
 leads w r Append Read = None
 leads w r Append Write = append_writes (fitting w r) w.place
 leads w r Append Sync = append_syncs w.place
@@ -143,7 +143,7 @@ pub record CanRestart (size : ℕ) (r : Reading) : Type 0 where
   pub fits : length (snapshot_of (restarted r.state)) + 9 ≤ size
 
 -- what a call that leads to a place asks for
-abbrev pub MayLead : WorldValue → Reading → Place → Type 0
+abbrev pub MayLead : WorldValue → Reading → LastCall → Type 0
 MayLead w r (BlockWritten to) = MayStore w r to
 MayLead w r (Copying done all) = CanCopy w.disk.size r
 MayLead w r (SnapshotWriting done all) = CanRestart w.disk.size r
@@ -166,7 +166,7 @@ abbrev pub patch : ℕ → List ℕ → Patch
 patch at bytes = record { at = at; bytes = bytes }
 
 -- how much is written of a snapshot
-abbrev pub done_at : Place → ℕ
+abbrev pub done_at : LastCall → ℕ
 done_at (Copying done all) = done
 done_at (SnapshotWriting done all) = done
 done_at at = 0
@@ -177,7 +177,7 @@ piece begins from to bytes = patch (begins + from) (take (to - from) (drop from 
 
 -- What the write that leads to a place writes. It is a block and the next gate, the block's own gate as 1, a piece of a snapshot, or the
 -- selector plus 1.
-abbrev pub patch_to : WorldValue → Reading → Place → Patch
+abbrev pub patch_to : WorldValue → Reading → LastCall → Patch
 patch_to w r (BlockWritten to) = patch (gate_of w.disk r + 1) (closed (records (batch w to)))
 patch_to w r (GateWritten to) = patch (gate_of w.disk r) (1 ∷ [])
 patch_to w r (Copying done all) = piece (idle_of w.disk) (done_at w.place) done (copy_of r)
@@ -195,7 +195,7 @@ abbrev pub synced : DiskValue → DiskValue
 synced d = record d { held = none_held (length d.content) }
 
 -- the disk after a call: even a write that fails leaves its range unsynced, and a sync that fails makes nothing stable
-abbrev pub disk_after : WorldValue → Reading → CallKind → Bool → Place → DiskValue
+abbrev pub disk_after : WorldValue → Reading → CallKind → Bool → LastCall → DiskValue
 disk_after w r Read ok to = w.disk
 disk_after w r Write ok to = wrote w.disk (patch_to w r to)
 disk_after w r Sync true to = synced w.disk
@@ -205,22 +205,22 @@ abbrev pub with_disk : WorldValue → DiskValue → WorldValue
 with_disk w d = record w { disk = d }
 
 -- a call that fails breaks the list off
-abbrev pub place_after : Bool → Place → Place
+abbrev pub place_after : Bool → LastCall → LastCall
 place_after true to = to
 place_after false to = Broken
 
 -- all of a block is stored once its gate is synced
-abbrev pub stored_after : ℕ → Place → Bool → ℕ
+abbrev pub stored_after : ℕ → LastCall → Bool → ℕ
 stored_after stored (GateWritten to) true = to
 stored_after stored at ok = stored
 
 -- the beginning of a list of Open ends the running life
-abbrev pub phase_after : CallList → Phase → Phase
+abbrev pub phase_after : CallList → Life → Life
 phase_after Open Running = Reopening
 phase_after list phase = phase
 
 -- the world after a call from a place, which leads to another if it succeeds
-abbrev pub called : WorldValue → Reading → Call → Place → Option Place → WorldValue
+abbrev pub called : WorldValue → Reading → Call → LastCall → Option LastCall → WorldValue
 called w r call at None = w
 called w r call at (Some to) = record w {
   stored = stored_after w.stored at call.ok;

@@ -7,9 +7,9 @@ use Rattle.area_core.specs.Areas.{HasRecord}
 use Rattle.broker_core.specs.States.{State}
 use Rattle.world_core.specs.declared.event.Event.{Event}
 use Rattle.world_core.specs.declared.event.Event.TheVariants.{Look, Claim, Ready, Take, Device, Raise, Release, Stop, Crash, Open}
-use Rattle.world_core.specs.declared.place.Phase.{Phase}
-use Rattle.world_core.specs.declared.place.Phase.TheVariants.{Running, Reopening, Crashed}
-use Rattle.world_core.specs.declared.place.Place.TheVariants.{Rest, Broken, Opened}
+use Rattle.world_core.specs.declared.place.Life.{Life}
+use Rattle.world_core.specs.declared.place.Life.TheVariants.{Running, Reopening, Crashed}
+use Rattle.world_core.specs.declared.place.LastCall.TheVariants.{Rest, Broken, Opened}
 use Rattle.world_core.specs.declared.seat.Seat.{Seat}
 use Rattle.world_core.specs.Calls.{MayLead, called, leads}
 use Rattle.world_core.specs.Limits.{far}
@@ -17,7 +17,7 @@ use Rattle.world_core.specs.Readings.{Reading}
 use Rattle.world_core.specs.Worlds.{DiskValue, WorldValue, claimed}
 
 -- the sessions are there, to look and to release
-abbrev pub AreThere : Phase → Type 0
+abbrev pub AreThere : Life → Type 0
 AreThere Running = Unit {0}
 AreThere Reopening = Unit {0}
 AreThere Crashed = ⊥

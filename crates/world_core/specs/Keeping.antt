@@ -10,10 +10,10 @@ use Rattle.area_core.specs.Journals.{is_odd, start}
 use Rattle.broker_core.specs.Operations.{restarted}
 use Rattle.broker_core.specs.States.{State}
 use Rattle.snapshot_core.specs.Snapshots.{snapshot_of}
-use Rattle.world_core.specs.declared.place.Phase.{Phase}
-use Rattle.world_core.specs.declared.place.Phase.TheVariants.{Running}
-use Rattle.world_core.specs.declared.place.Place.{Place}
-use Rattle.world_core.specs.declared.place.Place.TheVariants.{Rest, Broken, BlockWritten, BlockSynced, GateWritten, Copying, CopySynced, SwitchWritten, OpenSynced, OpenRead, SnapshotWriting, SnapshotSynced, SelectorWritten, Opened}
+use Rattle.world_core.specs.declared.place.Life.{Life}
+use Rattle.world_core.specs.declared.place.Life.TheVariants.{Running}
+use Rattle.world_core.specs.declared.place.LastCall.{LastCall}
+use Rattle.world_core.specs.declared.place.LastCall.TheVariants.{Rest, Broken, BlockWritten, BlockSynced, GateWritten, Copying, CopySynced, SwitchWritten, OpenSynced, OpenRead, SnapshotWriting, SnapshotSynced, SelectorWritten, Opened}
 use Rattle.world_core.specs.declared.seat.Seat.{Seat}
 use Rattle.world_core.specs.Calls.{CanCopy, CanRestart, copy_of, idle_of, rest_of}
 use Rattle.world_core.specs.Limits.{most_counted}
@@ -27,7 +27,7 @@ pub record Log : Type 0 where
   pub history : List CommandValue
   pub stored : ℕ
   pub taken : ℕ
-  pub phase : Phase
+  pub phase : Life
 
 abbrev pub log_of : WorldValue → Log
 log_of w = record { base = w.base; opening = w.opening; history = w.history; stored = w.stored; taken = w.taken; phase = w.phase }
@@ -123,7 +123,7 @@ abbrev pub IsStill : DiskValue → Type 0
 IsStill d = d.held ≡ none_held (length d.content)
 
 -- what is known of the disk, by the last call that was made
-abbrev pub IsAt : Log → DiskValue → Place → Type 0
+abbrev pub IsAt : Log → DiskValue → LastCall → Type 0
 IsAt log d Rest = IsStill d × Exact log d log.stored
 IsAt log d Broken = Unit {0}
 IsAt log d (BlockWritten to) = Staged log d to

@@ -7,8 +7,8 @@ use Rattle.world_core.specs.declared.event.CallKind.{CallKind}
 use Rattle.world_core.specs.declared.event.CallKind.TheVariants.{Write}
 use Rattle.world_core.specs.declared.event.CallList.{CallList}
 use Rattle.world_core.specs.declared.event.CallList.TheVariants.{Append, Snapshot, Open}
-use Rattle.world_core.specs.declared.place.Place.{Place}
-use Rattle.world_core.specs.declared.place.Place.TheVariants.{BlockWritten, Copying, SnapshotWriting}
+use Rattle.world_core.specs.declared.place.LastCall.{LastCall}
+use Rattle.world_core.specs.declared.place.LastCall.TheVariants.{BlockWritten, Copying, SnapshotWriting}
 use Rattle.world_core.specs.Calls.{MayLead, copy_of, disk_after, done_at, fitting, leads, patch, patch_to, rest_of, with_disk}
 use Rattle.world_core.specs.Events.{reopened}
 use Rattle.world_core.specs.Readings.{IsRead, Reading}
@@ -19,14 +19,14 @@ abbrev pub HasPiece : ℕ → ℕ → List ℕ → Type 0
 HasPiece from to bytes = (from ≤ to) × (to ≤ length bytes)
 
 -- a block has the longest part of what is taken that fits, and a piece is a part of what there is to write
-abbrev pub IsDue : WorldValue → Place → Type 0
+abbrev pub IsDue : WorldValue → LastCall → Type 0
 IsDue w (BlockWritten to) = (r : Reading) → IsRead w.disk.size w.disk.content r → to ≡ fitting w r
 IsDue w (Copying done all) = (r : Reading) → IsRead w.disk.size w.disk.content r → HasPiece (done_at w.place) done (copy_of r)
 IsDue w (SnapshotWriting done all) = (r : Reading) → IsRead w.disk.size w.disk.content r → HasPiece (done_at w.place) done (rest_of r)
 IsDue w to = Unit {0}
 
 -- whatever is read of the disk, the next call of that list and kind leads there
-abbrev pub LeadsTo : WorldValue → CallList → CallKind → Place → Type 0
+abbrev pub LeadsTo : WorldValue → CallList → CallKind → LastCall → Type 0
 LeadsTo w list kind to = (r : Reading) → IsRead w.disk.size w.disk.content r → leads w r list kind ≡ Some to
 
 -- it may not come
@@ -41,11 +41,11 @@ is_measured Open Write = true
 is_measured list kind = false
 
 -- but for these, the call leads there whatever is read
-abbrev pub IsLead : WorldValue → CallList → CallKind → Option Place → Type 0
+abbrev pub IsLead : WorldValue → CallList → CallKind → Option LastCall → Type 0
 IsLead w list kind found = is_measured list kind ≡ false → (r : Reading) → found ≡ leads w r list kind
 
 -- the write that leads there may come, and writes these bytes at that offset, whatever is read of the disk
-abbrev pub IsPatch : WorldValue → Place → ℕ → List ℕ → Type 0
+abbrev pub IsPatch : WorldValue → LastCall → ℕ → List ℕ → Type 0
 IsPatch w to at bytes = (r : Reading) → IsRead w.disk.size w.disk.content r → MayLead w r to × (patch at bytes ≡ patch_to w r to)
 
 -- a block of these records stands behind that gate, and fits with the gate after it
@@ -54,11 +54,11 @@ IsBlockPatch d gate records at bytes =
     (at ≡ start d.size (is_odd (slice_index d.content 16)) + gate + 1) × (bytes ≡ closed records) × (gate + 10 + length records ≤ d.size)
 
 -- it may not come
-abbrev pub IsNoPatch : WorldValue → Place → Type 0
+abbrev pub IsNoPatch : WorldValue → LastCall → Type 0
 IsNoPatch w to = (r : Reading) → IsRead w.disk.size w.disk.content r → MayLead w r to → ⊥
 
 -- the call is made on the disk, or may not come
-abbrev pub IsTouched : WorldValue → CallKind → Bool → Place → Bool → WorldValue → Type 0
+abbrev pub IsTouched : WorldValue → CallKind → Bool → LastCall → Bool → WorldValue → Type 0
 IsTouched old kind ok to answer new =
     (r : Reading) → IsRead old.disk.size old.disk.content r → MatchBool answer (MayLead old r to × (new ≡ with_disk old (disk_after old r kind ok to))) ((MayLead old r to → ⊥) × (new ≡ old))
 

@@ -4,8 +4,8 @@ use Rattle.command_core.specs.Commands.{CommandValue}
 use Rattle.broker_core.specs.States.{State}
 use Rattle.broker_core.specs.Steps.{state_after}
 use Rattle.world_core.specs.declared.seat.Seat.{Seat}
-use Rattle.world_core.specs.declared.place.Place.{Place}
-use Rattle.world_core.specs.declared.place.Phase.{Phase}
+use Rattle.world_core.specs.declared.place.LastCall.{LastCall}
+use Rattle.world_core.specs.declared.place.Life.{Life}
 
 -- A disk: the bytes of each of its two areas, what a read gives, and what each byte that was written since the last
 -- sync held then.
@@ -31,8 +31,8 @@ pub record WorldValue : Type 0 where
   -- the released numbers of this life, and of the lives before it
   pub released : List ℕ
   pub earlier : List ℕ
-  pub phase : Phase
-  pub place : Place
+  pub phase : Life
+  pub place : LastCall
   pub disk : DiskValue
 
 -- the number of the next command

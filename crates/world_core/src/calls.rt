@@ -9,7 +9,7 @@ ghost use Rattle.world_core.specs.declared.event.CallKind.TheVariants.{Write};
 ghost use Rattle.world_core.specs.declared.event.CallList.TheVariants.{Append, Open, Snapshot};
 
 use crate::parts::Parts;
-use crate::{CallKind, CallList, Phase, Place};
+use crate::{CallKind, CallList, Life, LastCall};
 use std::alloc::{AllocError, Global};
 
 // A snapshot is written in pieces of this many bytes, the last of which may be shorter.
@@ -22,95 +22,95 @@ fn piece_end(done: u64, whole: u64) -> u64
     done.saturating_add(PIECE_BYTES).min(whole)
 }
 
-fn append_writes(under: u64, place: Place) -> Option<Place>
+fn append_writes(under: u64, place: LastCall) -> Option<LastCall>
     ensures { result ≡ append_writes under place }
 {
     match place {
-        Place::Rest | Place::CopySynced => Some(Place::BlockWritten(under)),
-        Place::BlockSynced(to) => Some(Place::GateWritten(to)),
+        LastCall::Rest | LastCall::CopySynced => Some(LastCall::BlockWritten(under)),
+        LastCall::BlockSynced(to) => Some(LastCall::GateWritten(to)),
         _ => None,
     }
 }
 
-fn append_syncs(place: Place) -> Option<Place>
+fn append_syncs(place: LastCall) -> Option<LastCall>
     ensures { result ≡ append_syncs place }
 {
     match place {
-        Place::BlockWritten(to) => Some(Place::BlockSynced(to)),
-        Place::GateWritten(_) => Some(Place::Rest),
+        LastCall::BlockWritten(to) => Some(LastCall::BlockSynced(to)),
+        LastCall::GateWritten(_) => Some(LastCall::Rest),
         _ => None,
     }
 }
 
-fn copy_writes(whole: u64, place: Place) -> Option<Place>
+fn copy_writes(whole: u64, place: LastCall) -> Option<LastCall>
     ensures { result ≡ copy_writes whole place }
 {
     match place {
-        Place::Rest | Place::CopySynced => Some(Place::Copying(piece_end(0, whole), whole)),
-        Place::Copying(done, all) if done < all => Some(Place::Copying(piece_end(done, all), all)),
+        LastCall::Rest | LastCall::CopySynced => Some(LastCall::Copying(piece_end(0, whole), whole)),
+        LastCall::Copying(done, all) if done < all => Some(LastCall::Copying(piece_end(done, all), all)),
         _ => None,
     }
 }
 
-fn copy_syncs(place: Place) -> Option<Place>
+fn copy_syncs(place: LastCall) -> Option<LastCall>
     ensures { result ≡ copy_syncs place }
 {
     match place {
-        Place::Copying(done, all) if done >= all => Some(Place::CopySynced),
+        LastCall::Copying(done, all) if done >= all => Some(LastCall::CopySynced),
         _ => None,
     }
 }
 
-fn switch_writes(place: Place) -> Option<Place>
+fn switch_writes(place: LastCall) -> Option<LastCall>
     ensures { result ≡ switch_writes place }
 {
     match place {
-        Place::CopySynced => Some(Place::SwitchWritten),
+        LastCall::CopySynced => Some(LastCall::SwitchWritten),
         _ => None,
     }
 }
 
-fn switch_syncs(place: Place) -> Option<Place>
+fn switch_syncs(place: LastCall) -> Option<LastCall>
     ensures { result ≡ switch_syncs place }
 {
     match place {
-        Place::SwitchWritten => Some(Place::Rest),
+        LastCall::SwitchWritten => Some(LastCall::Rest),
         _ => None,
     }
 }
 
-fn open_syncs(place: Place) -> Option<Place>
+fn open_syncs(place: LastCall) -> Option<LastCall>
     ensures { result ≡ open_syncs place }
 {
     match place {
-        Place::Rest | Place::Broken | Place::CopySynced | Place::OpenSynced | Place::OpenRead =>
-            Some(Place::OpenSynced),
-        Place::Copying(done, all) if done < all => Some(Place::OpenSynced),
-        Place::SnapshotWriting(done, all) if done < all => Some(Place::OpenSynced),
-        Place::SnapshotWriting(_, _) => Some(Place::SnapshotSynced),
-        Place::SelectorWritten => Some(Place::Opened),
+        LastCall::Rest | LastCall::Broken | LastCall::CopySynced | LastCall::OpenSynced | LastCall::OpenRead =>
+            Some(LastCall::OpenSynced),
+        LastCall::Copying(done, all) if done < all => Some(LastCall::OpenSynced),
+        LastCall::SnapshotWriting(done, all) if done < all => Some(LastCall::OpenSynced),
+        LastCall::SnapshotWriting(_, _) => Some(LastCall::SnapshotSynced),
+        LastCall::SelectorWritten => Some(LastCall::Opened),
         _ => None,
     }
 }
 
-fn open_reads(place: Place) -> Option<Place>
+fn open_reads(place: LastCall) -> Option<LastCall>
     ensures { result ≡ open_reads place }
 {
     match place {
-        Place::OpenSynced | Place::OpenRead => Some(Place::OpenRead),
+        LastCall::OpenSynced | LastCall::OpenRead => Some(LastCall::OpenRead),
         _ => None,
     }
 }
 
-fn open_writes(whole: u64, place: Place) -> Option<Place>
+fn open_writes(whole: u64, place: LastCall) -> Option<LastCall>
     ensures { result ≡ open_writes whole place }
 {
     match place {
-        Place::OpenRead => Some(Place::SnapshotWriting(piece_end(0, whole), whole)),
-        Place::SnapshotWriting(done, all) if done < all => {
-            Some(Place::SnapshotWriting(piece_end(done, all), all))
+        LastCall::OpenRead => Some(LastCall::SnapshotWriting(piece_end(0, whole), whole)),
+        LastCall::SnapshotWriting(done, all) if done < all => {
+            Some(LastCall::SnapshotWriting(piece_end(done, all), all))
         }
-        Place::SnapshotSynced => Some(Place::SelectorWritten),
+        LastCall::SnapshotSynced => Some(LastCall::SelectorWritten),
         _ => None,
     }
 }
@@ -127,7 +127,7 @@ fn is_measured(list: CallList, kind: CallKind) -> bool
 
 impl Parts {
     // Where the next call leads if it succeeds, but for the writes of blocks and snapshots.
-    fn place_leads(&self, list: CallList, kind: CallKind) -> Option<Place>
+    fn place_leads(&self, list: CallList, kind: CallKind) -> Option<LastCall>
         ensures { IsLead (value_of self.now) list kind result }
     {
         match (list, kind) {
@@ -142,7 +142,7 @@ impl Parts {
     }
 
     // Where the next write of a block or of a gate leads, or `None` if it may not come.
-    fn append_leads(&self, alloc: Global) -> Result<Option<Place>, AllocError>
+    fn append_leads(&self, alloc: Global) -> Result<Option<LastCall>, AllocError>
         requires { IsKept (value_of self.now) }
         ensures some { IfOk result (λ found. IfSome found (LeadsTo (value_of self.now) Append Write)) }
         ensures none { IfOk result (λ found. found ≡ None → LeadsNowhere (value_of self.now) Append Write) }
@@ -152,7 +152,7 @@ impl Parts {
     }
 
     // Where the next write of a snapshot of the state as it is leads, or `None` if it may not come.
-    fn copy_leads(&self, alloc: Global) -> Result<Option<Place>, AllocError>
+    fn copy_leads(&self, alloc: Global) -> Result<Option<LastCall>, AllocError>
         requires { IsKept (value_of self.now) }
         ensures some { IfOk result (λ found. IfSome found (LeadsTo (value_of self.now) Snapshot Write)) }
         ensures none { IfOk result (λ found. found ≡ None → LeadsNowhere (value_of self.now) Snapshot Write) }
@@ -168,13 +168,13 @@ impl Parts {
     }
 
     // Where the next write of an opening leads, or `None` if it may not come.
-    fn open_leads(&self, alloc: Global) -> Result<Option<Place>, AllocError>
+    fn open_leads(&self, alloc: Global) -> Result<Option<LastCall>, AllocError>
         requires { IsKept (value_of self.now) }
         ensures some { IfOk result (λ found. IfSome found (LeadsTo (value_of self.now) Open Write)) }
         ensures none { IfOk result (λ found. found ≡ None → LeadsNowhere (value_of self.now) Open Write) }
     {
-        if let Place::SnapshotSynced = self.place {
-            return Ok(Some(Place::SelectorWritten));
+        if let LastCall::SnapshotSynced = self.place {
+            return Ok(Some(LastCall::SelectorWritten));
         }
         match self.rest_bytes(alloc)? {
             Some(bytes) => {
@@ -192,7 +192,7 @@ impl Parts {
         alloc: Global,
         list: CallList,
         kind: CallKind,
-    ) -> Result<Option<Place>, AllocError>
+    ) -> Result<Option<LastCall>, AllocError>
         requires { IsKept (value_of self.now) }
         ensures some { IfOk result (λ found. IfSome found (LeadsTo (value_of self.now) list kind)) }
         ensures none { IfOk result (λ found. found ≡ None → LeadsNowhere (value_of self.now) list kind) }
@@ -208,26 +208,26 @@ impl Parts {
     }
 }
 
-pub(crate) fn phase_after(list: CallList, phase: Phase) -> Phase
+pub(crate) fn phase_after(list: CallList, phase: Life) -> Life
     ensures { result ≡ phase_after list phase }
 {
     match (list, phase) {
-        (CallList::Open, Phase::Running) => Phase::Reopening,
+        (CallList::Open, Life::Running) => Life::Reopening,
         _ => phase,
     }
 }
 
-pub(crate) fn place_after(ok: bool, to: Place) -> Place
+pub(crate) fn place_after(ok: bool, to: LastCall) -> LastCall
     ensures { result ≡ place_after ok to }
 {
-    if ok { to } else { Place::Broken }
+    if ok { to } else { LastCall::Broken }
 }
 
-pub(crate) fn stored_after(stored: u64, place: Place, ok: bool) -> u64
+pub(crate) fn stored_after(stored: u64, place: LastCall, ok: bool) -> u64
     ensures { result ≡ stored_after stored place ok }
 {
     match place {
-        Place::GateWritten(to) => if ok { to } else { stored },
+        LastCall::GateWritten(to) => if ok { to } else { stored },
         _ => stored,
     }
 }

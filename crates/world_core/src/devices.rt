@@ -13,7 +13,7 @@ use crate::calls::{phase_after, place_after, stored_after};
 use crate::parts::Parts;
 use crate::recovering::restarted_broker;
 use crate::seat::renew;
-use crate::{Call, CallKind, Event, Phase, Place};
+use crate::{Call, CallKind, Event, Life, LastCall};
 use broker_core::Broker;
 use disk_core::{overwrite, release};
 use std::alloc::{AllocError, Global};
@@ -30,7 +30,7 @@ impl Parts {
     }
 
     // Writes what the write that leads to a place writes, if it may come.
-    fn write(&mut self, alloc: Global, ok: bool, to: Place) -> Result<bool, AllocError>
+    fn write(&mut self, alloc: Global, ok: bool, to: LastCall) -> Result<bool, AllocError>
         requires kept { IsKept (value_of self.old) }
         requires due { IsDue (value_of self.old) to }
         ensures ok { IfOk result (λ answer. IsTouched (value_of self.old) CallKind.Write ok to answer (value_of self.new)) }
@@ -55,7 +55,7 @@ impl Parts {
     }
 
     // Makes a call on the disk, if it may come. If the call succeeds, it leads to a place.
-    fn touch(&mut self, alloc: Global, call: Call, to: Place) -> Result<bool, AllocError>
+    fn touch(&mut self, alloc: Global, call: Call, to: LastCall) -> Result<bool, AllocError>
         requires kept { IsKept (value_of self.old) }
         requires leads { LeadsTo (value_of self.old) call.list call.kind to }
         ensures ok { IfOk result (λ answer. IsTouched (value_of self.old) call.kind call.ok to answer (value_of self.new)) }
@@ -103,8 +103,8 @@ impl Parts {
         renew(&mut self.seats, count);
         self.stopped = false;
         self.released.clear();
-        self.phase = Phase::Running;
-        self.place = Place::Rest;
+        self.phase = Life::Running;
+        self.place = LastCall::Rest;
     }
 
     // A new life begins, and the released numbers go to the earlier ones.
@@ -123,7 +123,7 @@ impl Parts {
         ensures err { OnErr result (value_of self.new ≡ value_of self.old) }
     {
         match self.place {
-            Place::Opened => {}
+            LastCall::Opened => {}
             _ => return Ok(false),
         }
         match restarted_broker(alloc, &self.content)? {

@@ -3,7 +3,7 @@
 ghost use Rattle.std.specs.Prelude.{◌≡◌, ◌↔◌, ◌<◌, ◌^◌, IsTrue, Some, false, length, slice_get, true};
 ghost use Rattle.world_core.specs.Events.{AreThere};
 
-use crate::{Phase, Place, Seat};
+use crate::{Life, LastCall, Seat};
 use broker_core::Broker;
 use command_core::Entry;
 use std::snapshot::Snapshot;
@@ -23,8 +23,8 @@ pub(crate) struct Parts {
     pub(crate) stopped: bool,
     pub(crate) released: Vec<u64>,
     pub(crate) earlier: Vec<u64>,
-    pub(crate) phase: Phase,
-    pub(crate) place: Place,
+    pub(crate) phase: Life,
+    pub(crate) place: LastCall,
     // How many bytes each of the two areas has.
     pub(crate) size: u64,
     pub(crate) content: Vec<u8>,
@@ -32,21 +32,21 @@ pub(crate) struct Parts {
     pub(crate) held: Vec<Option<u8>>,
 }
 
-pub(crate) fn is_running(phase: Phase) -> bool
-    ensures { IsTrue result ↔ phase ≡ Phase.Running }
+pub(crate) fn is_running(phase: Life) -> bool
+    ensures { IsTrue result ↔ phase ≡ Life.Running }
 {
     match phase {
-        Phase::Running => true,
-        Phase::Reopening | Phase::Crashed => false,
+        Life::Running => true,
+        Life::Reopening | Life::Crashed => false,
     }
 }
 
-pub(crate) fn are_there(phase: Phase) -> bool
+pub(crate) fn are_there(phase: Life) -> bool
     ensures { IsTrue result ↔ AreThere phase }
 {
     match phase {
-        Phase::Running | Phase::Reopening => true,
-        Phase::Crashed => false,
+        Life::Running | Life::Reopening => true,
+        Life::Crashed => false,
     }
 }
 

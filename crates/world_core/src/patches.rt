@@ -9,7 +9,7 @@ ghost use Rattle.world_core.specs.Parts.{disk_of, value_of};
 ghost use Rattle.world_core.specs.Readings.{IsRead, Reading};
 ghost use Rattle.world_core.specs.Touches.{IsBlockPatch, IsDue, IsNoPatch, IsPatch};
 
-use crate::Place;
+use crate::LastCall;
 use crate::parts::Parts;
 use crate::recovering::gate_in;
 use area_core::closed;
@@ -141,8 +141,8 @@ impl Parts {
     fn block_patch(&self, alloc: Global, under: u64) -> Result<Option<Patch>, AllocError>
         requires kept { IsKept (value_of self.now) }
         requires taken { under ≤ self.now.taken }
-        ensures some { IfOk result (λ found. IfSome found (λ p. IsPatch (value_of self.now) (Place.BlockWritten under) p.at p.bytes.items)) }
-        ensures none { IfOk result (λ found. found ≡ None → IsNoPatch (value_of self.now) (Place.BlockWritten under)) }
+        ensures some { IfOk result (λ found. IfSome found (λ p. IsPatch (value_of self.now) (LastCall.BlockWritten under) p.at p.bytes.items)) }
+        ensures none { IfOk result (λ found. found ≡ None → IsNoPatch (value_of self.now) (LastCall.BlockWritten under)) }
     {
         if self.stored >= under {
             return Ok(None);
@@ -156,7 +156,7 @@ impl Parts {
 
     fn gate_patch(&self, alloc: Global, to: u64) -> Result<Patch, AllocError>
         requires { IsKept (value_of self.now) }
-        ensures { IfOk result (λ p. IsPatch (value_of self.now) (Place.GateWritten to) p.at p.bytes.items) }
+        ensures { IfOk result (λ p. IsPatch (value_of self.now) (LastCall.GateWritten to) p.at p.bytes.items) }
     {
         let gate = self.gate(alloc)?;
         let bytes = Vec::from_slice(alloc, &[1])?;
@@ -169,8 +169,8 @@ impl Parts {
 
     fn selector_patch(&self, alloc: Global) -> Result<Patch, AllocError>
         requires { IsKept (value_of self.now) }
-        ensures switch { IfOk result (λ p. IsPatch (value_of self.now) Place.SwitchWritten p.at p.bytes.items) }
-        ensures open { IfOk result (λ p. IsPatch (value_of self.now) Place.SelectorWritten p.at p.bytes.items) }
+        ensures switch { IfOk result (λ p. IsPatch (value_of self.now) LastCall.SwitchWritten p.at p.bytes.items) }
+        ensures open { IfOk result (λ p. IsPatch (value_of self.now) LastCall.SelectorWritten p.at p.bytes.items) }
     {
         Ok(Patch {
             at: 16,
@@ -179,19 +179,19 @@ impl Parts {
     }
 
     // What the write that leads to a place writes, or `None` if it may not come.
-    pub(crate) fn patch(&self, alloc: Global, to: Place) -> Result<Option<Patch>, AllocError>
+    pub(crate) fn patch(&self, alloc: Global, to: LastCall) -> Result<Option<Patch>, AllocError>
         requires kept { IsKept (value_of self.now) }
         requires due { IsDue (value_of self.now) to }
         ensures some { IfOk result (λ found. IfSome found (λ p. IsPatch (value_of self.now) to p.at p.bytes.items)) }
         ensures none { IfOk result (λ found. found ≡ None → IsNoPatch (value_of self.now) to) }
     {
         match to {
-            Place::BlockWritten(under) => self.block_patch(alloc, under),
-            Place::GateWritten(to) => Ok(Some(self.gate_patch(alloc, to)?)),
-            Place::Copying(done, all) => self.copy_patch(alloc, done, all),
-            Place::SnapshotWriting(done, all) => self.rest_patch(alloc, done, all),
-            Place::SwitchWritten => Ok(Some(self.selector_patch(alloc)?)),
-            Place::SelectorWritten => Ok(Some(self.selector_patch(alloc)?)),
+            LastCall::BlockWritten(under) => self.block_patch(alloc, under),
+            LastCall::GateWritten(to) => Ok(Some(self.gate_patch(alloc, to)?)),
+            LastCall::Copying(done, all) => self.copy_patch(alloc, done, all),
+            LastCall::SnapshotWriting(done, all) => self.rest_patch(alloc, done, all),
+            LastCall::SwitchWritten => Ok(Some(self.selector_patch(alloc)?)),
+            LastCall::SelectorWritten => Ok(Some(self.selector_patch(alloc)?)),
             _ => Ok(Some(Patch {
                 at: 0,
                 bytes: Vec::new(alloc),

@@ -7,7 +7,7 @@ ghost use Rattle.world_core.specs.Parts.{disk_of, value_of};
 ghost use Rattle.world_core.specs.Readings.{IsRead, Reading};
 ghost use Rattle.world_core.specs.Touches.{HasPiece, IsDue, IsNoPatch, IsPatch};
 
-use crate::Place;
+use crate::LastCall;
 use crate::parts::Parts;
 use crate::patches::{Patch, area_begins};
 use crate::recovering::{restarted_snapshot, stored_snapshot};
@@ -15,11 +15,11 @@ use area_core::{Version, closed_snapshot};
 use std::alloc::{AllocError, Global};
 
 // How much is written of a snapshot.
-fn done_at(place: Place) -> u64
+fn done_at(place: LastCall) -> u64
     ensures { result ≡ done_at place }
 {
     match place {
-        Place::Copying(done, _) | Place::SnapshotWriting(done, _) => done,
+        LastCall::Copying(done, _) | LastCall::SnapshotWriting(done, _) => done,
         _ => 0,
     }
 }
@@ -78,9 +78,9 @@ impl Parts {
         all: u64,
     ) -> Result<Option<Patch>, AllocError>
         requires kept { IsKept (value_of self.now) }
-        requires due { IsDue (value_of self.now) (Place.Copying done all) }
-        ensures some { IfOk result (λ found. IfSome found (λ p. IsPatch (value_of self.now) (Place.Copying done all) p.at p.bytes.items)) }
-        ensures none { IfOk result (λ found. found ≡ None → IsNoPatch (value_of self.now) (Place.Copying done all)) }
+        requires due { IsDue (value_of self.now) (LastCall.Copying done all) }
+        ensures some { IfOk result (λ found. IfSome found (λ p. IsPatch (value_of self.now) (LastCall.Copying done all) p.at p.bytes.items)) }
+        ensures none { IfOk result (λ found. found ≡ None → IsNoPatch (value_of self.now) (LastCall.Copying done all)) }
     {
         let _ = all;
         let Some(bytes) = self.copy_bytes(alloc)? else {
@@ -98,9 +98,9 @@ impl Parts {
         all: u64,
     ) -> Result<Option<Patch>, AllocError>
         requires kept { IsKept (value_of self.now) }
-        requires due { IsDue (value_of self.now) (Place.SnapshotWriting done all) }
-        ensures some { IfOk result (λ found. IfSome found (λ p. IsPatch (value_of self.now) (Place.SnapshotWriting done all) p.at p.bytes.items)) }
-        ensures none { IfOk result (λ found. found ≡ None → IsNoPatch (value_of self.now) (Place.SnapshotWriting done all)) }
+        requires due { IsDue (value_of self.now) (LastCall.SnapshotWriting done all) }
+        ensures some { IfOk result (λ found. IfSome found (λ p. IsPatch (value_of self.now) (LastCall.SnapshotWriting done all) p.at p.bytes.items)) }
+        ensures none { IfOk result (λ found. found ≡ None → IsNoPatch (value_of self.now) (LastCall.SnapshotWriting done all)) }
     {
         let _ = all;
         let Some(bytes) = self.rest_bytes(alloc)? else {

@@ -2,7 +2,7 @@
 
 /// The last device call that was made of the list in progress.
 #[derive(Clone, Copy, PartialEq, Eq)]
-pub enum Place {
+pub enum LastCall {
     /// No list is in progress, and any list may begin.
     Rest,
     /// A call failed, or the disk crashed: only the list of Open may begin.
@@ -36,7 +36,7 @@ pub enum Place {
 
 /// Which part of its life a world is in.
 #[derive(Clone, Copy, PartialEq, Eq)]
-pub enum Phase {
+pub enum Life {
     /// Sessions and the flusher run.
     Running,
     /// The journal is opened again, without a crash before.

@@ -11,7 +11,7 @@ ghost use Rattle.world_core.specs.Parts.{value_of};
 ghost use Rattle.world_core.specs.Readings.{Reading};
 
 use crate::parts::{Parts, are_there, is_clear, is_running, is_set};
-use crate::{Event, Phase, Place, Seat};
+use crate::{Event, Life, LastCall, Seat};
 use claim_core::WINDOW;
 use command_core::{Command, Entry};
 use disk_core::{is_image, release};
@@ -251,8 +251,8 @@ impl Parts {
         }
         self.content.copy_from_slice(image.as_slice());
         release(&mut self.held);
-        self.phase = Phase::Crashed;
-        self.place = Place::Broken;
+        self.phase = Life::Crashed;
+        self.place = LastCall::Broken;
         true
     }
 }

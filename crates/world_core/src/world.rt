@@ -13,7 +13,7 @@ use crate::formatting::{first_content, old_area, old_content};
 use crate::parts::Parts;
 use crate::recovering::broker_in;
 use crate::seat::seats;
-use crate::{Event, Phase, Place, Seat};
+use crate::{Event, Life, LastCall, Seat};
 use broker_core::Broker;
 use claim_core::SEATS;
 use command_core::Command;
@@ -78,8 +78,8 @@ fn first_parts(
         stopped: false,
         released: Vec::new(alloc),
         earlier: Vec::new(alloc),
-        phase: Phase::Running,
-        place: Place::Rest,
+        phase: Life::Running,
+        place: LastCall::Rest,
         size,
         content,
         held,
@@ -114,8 +114,8 @@ fn crashed_parts(
         stopped: false,
         released: Vec::new(alloc),
         earlier: Vec::new(alloc),
-        phase: Phase::Crashed,
-        place: Place::Broken,
+        phase: Life::Crashed,
+        place: LastCall::Broken,
         size,
         content,
         held,

@@ -2,7 +2,7 @@
 //! record has 11 bytes.
 use crate::schedules::AREA;
 use std::alloc::{AllocError, Global};
-use world_core::{Call, CallKind, CallList, Phase, Place};
+use world_core::{Call, CallKind, CallList, Life, LastCall};
 
 /// The record of an Open without a client's name.
 const RECORD: [u8; 11] = [0, 0, 0, 0, 0, 0, 0, 0, 0, 1, 0];
@@ -21,8 +21,8 @@ pub(crate) struct SlowWorld {
     pub(crate) stored: u64,
     pub(crate) mark: u64,
     seats: Vec<SlowSeat>,
-    phase: Phase,
-    place: Place,
+    phase: Life,
+    place: LastCall,
     pub(crate) content: Vec<u8>,
     // The range that is unsynced, from one place up to another.
     pub(crate) unsynced: (usize, usize),
@@ -114,8 +114,8 @@ impl SlowWorld {
             stored: 0,
             mark: 0,
             seats,
-            phase: Phase::Running,
-            place: Place::Rest,
+            phase: Life::Running,
+            place: LastCall::Rest,
             content,
             unsynced: (0, 0),
         })
@@ -135,8 +135,8 @@ impl SlowWorld {
         for seat in world.seats.iter_mut() {
             seat.seen = count;
         }
-        world.phase = Phase::Crashed;
-        world.place = Place::Broken;
+        world.phase = Life::Crashed;
+        world.place = LastCall::Broken;
         Ok(world)
     }
 
@@ -145,7 +145,7 @@ impl SlowWorld {
     }
 
     pub(crate) fn is_running(&self) -> bool {
-        self.phase == Phase::Running
+        self.phase == Life::Running
     }
 
     fn flag(&self, number: u64) -> Option<bool> {
@@ -158,7 +158,7 @@ impl SlowWorld {
     }
 
     pub(crate) fn look(&mut self, j: usize) -> bool {
-        if self.phase == Phase::Crashed || j >= self.seats.len() {
+        if self.phase == Life::Crashed || j >= self.seats.len() {
             return false;
         }
         self.seats[j].seen = self.mark;
@@ -235,7 +235,7 @@ impl SlowWorld {
     }
 
     pub(crate) fn release(&self, j: usize, n: u64) -> bool {
-        self.phase != Phase::Crashed && j < self.seats.len() && n < self.seats[j].seen
+        self.phase != Life::Crashed && j < self.seats.len() && n < self.seats[j].seen
     }
 
     pub(crate) fn stop(&self) -> bool {
@@ -255,8 +255,8 @@ impl SlowWorld {
             self.content[at] = byte;
         }
         self.unsynced = (0, 0);
-        self.phase = Phase::Crashed;
-        self.place = Place::Broken;
+        self.phase = Life::Crashed;
+        self.place = LastCall::Broken;
         true
     }
 
@@ -308,7 +308,7 @@ impl SlowWorld {
         let block = block_of(alloc, count)?;
         self.write(gate.saturating_add(1), &block);
         drop(block);
-        self.place = Place::BlockWritten(self.stored.saturating_add(count));
+        self.place = LastCall::BlockWritten(self.stored.saturating_add(count));
         Ok(true)
     }
 
@@ -319,7 +319,7 @@ impl SlowWorld {
     fn write_snapshot(&mut self) {
         let (_, count) = self.read();
         self.write(self.idle(), &front_of(count));
-        self.place = Place::SnapshotWriting(41, 41);
+        self.place = LastCall::SnapshotWriting(41, 41);
     }
 
     // The sessions of the live area's snapshot. How many there are stands after three numbers of eight bytes.
@@ -353,7 +353,7 @@ impl SlowWorld {
         let all = copy.len();
         if all <= AREA {
             self.write(self.idle(), &copy);
-            self.place = Place::Copying(all as u64, all as u64);
+            self.place = LastCall::Copying(all as u64, all as u64);
         }
         drop(copy);
         Ok(all <= AREA)
@@ -361,17 +361,17 @@ impl SlowWorld {
 
     fn compact(&mut self, alloc: Global, call: Call) -> Result<bool, AllocError> {
         match (call.list, call.kind, self.place) {
-            (CallList::Snapshot, CallKind::Write, Place::Rest | Place::CopySynced) => {
+            (CallList::Snapshot, CallKind::Write, LastCall::Rest | LastCall::CopySynced) => {
                 return self.write_copy(alloc);
             }
-            (CallList::Snapshot, CallKind::Sync, Place::Copying(_, _)) => {
-                self.place = Place::CopySynced;
+            (CallList::Snapshot, CallKind::Sync, LastCall::Copying(_, _)) => {
+                self.place = LastCall::CopySynced;
             }
-            (CallList::Switch, CallKind::Write, Place::CopySynced) => {
+            (CallList::Switch, CallKind::Write, LastCall::CopySynced) => {
                 self.write_selector();
-                self.place = Place::SwitchWritten;
+                self.place = LastCall::SwitchWritten;
             }
-            (CallList::Switch, CallKind::Sync, Place::SwitchWritten) => self.place = Place::Rest,
+            (CallList::Switch, CallKind::Sync, LastCall::SwitchWritten) => self.place = LastCall::Rest,
             _ => return Ok(false),
         }
         Ok(true)
@@ -384,15 +384,15 @@ impl SlowWorld {
 
     fn append(&mut self, alloc: Global, kind: CallKind, ok: bool) -> Result<bool, AllocError> {
         match (kind, self.place) {
-            (CallKind::Write, Place::Rest | Place::CopySynced) => return self.write_block(alloc),
-            (CallKind::Write, Place::BlockSynced(to)) => {
+            (CallKind::Write, LastCall::Rest | LastCall::CopySynced) => return self.write_block(alloc),
+            (CallKind::Write, LastCall::BlockSynced(to)) => {
                 let (gate, _) = self.read();
                 self.write(gate, &[1]);
-                self.place = Place::GateWritten(to);
+                self.place = LastCall::GateWritten(to);
             }
-            (CallKind::Sync, Place::BlockWritten(to)) => self.place = Place::BlockSynced(to),
-            (CallKind::Sync, Place::GateWritten(to)) => {
-                self.place = Place::Rest;
+            (CallKind::Sync, LastCall::BlockWritten(to)) => self.place = LastCall::BlockSynced(to),
+            (CallKind::Sync, LastCall::GateWritten(to)) => {
+                self.place = LastCall::Rest;
                 if ok {
                     self.stored = to;
                 }
@@ -406,19 +406,19 @@ impl SlowWorld {
         match (kind, self.place) {
             (
                 CallKind::Sync,
-                Place::Rest
-                | Place::Broken
-                | Place::CopySynced
-                | Place::OpenSynced
-                | Place::OpenRead,
-            ) => self.place = Place::OpenSynced,
-            (CallKind::Sync, Place::SnapshotWriting(_, _)) => self.place = Place::SnapshotSynced,
-            (CallKind::Sync, Place::SelectorWritten) => self.place = Place::Opened,
-            (CallKind::Read, Place::OpenSynced | Place::OpenRead) => self.place = Place::OpenRead,
-            (CallKind::Write, Place::OpenRead) => self.write_snapshot(),
-            (CallKind::Write, Place::SnapshotSynced) => {
+                LastCall::Rest
+                | LastCall::Broken
+                | LastCall::CopySynced
+                | LastCall::OpenSynced
+                | LastCall::OpenRead,
+            ) => self.place = LastCall::OpenSynced,
+            (CallKind::Sync, LastCall::SnapshotWriting(_, _)) => self.place = LastCall::SnapshotSynced,
+            (CallKind::Sync, LastCall::SelectorWritten) => self.place = LastCall::Opened,
+            (CallKind::Read, LastCall::OpenSynced | LastCall::OpenRead) => self.place = LastCall::OpenRead,
+            (CallKind::Write, LastCall::OpenRead) => self.write_snapshot(),
+            (CallKind::Write, LastCall::SnapshotSynced) => {
                 self.write_selector();
-                self.place = Place::SelectorWritten;
+                self.place = LastCall::SelectorWritten;
             }
             _ => return false,
         }
@@ -435,10 +435,10 @@ impl SlowWorld {
             return Ok(false);
         }
         if call.list == CallList::Open && self.is_running() {
-            self.phase = Phase::Reopening;
+            self.phase = Life::Reopening;
         }
         if !call.ok {
-            self.place = Place::Broken;
+            self.place = LastCall::Broken;
         } else if call.kind == CallKind::Sync {
             self.unsynced = (0, 0);
         }
@@ -446,7 +446,7 @@ impl SlowWorld {
     }
 
     pub(crate) fn open(&mut self) -> bool {
-        if self.place != Place::Opened {
+        if self.place != LastCall::Opened {
             return false;
         }
         let (_, count) = self.read();
@@ -459,8 +459,8 @@ impl SlowWorld {
             seat.own.clear();
             seat.seen = count;
         }
-        self.phase = Phase::Running;
-        self.place = Place::Rest;
+        self.phase = Life::Running;
+        self.place = LastCall::Rest;
         true
     }
 }

@@ -5,41 +5,41 @@ use Rattle.websocket.specs.declared.protocol.config.Role.TheVariants.{Server}
 use Rattle.tungstenite.specs.Connection.{close_step}
 use Rattle.tungstenite.specs.Socket.{Socket, socket_code, IsFresh, Writes}
 use Rattle.ws_core.specs.declared.closing.CloseReason.{CloseReason}
-use Rattle.ws_core.specs.declared.phase.Phase.{Phase}
-use Rattle.ws_core.specs.declared.phase.Phase.TheVariants.{Open, Closing, Failed, Shut, Over}
+use Rattle.ws_core.specs.declared.phase.LinkPhase.{LinkPhase}
+use Rattle.ws_core.specs.declared.phase.LinkPhase.TheVariants.{Open, Closing, Failed, Shut, Over}
 use Rattle.ws_core.specs.Closing.{close_of}
 
 -- A WebSocket, how far the link has come, whether the stream has not taken all that it was last offered, how many bytes were
 -- dropped after the close, and what is left of a message that is given in pieces.
 pub record Linked (S : Type 0) : Type 0 where
   pub socket : Socket S
-  pub phase : Phase
+  pub phase : LinkPhase
   pub held_up : Bool
   pub dropped : ℕ
   pub unfed : List ℕ
 
-abbrev phase_number : Phase → ℕ
+abbrev phase_number : LinkPhase → ℕ
 phase_number Open = 0
 phase_number Closing = 1
 phase_number Over = 2
 phase_number Failed = 3
 phase_number Shut = 4
 
-abbrev phase_of : ℕ → Phase
+abbrev phase_of : ℕ → LinkPhase
 phase_of n = cond (n == 0) Open (cond (n == 1) Closing (cond (n == 2) Over (cond (n == 3) Failed Shut)))
 
-pub phase_back : (phase : Phase) → phase_of (phase_number phase) ≡ phase
+pub phase_back : (phase : LinkPhase) → phase_of (phase_number phase) ≡ phase
 phase_back Open = refl
 phase_back Closing = refl
 phase_back Over = refl
 phase_back Failed = refl
 phase_back Shut = refl
 
-abbrev phase_code : Coded Phase
+abbrev phase_code : Coded LinkPhase
 phase_code = code_by ℕ coded_ℕ phase_number phase_of phase_back
 
 -- it says nothing more, and drops what comes
-abbrev pub HasFailed : Phase → Type 0
+abbrev pub HasFailed : LinkPhase → Type 0
 HasFailed Failed = ⊤
 HasFailed Shut = ⊤
 HasFailed Open = ⊥
@@ -49,7 +49,7 @@ HasFailed Over = ⊥
 module _ {S : Type 0} where
   abbrev pub linked_code : Coded S → Coded (Linked S)
   linked_code stream =
-      code_by (Socket S × (Phase × (Bool × (ℕ × List ℕ))))
+      code_by (Socket S × (LinkPhase × (Bool × (ℕ × List ℕ))))
       (coded× (socket_code stream) (coded× phase_code (coded× coded_bool (coded× coded_ℕ (coded_list coded_ℕ)))))
       (λ l. (l.socket, (l.phase, (l.held_up, (l.dropped, l.unfed)))))
       (λ p. record { socket = p.0; phase = p.1.0; held_up = p.1.1.0; dropped = p.1.1.1.0; unfed = p.1.1.1.1 }) (λ _. refl)

@@ -13,8 +13,8 @@ use Rattle.websocket.specs.declared.protocol.frame.coding.CloseCode.{CloseCode}
 use Rattle.ws_core.specs.Closing.{breach_code}
 use Rattle.ws_core.specs.declared.link.Received.{Received}
 use Rattle.ws_core.specs.declared.link.Received.TheVariants.{Bytes, Skipped, Nothing, Failed, Closed}
-use Rattle.ws_core.specs.declared.phase.Phase.{Phase}
-use Rattle.ws_core.specs.declared.phase.Phase.TheVariants as phases
+use Rattle.ws_core.specs.declared.phase.LinkPhase.{LinkPhase}
+use Rattle.ws_core.specs.declared.phase.LinkPhase.TheVariants as phases
 use Rattle.ws_core.specs.Links.{HasFailed, Linked}
 use Rattle.ws_core.specs.Pieces.{IsPiece}
 
@@ -61,7 +61,7 @@ Begins (Bytes v) left got = Feeds v.items left got
 Begins whole left got = (got ≡ whole) × (left ≡ [])
 
 -- how far the link has come when it has given this
-abbrev pub after : Phase → Received → Phase
+abbrev pub after : LinkPhase → Received → LinkPhase
 after phase (Bytes v) = phase
 after phase Skipped = phase
 after phase Nothing = phase

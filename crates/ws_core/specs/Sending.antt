@@ -6,7 +6,7 @@ use Rattle.tungstenite.specs.Connection.{write_step}
 use Rattle.tungstenite.specs.Socket.{Flushed, Writes}
 use Rattle.ws_core.specs.declared.fault.LinkFault.{LinkFault}
 use Rattle.ws_core.specs.declared.fault.LinkFault.TheVariants.{Memory, Gone}
-use Rattle.ws_core.specs.declared.phase.Phase.TheVariants as phases
+use Rattle.ws_core.specs.declared.phase.LinkPhase.TheVariants as phases
 use Rattle.ws_core.specs.Links.{Linked}
 
 -- one message more, if the link tells them

@@ -28,7 +28,7 @@ pub use fault::LinkFault;
 pub use greeting::{Greeted, Greeting};
 pub use link::{Link, Outgoing, Received};
 pub use mem_link::MemLink;
-pub use phase::Phase;
+pub use phase::LinkPhase;
 pub use refusal::Refusal;
 pub use stream::Ending;
 pub use vacancy::Vacancy;

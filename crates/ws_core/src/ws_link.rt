@@ -7,7 +7,7 @@ use crate::closing::CloseReason;
 use crate::fault::LinkFault;
 use crate::link::{Link, Outgoing, Received};
 use crate::messages::{count_dropped, flush, hear, hear_close, message_of, put, say_close};
-use crate::phase::Phase;
+use crate::phase::LinkPhase;
 use crate::stream::Ending;
 use crate::unfed::Unfed;
 use claim_core::Released;
@@ -48,7 +48,7 @@ const CONTROL_BYTES: u64 = 131;
 #[derive(Drop)]
 pub struct WsLink<S> {
     socket: WebSocket<S, NoMask>,
-    phase: Phase,
+    phase: LinkPhase,
     held_up: bool,
     dropped: u64,
     // What is left of the last message.
@@ -87,7 +87,7 @@ impl<S: Read + Write + Drop> WsLink<S> {
     ghost use Rattle.std.specs.Str.{IsUtf8};
     ghost use Rattle.tungstenite.specs.Socket.{content_of};
     ghost use Rattle.tungstenite.specs.declared.error.Error.TheVariants.{OutOfMemory};
-    ghost use Rattle.ws_core.specs.declared.phase.Phase.TheVariants.{Open, Over};
+    ghost use Rattle.ws_core.specs.declared.phase.LinkPhase.TheVariants.{Open, Over};
     ghost use Rattle.ws_core.specs.Links.{IsReady};
     ghost use Rattle.ws_core.specs.Sending.{Puts, Sends, Refuses};
 
@@ -100,7 +100,7 @@ impl<S: Read + Write + Drop> WsLink<S> {
         socket.set_config(limits());
         WsLink {
             socket,
-            phase: Phase::Open,
+            phase: LinkPhase::Open,
             held_up: false,
             dropped: 0,
             unfed: Unfed::new(Vec::new(alloc)),
@@ -168,7 +168,7 @@ impl<S: Read + Write + Drop> WsLink<S> {
         if matches!(error, Error::OutOfMemory) {
             return LinkFault::Memory;
         }
-        self.phase = Phase::Over;
+        self.phase = LinkPhase::Over;
         LinkFault::Gone
     }
 }
@@ -188,7 +188,7 @@ impl<S: Read + Write + Drop> Outgoing for WsLink<S> {
         ensures sends { OnOk result (Sends S.contents (written released.now.frame) self.old self.new) }
         ensures refuses { IfErr result (Refuses self.old self.new) }
     {
-        if self.phase != Phase::Open {
+        if self.phase != LinkPhase::Open {
             return Err(LinkFault::Gone);
         }
         let written = released.write(alloc).map_err(|_| LinkFault::Memory)?;
@@ -199,7 +199,7 @@ impl<S: Read + Write + Drop> Outgoing for WsLink<S> {
         ensures flushes { IfOk result (Flushes S.contents self.old self.new) }
         ensures fails { IfErr result (Fails self.old self.new) }
     {
-        if self.phase == Phase::Over {
+        if self.phase == LinkPhase::Over {
             return Err(LinkFault::Gone);
         }
         match flush(&mut self.socket) {
@@ -211,7 +211,7 @@ impl<S: Read + Write + Drop> Outgoing for WsLink<S> {
                 Ok(all)
             }
             Err(_) => {
-                self.phase = Phase::Over;
+                self.phase = LinkPhase::Over;
                 Err(LinkFault::Gone)
             }
         }
@@ -239,18 +239,18 @@ impl<S: Read + Write + Ending + Drop> Link for WsLink<S> {
         ensures { Receives S.remaining S.contents self.old self.new result }
     {
         match self.phase {
-            Phase::Open => {
+            LinkPhase::Open => {
                 let received = self.listen(alloc);
                 self.note(&received);
                 received
             }
-            Phase::Closing => {
+            LinkPhase::Closing => {
                 let received = hear_close(&mut self.socket);
                 self.note(&received);
                 received
             }
-            Phase::Failed | Phase::Shut => self.leave(),
-            Phase::Over => Received::Closed,
+            LinkPhase::Failed | LinkPhase::Shut => self.leave(),
+            LinkPhase::Over => Received::Closed,
         }
     }
 
@@ -269,7 +269,7 @@ impl<S: Read + Write + Ending + Drop> Link for WsLink<S> {
         ensures sends { OnOk result (Sends S.contents (written notice.now) self.old self.new) }
         ensures refuses { IfErr result (Refuses self.old self.new) }
     {
-        if self.phase != Phase::Open {
+        if self.phase != LinkPhase::Open {
             return Err(LinkFault::Gone);
         }
         let bytes = write_frame(alloc, notice.frame()).map_err(|_| LinkFault::Memory)?;
@@ -283,7 +283,7 @@ impl<S: Read + Write + Ending + Drop> Link for WsLink<S> {
         ensures pings { OnOk result (Pings S.contents self.old self.new) }
         ensures refuses { IfErr result (Refuses self.old self.new) }
     {
-        if self.phase != Phase::Open {
+        if self.phase != LinkPhase::Open {
             return Err(LinkFault::Gone);
         }
         self.put(Message::Ping(Bytes::new()))
@@ -294,14 +294,14 @@ impl<S: Read + Write + Ending + Drop> Link for WsLink<S> {
         ensures refuses { IfErr result (Refuses self.old self.new) }
     {
         match self.phase {
-            Phase::Open => {}
-            Phase::Failed | Phase::Shut => return Ok(()),
-            Phase::Closing | Phase::Over => return Err(LinkFault::Gone),
+            LinkPhase::Open => {}
+            LinkPhase::Failed | LinkPhase::Shut => return Ok(()),
+            LinkPhase::Closing | LinkPhase::Over => return Err(LinkFault::Gone),
         }
         match say_close(&mut self.socket, reason) {
             Ok(all) => {
                 self.held_up = !all;
-                self.phase = Phase::Closing;
+                self.phase = LinkPhase::Closing;
                 Ok(())
             }
             Err(error) => Err(self.refuse(&error)),
@@ -313,7 +313,7 @@ impl<S: Read + Write + Ending + Drop> WsLink<S> {
     ghost use Rattle.std.specs.Prelude.{◌≡◌, ◌≢◌, [], cond, false, not};
     ghost use Rattle.ws_core.specs.Links.{HasFailed};
     ghost use Rattle.ws_core.specs.Receiving.{Feeds, Leaves, Listens, after};
-    ghost use Rattle.ws_core.specs.declared.phase.Phase.TheVariants.{Failed, Shut};
+    ghost use Rattle.ws_core.specs.declared.phase.LinkPhase.TheVariants.{Failed, Shut};
 
     // The next piece of a message: of the one that is left, or of the next one.
     fn listen(&mut self, alloc: Global) -> Received
@@ -356,8 +356,8 @@ impl<S: Read + Write + Ending + Drop> WsLink<S> {
     {
         self.most_read = self.most_read.max(self.unread());
         match received {
-            Received::Failed => self.phase = Phase::Failed,
-            Received::Closed => self.phase = Phase::Over,
+            Received::Failed => self.phase = LinkPhase::Failed,
+            Received::Closed => self.phase = LinkPhase::Over,
             Received::Bytes(_) => self.whole = self.socket.get_ref().given(),
             Received::Skipped => self.skip_control(),
             Received::Nothing => {}
@@ -385,7 +385,7 @@ impl<S: Read + Write + Ending + Drop> WsLink<S> {
             Err(_) => Received::Closed,
         };
         if matches!(received, Received::Closed) {
-            self.phase = Phase::Over;
+            self.phase = LinkPhase::Over;
         }
         received
     }
@@ -394,10 +394,10 @@ impl<S: Read + Write + Ending + Drop> WsLink<S> {
     fn shut(&mut self, all: bool)
         ensures { self.new ≡ record self.old { phase = cond all Shut Failed; held_up = not all } }
     {
-        if all && self.phase != Phase::Shut {
+        if all && self.phase != LinkPhase::Shut {
             let _ = self.socket.get_ref().shut_down();
         }
-        self.phase = if all { Phase::Shut } else { Phase::Failed };
+        self.phase = if all { LinkPhase::Shut } else { LinkPhase::Failed };
         self.held_up = !all;
     }
 }

@@ -1,7 +1,7 @@
 use Rattle.std.proofs.Common.{◌≡◌, ◌<◌, ℕ, true, length, length-append, arith, sym, ◌∙◌}
 use Rattle.client_schedule.specs.Lines.{may_join}
 use Rattle.client_schedule.proofs.Keeping.{joins, room_left, client_that_may, off_where_may, times_push}
-use Rattle.client_schedule.proofs.line.Line.join.Goals as goal
+use Rattle.client_schedule.proofs.line.ClientLine.join.Goals as goal
 
 pub push_back_reserved-requires : goal.push_back_reserved-requires
 push_back_reserved-requires c =

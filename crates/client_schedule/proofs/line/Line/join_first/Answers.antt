@@ -1,7 +1,7 @@
 use Rattle.std.proofs.Common.{◌≡◌, ◌<◌, ℕ, true, length, length-append, arith, sym, ◌∙◌, add_comm}
 use Rattle.client_schedule.specs.Lines.{may_join}
 use Rattle.client_schedule.proofs.Keeping.{joins, room_left, client_that_may, off_where_may, same, times-cons}
-use Rattle.client_schedule.proofs.line.Line.join_first.Goals as goal
+use Rattle.client_schedule.proofs.line.ClientLine.join_first.Goals as goal
 
 pub push_front_reserved-requires : goal.push_front_reserved-requires
 push_front_reserved-requires c =

@@ -1,6 +1,6 @@
 use Rattle.std.proofs.Common.{arith}
 use Rattle.client_schedule.proofs.Keeping.{leaves, first_stands}
-use Rattle.client_schedule.proofs.line.Line.next.Goals as goal
+use Rattle.client_schedule.proofs.line.ClientLine.next.Goals as goal
 
 pub index_mut-requires : goal.index_mut-requires
 index_mut-requires c = omega (arith, first_stands _ _ _ _ _ c.self.invariant c.in_ok-client.ensures.items, c.self.inside.stands.ok)
