@@ -23,7 +23,7 @@ from measuring import HERE, machine
 TOP = HERE.parent
 SOURCES = HERE / "appends"
 CRATE = "ring_appends"
-STANDS_ON = ("frame_core", "command_core", "claim_core")
+STANDS_ON = ("escape_core", "frame_core", "command_core", "claim_core")
 REGISTRY = "/usr/share/cargo/registry"
 
 

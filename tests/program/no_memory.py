@@ -38,13 +38,11 @@ LIBRARY = TOP / "tests" / "program" / "refuse_memory.c"
 
 # The crates, and the tests in them: what is called, and the test.
 TESTS = {
-    "protocol_tests": (
+    "broker_tests": (
         ("FrameReader::feed", "a_reader_that_is_refused_memory_has_failed"),
         ("Session::feed", "a_session_that_is_refused_memory_has_failed"),
         ("decode of a record", "a_record_for_which_memory_is_refused_is_not_called_damaged"),
         ("encode of a command", "a_command_for_whose_record_memory_is_refused_is_whole"),
-    ),
-    "broker_tests": (
         ("Broker::step", "a_broker_that_is_refused_memory_holds_nothing_but_its_count"),
         ("Broker::restart", "a_broker_whose_restart_is_refused_memory_holds_nothing"),
         ("decode_state", "a_snapshot_for_which_memory_is_refused_is_not_called_damaged"),
@@ -56,7 +54,7 @@ TESTS = {
         ("flush_loop", "a_flusher_that_is_refused_memory_stops_and_loses_nothing"),
         ("worker", "a_worker_that_is_refused_memory_sends_nothing_else"),
     ),
-    "tool_tests": (("run_script", "a_script_that_is_refused_memory_prints_a_front_of_what_it_would"),),
+    "server_tests": (("run_script", "a_script_that_is_refused_memory_prints_a_front_of_what_it_would"),),
 }
 
 # More growths than any of them has.

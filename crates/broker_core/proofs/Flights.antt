@@ -10,10 +10,10 @@ use Rattle.std.proofs.lemmas.Cmp.{ranked}
 use Rattle.std.proofs.lemmas.List.Sums.{sum_by-cons}
 use Rattle.std.proofs.lemmas.Option.{none-some, same_Some}
 use Rattle.command_core.specs.Destinations.{is_queue}
-use Rattle.broker_state.proofs.Flights.{has_delivery-mapped, length-settled, sum_by-settled, unsettled-mapped}
-use Rattle.broker_state.specs.declared.message.Message.{Message}
-use Rattle.broker_state.specs.Flights.{IsOver, IsRising, has_delivery, mapped, settled}
-use Rattle.broker_state.specs.Lines.{inserted}
+use Rattle.line_core.proofs.Flights.{has_delivery-mapped, length-settled, sum_by-settled, unsettled-mapped}
+use Rattle.line_core.specs.declared.message.Message.{Message}
+use Rattle.line_core.specs.Flights.{IsOver, IsRising, has_delivery, mapped, settled}
+use Rattle.line_core.specs.Lines.{inserted}
 use Rattle.broker_state.specs.declared.subscription.Subscription.{Subscription}
 use Rattle.broker_core.specs.declared.precheck.PrecheckFlight.{PrecheckFlight}
 use Rattle.broker_core.specs.declared.precheck.PrecheckSize.{PrecheckSize}

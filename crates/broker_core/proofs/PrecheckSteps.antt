@@ -6,10 +6,10 @@ use Rattle.command_core.specs.declared.fault.Fault.{Fault}
 use Rattle.command_core.specs.declared.fault.Fault.TheVariants.{NoRoom, UnknownAcknowledgement}
 use Rattle.command_core.specs.Destinations.{is_queue}
 use Rattle.command_core.specs.Sendings.{SendingValue}
-use Rattle.broker_state.specs.declared.message.Message.{Message}
-use Rattle.broker_state.specs.Flights.{mapped, settled}
-use Rattle.broker_state.specs.Messages.{size_of}
-use Rattle.broker_state.proofs.Flights.{settled-mapped}
+use Rattle.line_core.specs.declared.message.Message.{Message}
+use Rattle.line_core.specs.Flights.{mapped, settled}
+use Rattle.line_core.specs.Messages.{size_of}
+use Rattle.line_core.proofs.Flights.{settled-mapped}
 use Rattle.broker_state.specs.declared.subscription.Subscription.{Subscription}
 use Rattle.broker_core.specs.declared.precheck.Precheck.{Precheck}
 use Rattle.broker_core.specs.declared.precheck.PrecheckFlight.{PrecheckFlight}

@@ -3,7 +3,7 @@
 ghost use Rattle.std.specs.Prelude.{◌≡◌, ◌+◌, ◌*◌, ◌≤◌, ◌^◌, ◌<◌, IfOk, IfSome, List, MatchOption, OnOk, Ok, Err, Some, ℕ, false, if◌then◌else◌, is_some, length, slice_get, true};
 ghost use Rattle.std.specs.List.{list_any, sum_by};
 ghost use Rattle.command_core.specs.declared.fault.Fault.TheVariants.{NoRoom};
-ghost use Rattle.broker_state.specs.Flights.{mapped, settled};
+ghost use Rattle.line_core.specs.Flights.{mapped, settled};
 ghost use Rattle.broker_core.specs.declared.precheck.PrecheckFlight.{PrecheckFlight};
 ghost use Rattle.broker_state.specs.declared.nack_rule.NackRule.TheVariants.{Keeps};
 ghost use Rattle.broker_state.specs.declared.subscription.Subscription.{Subscription};
@@ -20,7 +20,7 @@ ghost use Rattle.broker_core.specs.Prechecks.{HoldsFlights, Leads, SettlesFlight
 use broker_state::{Held, MOST_BYTES, NackRule, Subscription, stand_in_order};
 use broker_tables::{Tables, copies_to, find_room, is_dropped, refused_size};
 use command_core::{AckMode, Fault, Member};
-use broker_state::{Flight, Message, SettleFault, size};
+use line_core::{Flight, Message, SettleFault, size};
 use std::alloc::{AllocError, Global};
 use waiting_order::{Order, Sought};
 

@@ -10,7 +10,7 @@ use Rattle.frame_core.proofs.Lists.{all_both, all_push, all_weaker}
 use Rattle.command_core.specs.declared.ack_mode.AckMode.{AckMode}
 use Rattle.command_core.specs.Commands.{CommandValue}
 use Rattle.command_core.specs.Destinations.{is_queue}
-use Rattle.broker_state.specs.declared.message.Message.{Message}
+use Rattle.line_core.specs.declared.message.Message.{Message}
 use Rattle.broker_state.specs.declared.subscription.Subscription.{Subscription}
 use Rattle.broker_state.specs.HandOut.{can_take, delivered, handed}
 use Rattle.broker_state.specs.declared.nack_rule.NackRule.{NackRule}

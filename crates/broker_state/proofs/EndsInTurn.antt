@@ -13,11 +13,11 @@ use Rattle.std.proofs.lemmas.List.Sums.{sum_by-append, sum_by-cons}
 use Rattle.std.proofs.lemmas.Map.Lookups.{exact_unsigned}
 use Rattle.frame_core.proofs.Lists.{all_weaker}
 use Rattle.command_core.specs.Destinations.{is_queue}
-use Rattle.broker_state.specs.declared.message.Message.{Message}
-use Rattle.broker_state.specs.declared.message.MessageNumber.{MessageNumber}
-use Rattle.broker_state.specs.Lines.{by_number, inserted, is_same}
-use Rattle.broker_state.proofs.Inserted.{inserted_twice}
-use Rattle.broker_state.proofs.RisingLines.{by_number-total}
+use Rattle.line_core.specs.declared.message.Message.{Message}
+use Rattle.line_core.specs.declared.message.MessageNumber.{MessageNumber}
+use Rattle.line_core.specs.Lines.{by_number, inserted, is_same}
+use Rattle.line_core.proofs.Inserted.{inserted_twice}
+use Rattle.line_core.proofs.RisingLines.{by_number-total}
 use Rattle.broker_state.specs.declared.subscription.Subscription.{Subscription}
 use Rattle.broker_state.specs.Kept.{takes_from, unacknowledged_by, with_all}
 use Rattle.broker_state.specs.Lists.{is_none}

@@ -10,14 +10,14 @@ use Rattle.std.specs.declared.cmp.Ordering.{Ordering}
 use Rattle.std.specs.declared.cmp.Ordering.TheVariants.{Less}
 use Rattle.std.proofs.lemmas.Map.Entries.{sum_by-remove_entry, sum_by-insert_entry}
 use Rattle.std.proofs.lemmas.List.Sums.{sum_by-cons}
-use Rattle.broker_state.specs.declared.message.Message.{Message}
-use Rattle.broker_state.specs.Lines.{inserted}
+use Rattle.line_core.specs.declared.message.Message.{Message}
+use Rattle.line_core.specs.Lines.{inserted}
 use Rattle.broker_state.specs.Lists.{is_none}
 use Rattle.broker_state.specs.Names.{AreSame}
 use Rattle.broker_state.specs.Waiting.{Lines, line_at, weight_of_lines, with_deliveries, with_line, with_message}
 use Rattle.broker_state.proofs.Lookups.{is_equal, lookup_inserted, lookup_removed}
 use Rattle.broker_state.proofs.SortedEntries.{all_inserted, all_removed, sorted_inserted, sorted_removed}
-use Rattle.broker_state.proofs.Inserted.{sum_by-inserted}
+use Rattle.line_core.proofs.Inserted.{sum_by-inserted}
 
 module _ (weight : Message → ℕ) where
   weight_of_line : (o : Option (List Message)) → sum_by weight (unwrap_or o []) ≡ unwrap_or (option_map (λ line. sum_by weight line) o) 0

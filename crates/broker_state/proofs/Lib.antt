@@ -1,8 +1,3 @@
-pub mod Flights
-pub mod HeaderSizes
-pub mod Inserted
-pub mod Results
-pub mod RisingLines
 pub mod Firsts
 pub mod Keys
 pub mod Lookups
@@ -43,3 +38,10 @@ pub mod StateLines
 pub mod SoundSteps
 pub mod NothingLost
 pub mod EndsInTurn
+pub mod Answered
+pub mod StandingParts
+pub mod SeenIds
+pub mod SeenCounts
+pub mod SeenNames
+pub mod Settled
+pub mod SeenNumbers

@@ -7,9 +7,9 @@ use Rattle.std.proofs.lemmas.Map.Lookups.{exact_pairs, exact_unsigned}
 use Rattle.frame_core.proofs.Lists.{all_weaker}
 use Rattle.command_core.specs.Commands.{CommandValue}
 use Rattle.command_core.specs.Destinations.{is_queue}
-use Rattle.broker_state.specs.declared.message.Message.{Message}
-use Rattle.broker_state.specs.declared.message.MessageNumber.{MessageNumber}
-use Rattle.broker_state.specs.Lines.{by_number, is_same}
+use Rattle.line_core.specs.declared.message.Message.{Message}
+use Rattle.line_core.specs.declared.message.MessageNumber.{MessageNumber}
+use Rattle.line_core.specs.Lines.{by_number, is_same}
 use Rattle.broker_state.specs.declared.nack_rule.NackRule.{NackRule}
 use Rattle.broker_state.specs.Executing.{HasFewMembers}
 use Rattle.broker_state.specs.Operations.{message_of, restarted}

@@ -5,9 +5,9 @@ use Rattle.std.proofs.lemmas.List.Sums.{sum_by-cons}
 use Rattle.command_core.specs.Sendings.{SendingValue}
 use Rattle.command_core.specs.declared.ack_mode.AckMode.{AckMode}
 use Rattle.command_core.specs.declared.ack_mode.AckMode.TheVariants.{Auto, Client, ClientIndividual}
-use Rattle.broker_state.specs.declared.message.Message.{Message}
-use Rattle.broker_state.specs.Flights.{settled}
-use Rattle.broker_state.proofs.Flights.{length-settled}
+use Rattle.line_core.specs.declared.message.Message.{Message}
+use Rattle.line_core.specs.Flights.{settled}
+use Rattle.line_core.proofs.Flights.{length-settled}
 use Rattle.broker_state.specs.declared.subscription.Subscription.{Subscription}
 use Rattle.broker_state.specs.Dead.{dead_queue, first_place, refused, refused_from}
 use Rattle.broker_state.specs.Lists.{picked}

@@ -5,9 +5,9 @@ use Rattle.std.proofs.lemmas.List.Sums.{sum_by-cons}
 use Rattle.command_core.specs.declared.ack_mode.AckMode.{AckMode}
 use Rattle.command_core.specs.declared.fault.Fault.{Fault}
 use Rattle.command_core.specs.declared.fault.Fault.TheVariants.{NoRoom}
-use Rattle.broker_state.specs.declared.message.Message.{Message}
-use Rattle.broker_state.specs.Flights.{settled, settles}
-use Rattle.broker_state.specs.Lines.{by_number, inserted}
+use Rattle.line_core.specs.declared.message.Message.{Message}
+use Rattle.line_core.specs.Flights.{settled, settles}
+use Rattle.line_core.specs.Lines.{by_number, inserted}
 use Rattle.broker_state.specs.declared.nack_rule.NackRule.TheVariants as rule
 use Rattle.broker_state.specs.declared.subscription.Subscription.{Subscription}
 use Rattle.broker_state.specs.Dead.{IsStill, dead_queue, first_place, is_dropped, keeping, kept_by_nack, kept_of, nacked, refused, refused_from, with_refused}

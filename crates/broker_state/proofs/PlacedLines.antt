@@ -11,10 +11,10 @@ use Rattle.std.proofs.lemmas.Bool.{and_parts}
 use Rattle.std.proofs.lemmas.Slice.Eq.{bytes_eq-Decides}
 use Rattle.frame_core.proofs.Lists.{all_append, all_both, all_left, all_push, all_right, all_weaker}
 use Rattle.command_core.specs.Destinations.{is_queue}
-use Rattle.broker_state.specs.declared.message.Message.{Message}
-use Rattle.broker_state.specs.Flights.{settled, settles}
-use Rattle.broker_state.specs.Lines.{inserted}
-use Rattle.broker_state.proofs.Inserted.{all_inserted}
+use Rattle.line_core.specs.declared.message.Message.{Message}
+use Rattle.line_core.specs.Flights.{settled, settles}
+use Rattle.line_core.specs.Lines.{inserted}
+use Rattle.line_core.proofs.Inserted.{all_inserted}
 use Rattle.broker_state.specs.declared.subscription.Subscription.{Subscription}
 use Rattle.broker_state.specs.Dead.{dead_queue, first_place, is_dropped, with_refused}
 use Rattle.broker_state.specs.HandOut.{can_take, delivered, handed, is_auto}

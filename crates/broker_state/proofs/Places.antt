@@ -4,8 +4,8 @@ use Rattle.std.proofs.lemmas.List.{take_all, take_more}
 use Rattle.std.proofs.lemmas.List.Sums.{count_by_more_no, count_by_more_yes, sum_by-cons}
 use Rattle.std.proofs.lemmas.Option.{get_or_from_slice_get, none-some, same_Some, slice_get_within}
 use Rattle.frame_core.proofs.Lists.{all_push}
-use Rattle.broker_state.specs.declared.message.Message.{Message}
-use Rattle.broker_state.specs.Lines.{first_of}
+use Rattle.line_core.specs.declared.message.Message.{Message}
+use Rattle.line_core.specs.Lines.{first_of}
 use Rattle.broker_state.specs.Parts.{IsFirst, NonePass}
 
 module _ {X : Type 0} (p : X → Bool) (xs : List X) (at : ℕ) (x : X) (is : slice_get xs at ≡ Some x) where

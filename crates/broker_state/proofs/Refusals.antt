@@ -3,8 +3,8 @@ use Rattle.std.specs.List.{AllByRecursion, list_any, sum_by}
 use Rattle.std.proofs.lemmas.Bool.{le-leb}
 use Rattle.std.proofs.lemmas.List.Sums.{sum_by-cons}
 use Rattle.command_core.specs.declared.fault.Fault.TheVariants.{NoRoom, UnknownAcknowledgement}
-use Rattle.broker_state.specs.declared.message.Message.{Message}
-use Rattle.broker_state.specs.Flights.{settled}
+use Rattle.line_core.specs.declared.message.Message.{Message}
+use Rattle.line_core.specs.Flights.{settled}
 use Rattle.broker_state.specs.declared.nack_rule.NackRule.TheVariants as rule
 use Rattle.broker_state.specs.declared.subscription.Subscription.{Subscription}
 use Rattle.broker_state.specs.Dead.{dead_queue, first_place, is_dropped, keeping, keeping_from, kept_by_nack, kept_of, nacked, refused, refused_from, with_refused, with_room}

@@ -7,8 +7,8 @@ use Rattle.std.specs.Str.{bytes_eq}
 use Rattle.std.specs.declared.cmp.Ordering.{Ordering}
 use Rattle.std.proofs.lemmas.Map.Text.{is_eq-slice_cmp}
 use Rattle.command_core.specs.Destinations.{is_queue}
-use Rattle.broker_state.specs.declared.message.Message.{Message}
-use Rattle.broker_state.specs.Lines.{by_number, inserted}
+use Rattle.line_core.specs.declared.message.Message.{Message}
+use Rattle.line_core.specs.Lines.{by_number, inserted}
 use Rattle.broker_state.specs.declared.subscription.Subscription.{Subscription}
 use Rattle.broker_state.specs.Kept.{kept_in_queue, kept_under, takes_from, unacknowledged_by, with_all}
 use Rattle.broker_state.specs.Lists.{is_none}

@@ -6,10 +6,10 @@ use Rattle.std.proofs.lemmas.Option.{none-some, same_Some}
 use Rattle.command_core.specs.declared.fault.Fault.TheVariants.{NoRoom}
 use Rattle.command_core.specs.Destinations.{is_queue}
 use Rattle.command_core.specs.Sendings.{SendingValue}
-use Rattle.broker_state.specs.declared.message.Message.{Message}
-use Rattle.broker_state.specs.Flights.{IsOver}
-use Rattle.broker_state.specs.Lines.{inserted}
-use Rattle.broker_state.specs.Messages.{size_of}
+use Rattle.line_core.specs.declared.message.Message.{Message}
+use Rattle.line_core.specs.Flights.{IsOver}
+use Rattle.line_core.specs.Lines.{inserted}
+use Rattle.line_core.specs.Messages.{size_of}
 use Rattle.broker_state.specs.declared.subscription.Subscription.{Subscription}
 use Rattle.broker_state.specs.Lists.{changed}
 use Rattle.broker_state.specs.Names.{Name, name_cmp, text_cmp}

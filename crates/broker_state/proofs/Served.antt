@@ -7,9 +7,9 @@ use Rattle.broker_state.proofs.Firsts.{same_some}
 use Rattle.std.proofs.lemmas.List.Edits.{length-remove}
 use Rattle.std.proofs.lemmas.List.Sums.{sum_by-cons, sum_by-remove, sum_by_push}
 use Rattle.std.proofs.lemmas.Option.{get_or_from_slice_get}
-use Rattle.broker_state.specs.declared.message.Message.{Message}
-use Rattle.broker_state.specs.Flights.{IsOver}
-use Rattle.broker_state.specs.Lines.{first_of}
+use Rattle.line_core.specs.declared.message.Message.{Message}
+use Rattle.line_core.specs.Flights.{IsOver}
+use Rattle.line_core.specs.Lines.{first_of}
 use Rattle.broker_state.specs.declared.subscription.Subscription.{Subscription}
 use Rattle.broker_state.specs.HandOut.{can_take, delivered, handed_from, has_room, is_auto, message_out}
 use Rattle.broker_state.specs.States.{State, one, weight_of_subscription}

@@ -3,7 +3,7 @@ use Rattle.std.specs.Ordering.{is_eq}
 use Rattle.std.specs.declared.cmp.Ordering.{Ordering}
 use Rattle.command_core.specs.Destinations.{is_queue}
 use Rattle.command_core.specs.Outs.{OutValue}
-use Rattle.broker_state.specs.declared.message.Message.{Message}
+use Rattle.line_core.specs.declared.message.Message.{Message}
 use Rattle.broker_state.specs.declared.subscription.Subscription.{Subscription}
 use Rattle.broker_state.specs.Lists.{is_none}
 use Rattle.broker_state.specs.Parts.{NonePass}

@@ -4,10 +4,10 @@ use Rattle.std.specs.Ordering.{is_eq}
 use Rattle.std.proofs.lemmas.List.Sums.{sum_by-cons, sum_by_push}
 use Rattle.frame_core.proofs.Lists.{all_push, all_weaker}
 use Rattle.command_core.specs.Destinations.{is_queue}
-use Rattle.broker_state.specs.declared.message.Message.{Message}
-use Rattle.broker_state.specs.Flights.{settled}
-use Rattle.broker_state.proofs.Flights.{sum_by-settled}
-use Rattle.broker_state.proofs.Inserted.{sum_by-inserted}
+use Rattle.line_core.specs.declared.message.Message.{Message}
+use Rattle.line_core.specs.Flights.{settled}
+use Rattle.line_core.proofs.Flights.{sum_by-settled}
+use Rattle.line_core.proofs.Inserted.{sum_by-inserted}
 use Rattle.broker_state.specs.declared.subscription.Subscription.{Subscription}
 use Rattle.broker_state.specs.Dead.{dead_queue, is_dropped, with_refused}
 use Rattle.broker_state.specs.HandOut.{can_take, delivered, handed, is_auto}

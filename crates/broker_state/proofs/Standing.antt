@@ -3,7 +3,7 @@ use Rattle.std.specs.List.{flat_map, sum_by}
 use Rattle.std.specs.Map.{values_of}
 use Rattle.std.proofs.lemmas.List.Sums.{sum_by-append, sum_by-cons}
 use Rattle.command_core.specs.Destinations.{is_queue}
-use Rattle.broker_state.specs.declared.message.Message.{Message}
+use Rattle.line_core.specs.declared.message.Message.{Message}
 use Rattle.broker_state.specs.declared.subscription.Subscription.{Subscription}
 use Rattle.broker_state.specs.States as states
 use Rattle.broker_state.specs.Names.{Name, text_cmp}

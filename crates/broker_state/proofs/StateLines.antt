@@ -7,9 +7,9 @@ use Rattle.std.proofs.lemmas.Slice.Eq.{bytes_eq-Decides}
 use Rattle.frame_core.proofs.Lists.{all_both, all_weaker}
 use Rattle.command_core.specs.Commands.{CommandValue}
 use Rattle.command_core.specs.Destinations.{is_queue}
-use Rattle.broker_state.specs.declared.message.Message.{Message}
-use Rattle.broker_state.specs.declared.message.MessageNumber.{MessageNumber}
-use Rattle.broker_state.specs.Lines.{is_same}
+use Rattle.line_core.specs.declared.message.Message.{Message}
+use Rattle.line_core.specs.declared.message.MessageNumber.{MessageNumber}
+use Rattle.line_core.specs.Lines.{is_same}
 use Rattle.broker_state.specs.declared.subscription.Subscription.{Subscription}
 use Rattle.broker_state.specs.declared.nack_rule.NackRule.{NackRule}
 use Rattle.broker_state.specs.Executing.{HasFewMembers}

@@ -13,8 +13,8 @@ use Rattle.command_core.specs.declared.ack_mode.AckMode.{AckMode}
 use Rattle.command_core.specs.declared.ack_mode.AckMode.TheVariants.{Auto, Client, ClientIndividual}
 use Rattle.command_core.specs.Commands.{CommandValue}
 use Rattle.command_core.specs.Destinations.{is_queue}
-use Rattle.broker_state.specs.declared.message.Message.{Message}
-use Rattle.broker_state.proofs.Flights.{length-settled}
+use Rattle.line_core.specs.declared.message.Message.{Message}
+use Rattle.line_core.proofs.Flights.{length-settled}
 use Rattle.broker_state.specs.declared.subscription.Subscription.{Subscription}
 use Rattle.broker_state.specs.HandOut.{can_take, delivered, handed, has_room, is_auto}
 use Rattle.broker_state.specs.declared.nack_rule.NackRule.{NackRule}

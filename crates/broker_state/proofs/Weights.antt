@@ -4,11 +4,11 @@ use Rattle.std.specs.Str.{bytes_eq}
 use Rattle.std.proofs.lemmas.List.Sums.{sum_by-cons, sum_by-remove}
 use Rattle.std.proofs.lemmas.Option.{get_or_from_slice_get, same_Some, slice_get_within}
 use Rattle.frame_core.proofs.Lists.{all_append}
-use Rattle.broker_state.proofs.Flights.{sum_by-settled}
-use Rattle.broker_state.proofs.Inserted.{sum_by-inserted}
-use Rattle.broker_state.specs.declared.message.Message.{Message}
-use Rattle.broker_state.specs.Flights.{IsOver, settled, settles}
-use Rattle.broker_state.specs.Lines.{inserted}
+use Rattle.line_core.proofs.Flights.{sum_by-settled}
+use Rattle.line_core.proofs.Inserted.{sum_by-inserted}
+use Rattle.line_core.specs.declared.message.Message.{Message}
+use Rattle.line_core.specs.Flights.{IsOver, settled, settles}
+use Rattle.line_core.specs.Lines.{inserted}
 use Rattle.broker_state.specs.declared.subscription.Subscription.{Subscription}
 use Rattle.broker_state.specs.Lists.{changed}
 use Rattle.broker_state.specs.Names.{Name, name_cmp}

@@ -1,8 +1,8 @@
 -- How often a message stands in a state.
 use Rattle.std.specs.Prelude.{◌≡◌, ◌≤◌, ◌&&◌, ℕ, count_by}
-use Rattle.broker_state.specs.declared.message.Message.{Message}
-use Rattle.broker_state.specs.declared.message.MessageNumber.{MessageNumber}
-use Rattle.broker_state.specs.Lines.{is_same}
+use Rattle.line_core.specs.declared.message.Message.{Message}
+use Rattle.line_core.specs.declared.message.MessageNumber.{MessageNumber}
+use Rattle.line_core.specs.Lines.{is_same}
 use Rattle.command_core.specs.Destinations.{is_queue}
 use Rattle.command_core.specs.Sendings.{SendingValue}
 use Rattle.broker_state.specs.Operations.{message_of}

@@ -2,8 +2,8 @@ use Rattle.std.specs.Prelude.{◌≡◌, ◌+◌, ◌*◌, ◌||◌, ◌⊎◌, 
 use Rattle.std.specs.Str.{bytes_eq}
 use Rattle.command_core.specs.declared.fault.Fault.{Fault}
 use Rattle.command_core.specs.declared.fault.Fault.TheVariants.{NoRoom}
-use Rattle.broker_state.specs.declared.message.Message.{Message}
-use Rattle.broker_state.specs.Flights.{settled, settles}
+use Rattle.line_core.specs.declared.message.Message.{Message}
+use Rattle.line_core.specs.Flights.{settled, settles}
 use Rattle.broker_state.specs.declared.nack_rule.NackRule.{NackRule}
 use Rattle.broker_state.specs.declared.nack_rule.NackRule.TheVariants.{Drops, Keeps}
 use Rattle.broker_state.specs.declared.subscription.Subscription.{Subscription}

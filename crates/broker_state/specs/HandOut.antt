@@ -4,7 +4,7 @@ use Rattle.command_core.specs.declared.ack_mode.AckMode.{AckMode}
 use Rattle.command_core.specs.declared.ack_mode.AckMode.TheVariants.{Auto}
 use Rattle.command_core.specs.Outs.{OutValue}
 use Rattle.command_core.specs.Replies.{message_frame}
-use Rattle.broker_state.specs.declared.message.Message.{Message}
+use Rattle.line_core.specs.declared.message.Message.{Message}
 use Rattle.broker_state.specs.declared.subscription.Subscription.{Subscription}
 use Rattle.broker_state.specs.Lists.{is_none, picked}
 use Rattle.broker_state.specs.States.{State, one}

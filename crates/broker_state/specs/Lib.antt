@@ -1,6 +1,3 @@
-pub mod Flights
-pub mod Lines
-pub mod Messages
 pub mod Lists
 pub mod Names
 pub mod Waiting
@@ -18,3 +15,5 @@ pub mod PartsOf
 pub mod Copies
 pub mod Refusals
 pub mod Worked
+pub mod Rooms
+pub mod Seen

@@ -9,9 +9,9 @@ use Rattle.command_core.specs.declared.fault.Fault.{Fault}
 use Rattle.command_core.specs.declared.fault.Fault.TheVariants.{SubscriptionIdInUse, UnknownSubscription, UnknownAcknowledgement, NoRoom, NoClientId, DurableSubscription, TooManyEntries}
 use Rattle.command_core.specs.Destinations.{is_queue}
 use Rattle.command_core.specs.Sendings.{SendingValue}
-use Rattle.broker_state.specs.declared.message.Message.{Message}
-use Rattle.broker_state.specs.Flights.{has_delivery, unsettled}
-use Rattle.broker_state.specs.Lines.{inserted}
+use Rattle.line_core.specs.declared.message.Message.{Message}
+use Rattle.line_core.specs.Flights.{has_delivery, unsettled}
+use Rattle.line_core.specs.Lines.{inserted}
 use Rattle.broker_state.specs.declared.subscription.Subscription.{Subscription}
 use Rattle.broker_state.specs.Lists.{picked, with_first}
 use Rattle.broker_state.specs.States.{State, held_bytes, held_messages}

@@ -3,10 +3,10 @@ use Rattle.std.specs.List.{AllByRecursion, sum_by}
 use Rattle.command_core.specs.declared.ack_mode.AckMode.{AckMode}
 use Rattle.command_core.specs.declared.ack_mode.AckMode.TheVariants.{Auto}
 use Rattle.command_core.specs.Destinations.{is_queue}
-use Rattle.broker_state.specs.declared.message.Message.{Message}
-use Rattle.broker_state.specs.declared.message.MessageNumber.{MessageNumber}
-use Rattle.broker_state.specs.Flights.{IsOver}
-use Rattle.broker_state.specs.Lines.{is_same}
+use Rattle.line_core.specs.declared.message.Message.{Message}
+use Rattle.line_core.specs.declared.message.MessageNumber.{MessageNumber}
+use Rattle.line_core.specs.Flights.{IsOver}
+use Rattle.line_core.specs.Lines.{is_same}
 use Rattle.broker_state.specs.declared.subscription.Subscription.{Subscription}
 use Rattle.broker_state.specs.HandOut.{hand_out}
 use Rattle.broker_state.specs.Kept.{takes_from, unacknowledged_by}

@@ -4,9 +4,9 @@ use Rattle.std.specs.List.{AllByRecursion, flat_map, sum_by}
 use Rattle.std.specs.List.Sorted.{IsStrictlySortedBy}
 use Rattle.std.specs.Map.{keys_of, lookup}
 use Rattle.std.specs.Ordering.{nat_cmp}
-use Rattle.broker_state.specs.declared.message.Message.{Message}
-use Rattle.broker_state.specs.Flights.{IsOver}
-use Rattle.broker_state.specs.Messages.{size_of}
+use Rattle.line_core.specs.declared.message.Message.{Message}
+use Rattle.line_core.specs.Flights.{IsOver}
+use Rattle.line_core.specs.Messages.{size_of}
 use Rattle.broker_state.specs.declared.subscription.Subscription.{Subscription}
 use Rattle.broker_state.specs.Names.{Name, name_cmp, text_cmp}
 use Rattle.broker_state.specs.Waiting.{Shared, weight_of_shared}

@@ -5,7 +5,7 @@ use Rattle.command_core.specs.Commands.{CommandValue}
 use Rattle.command_core.specs.declared.command.Op.{Op}
 use Rattle.command_core.specs.declared.command.Op.TheVariants.{Open, Send, Subscribe, Nack, Commit}
 use Rattle.command_core.specs.declared.member.Member.TheVariants as members
-use Rattle.broker_state.specs.declared.message.Message.{Message}
+use Rattle.line_core.specs.declared.message.Message.{Message}
 use Rattle.broker_state.specs.Operations.{message_of}
 
 -- a command of the first session, with no receipt

@@ -1,34 +1,32 @@
-//! What a broker knows: names, subscriptions, lines of messages, deliveries that wait for their acknowledgement; the definitions of what each
-//! command does to them, and what follows from those.
+//! What a broker knows: names, subscriptions, what is held; the definitions of what each command does to them, what follows from those, and whether
+//! the parts of a state, as they are read from a snapshot, make up one that a broker can have.
 
 #![tactic(auto)]
 
 mod dead_laws;
 mod durable_name;
-mod flight;
-mod flight_laws;
 mod given_name;
 mod held;
 mod kept_line_laws;
 mod laws;
+mod limit_checks;
 mod limits;
-mod line;
-mod line_laws;
-mod message;
+mod line_checks;
+mod message_checks;
 mod nack_rule;
+mod name_checks;
+mod number_checks;
 mod number_laws;
+mod part_checks;
 mod parts;
 mod sound_laws;
 mod subscription;
+mod subscription_checks;
 mod waiting;
 mod worked;
 
 pub use dead_laws::refusals_lose_nothing_else;
 pub use durable_name::DurableName;
-pub use flight::{Flight, SettleFault, settles};
-pub use flight_laws::{
-    acknowledgements_keep_order, other_items_settle_alike, settled_and_unsettled_are_the_flight,
-};
 pub use given_name::GivenName;
 pub use held::Held;
 pub use kept_line_laws::lines_keep_their_messages;
@@ -39,17 +37,13 @@ pub use laws::{
     outputs_have_the_number_of_their_command, refused_operations_end_their_session,
     restarts_end_each_session_in_turn, restarts_keep_what_is_kept, states_stay_in_order,
 };
+pub use limit_checks::held_of;
 pub use limits::{
     LAST_DELIVERY, MOST_BYTES, MOST_MESSAGES, MOST_NAMES, MOST_SUBSCRIPTIONS, WINDOW,
 };
-pub use line::Line;
-pub use line_laws::{
-    inserting_adds_one_message, inserting_keeps_order, numbers_are_in_order,
-    order_of_return_does_not_matter, what_was_taken_goes_back,
-};
-pub use message::{Message, MessageNumber, size};
 pub use nack_rule::NackRule;
 pub use number_laws::numbers_stay_under_the_next;
+pub use part_checks::are_sound;
 pub use parts::Parts;
 pub use sound_laws::{
     durable_names_stay_bound, limits_are_kept, states_stay_sound,

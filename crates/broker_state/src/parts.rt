@@ -4,7 +4,7 @@ use crate::durable_name::DurableName;
 use crate::given_name::GivenName;
 use crate::subscription::Subscription;
 use command_core::Dest;
-use crate::Line;
+use line_core::Line;
 use std::collections::BTreeMap;
 
 /// The parts of a state, as they are read from a snapshot: nothing is known of how they go together.

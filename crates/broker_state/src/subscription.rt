@@ -3,7 +3,7 @@
 use crate::durable_name::DurableName;
 use crate::limits::WINDOW;
 use command_core::{AckMode, Dest, HeaderText};
-use crate::{Flight, Line, Message};
+use line_core::{Flight, Line, Message};
 
 /// A subscription of a session (STOMP 1.2, "SUBSCRIBE").
 #[derive(Drop)]

@@ -9,7 +9,7 @@ ghost use Rattle.broker_state.specs.Waiting.{line_at, line_for};
 use crate::durable_name::DurableName;
 use crate::subscription::Subscription;
 use command_core::Dest;
-use crate::Line;
+use line_core::Line;
 use std::collections::BTreeMap;
 
 /// The lines stand by rising key, each once: a map knows that when it is asked. Nothing changes.

@@ -1,6 +1,6 @@
 use Rattle.std.specs.Prelude.{◌≡◌, ◌≤◌, ◌+◌, List, ℕ, Option, None, Some, drop, if◌then◌else◌}
 use Rattle.std.specs.List.{sum_by}
-use Rattle.broker_state.specs.declared.message.Message.{Message}
+use Rattle.line_core.specs.declared.message.Message.{Message}
 use Rattle.command_core.specs.Destinations.{is_queue}
 use Rattle.broker_state.specs.Names.{Name, name_cmp, text_cmp}
 use Rattle.broker_state.specs.declared.held.Held.{Held}

@@ -1,5 +1,5 @@
 use Rattle.std.specs.Prelude.{◌≡◌, List, ℕ}
-use Rattle.broker_state.specs.declared.message.Message.{Message}
+use Rattle.line_core.specs.declared.message.Message.{Message}
 use Rattle.broker_state.specs.declared.subscription.Subscription.{Subscription}
 use Rattle.broker_state.specs.Names.{Name}
 use Rattle.broker_state.specs.Operations.{fanned_out}

@@ -2,7 +2,7 @@
 
 ghost use Rattle.std.specs.Prelude.{◌≡◌, ◌+◌, ◌≤◌, [], IfOk, IsErr, OnOk, Some, false, fold, not, true};
 ghost use Rattle.std.specs.List.{list_any, sum_by};
-ghost use Rattle.broker_state.specs.declared.message.Message.{Message};
+ghost use Rattle.line_core.specs.declared.message.Message.{Message};
 ghost use Rattle.command_core.specs.Texts.{IsGiven};
 ghost use Rattle.broker_state.specs.Operations.{client_in, ended, forgotten, given_up, given_up_for, restarted, unsubscribed_by, uses, without_named};
 ghost use Rattle.broker_state.specs.Parts.{leaving};
@@ -21,7 +21,7 @@ use crate::subscribing::{find_named, is_used};
 use crate::tables::Tables;
 use broker_state::{DurableName, GivenName, Held, Subscription};
 use command_core::{Fault, HeaderText};
-use broker_state::{Line, Message, size};
+use line_core::{Line, Message, size};
 use std::alloc::{AllocError, Global};
 use std::collections::BTreeMap;
 use std::mem;

@@ -1,7 +1,7 @@
 //! What waits is handed out.
 
 ghost use Rattle.std.specs.Prelude.{◌≡◌, ◌+◌, ◌≤◌, ◌∷◌, [], IfOk, OnOk, Some, drop, false, if◌then◌else◌, true};
-ghost use Rattle.broker_state.specs.Lines.{first_of};
+ghost use Rattle.line_core.specs.Lines.{first_of};
 ghost use Rattle.broker_state.specs.HandOut.{ack_of, delivered, is_auto, message_out, settled};
 ghost use Rattle.broker_state.specs.Lists.{changed, is_none};
 ghost use Rattle.broker_state.specs.States.{bytes, one};
@@ -22,7 +22,7 @@ use crate::stock::Stock;
 use crate::tables::Tables;
 use broker_state::{Held, LAST_DELIVERY, Subscription};
 use command_core::{AckMode, Out};
-use broker_state::{Message, size};
+use line_core::{Message, size};
 use std::alloc::{AllocError, Global};
 use waiting_order::{Key, Order};
 

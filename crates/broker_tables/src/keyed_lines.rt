@@ -5,14 +5,14 @@ ghost use Rattle.std.specs.BTreeMap.{insert_entry, is_at};
 ghost use Rattle.std.specs.List.{sum_by};
 ghost use Rattle.std.specs.List.Sorted.{IsStrictlySortedBy};
 ghost use Rattle.std.specs.Map.{keys_of, lookup, remove_entry};
-ghost use Rattle.broker_state.specs.declared.message.Message.{Message};
-ghost use Rattle.broker_state.specs.Lines.{first_of, inserted};
+ghost use Rattle.line_core.specs.declared.message.Message.{Message};
+ghost use Rattle.line_core.specs.Lines.{first_of, inserted};
 ghost use Rattle.broker_state.specs.Lists.{is_none};
 ghost use Rattle.broker_state.specs.Names.{AreSame};
 ghost use Rattle.broker_tables.specs.Returns.{LoseFirst};
 ghost use Rattle.broker_state.specs.Waiting.{line_at, weight_of_lines, with_deliveries, with_line, with_message};
 
-use broker_state::{Line, Message};
+use line_core::{Line, Message};
 use std::alloc::{AllocError, Global};
 use std::collections::BTreeMap;
 

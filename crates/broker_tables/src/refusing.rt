@@ -1,8 +1,8 @@
 //! Deliveries are refused.
 
 ghost use Rattle.std.specs.Prelude.{◌≡◌, ◌+◌, ◌-◌, ◌<◌, ◌≤◌, ◌^◌, IfOk, IsErr, OnOk, Some, false, if◌then◌else◌, length, nat_le, true};
-ghost use Rattle.broker_state.specs.Flights.{has_delivery, settled};
-ghost use Rattle.broker_state.specs.Messages.{size_of};
+ghost use Rattle.line_core.specs.Flights.{has_delivery, settled};
+ghost use Rattle.line_core.specs.Messages.{size_of};
 ghost use Rattle.broker_state.specs.declared.nack_rule.NackRule.TheVariants.{Keeps};
 ghost use Rattle.broker_state.specs.Dead.{dead_queue, is_dropped, nacked, refused};
 ghost use Rattle.broker_state.specs.Parts.{leaving};
@@ -23,7 +23,7 @@ use crate::shared_lines::SharedLines;
 use crate::tables::Tables;
 use broker_state::{Held, MOST_BYTES, NackRule, Subscription};
 use command_core::{AckMode, Dest, DestFault, Fault, Sending};
-use broker_state::{Message, MessageNumber, settles, size};
+use line_core::{Message, MessageNumber, settles, size};
 use std::alloc::{AllocError, Global};
 use waiting_order::{Key, Order};
 

@@ -20,7 +20,7 @@ use crate::shared_lines::SharedLines;
 use crate::tables::Tables;
 use broker_state::{Held, MOST_BYTES, MOST_MESSAGES};
 use command_core::{Dest, Fault, Sending};
-use broker_state::{Message, MessageNumber, size};
+use line_core::{Message, MessageNumber, size};
 use std::alloc::{AllocError, Global};
 use waiting_order::Order;
 

@@ -17,7 +17,7 @@ use crate::due::{Due, mark};
 use crate::tables::Tables;
 use broker_state::{DurableName, GivenName, MOST_NAMES, MOST_SUBSCRIPTIONS, Subscription};
 use command_core::{AckMode, Dest, Fault, HeaderText};
-use broker_state::{Flight, Line};
+use line_core::{Flight, Line};
 use std::alloc::{AllocError, Global};
 use std::collections::BTreeMap;
 use waiting_order::{Key, Order, Sought};

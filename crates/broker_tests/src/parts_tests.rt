@@ -3,7 +3,7 @@ use broker_core::Broker;
 use broker_state::{DurableName, GivenName, Parts};
 use command_core::{Dest, HeaderText, Sending, is_header_text};
 use frame_core::{Bytes, Headers, Text};
-use broker_state::{Line, Message, MessageNumber};
+use line_core::{Line, Message, MessageNumber};
 use std::alloc::Global;
 use std::collections::BTreeMap;
 use std::test::Fail;

@@ -5,7 +5,7 @@ use Rattle.std.specs.List.{AllByRecursion}
 use Rattle.std.specs.Str.{IsUtf8}
 use Rattle.std.proofs.lemmas.Bool.{ne_eqb}
 use Rattle.std.proofs.lemmas.Grind.{flat_map-append}
-use Rattle.frame_core.specs.Escapes.{code_of, escaped}
+use Rattle.escape_core.specs.Escapes.{code_of, escaped}
 use Rattle.frame_core.specs.declared.frame.Verb.TheVariants.{Message}
 use Rattle.std.proofs.lemmas.Str.{IsUtf8-append}
 use Rattle.frame_core.proofs.Lists.{all_append}

@@ -1,4 +1,3 @@
-pub mod Reading
 pub mod BodySteps
 pub mod Decided
 pub mod HeadSteps

@@ -6,8 +6,8 @@ use Rattle.std.proofs.lemmas.Bool.{cases_eq, cases_Bool, both_ways, ne_eqb, and_
 use Rattle.std.proofs.lemmas.List.{append-nil}
 use Rattle.std.proofs.lemmas.Str.{IsUtf8-nil, IsUtf8-append, encode_ascii, inside_one, cons_from_encodes}
 use lib.Utf8.{scalar, scalars, encode, encodes}
-use Rattle.frame_core.specs.Escapes.{escape_of, behind, unescaped}
-use Rattle.frame_core.proofs.Reading.{unescaped_plain}
+use Rattle.escape_core.specs.Escapes.{escape_of, behind, unescaped}
+use Rattle.escape_core.proofs.Reading.{unescaped_plain}
 use Rattle.frame_core.specs.declared.frame.Verb.{Verb}
 use Rattle.frame_core.specs.Verbs.{is_raw}
 use Rattle.frame_core.specs.Heads.{meaning}

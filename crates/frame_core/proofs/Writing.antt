@@ -4,9 +4,9 @@ use Rattle.std.specs.Str.{IsUtf8}
 use Rattle.std.proofs.lemmas.Bool.{cases_eq, ne_eqb, cases_Bool}
 use Rattle.std.proofs.lemmas.Fmt.{decimal_is_IsNumeral}
 use Rattle.std.proofs.lemmas.List.{take_more, flat_map_more}
-use Rattle.frame_core.specs.Escapes.{escaped}
-use Rattle.frame_core.specs.Escapes as Escape
-use Rattle.frame_core.proofs.Reading.{unescaped-escaped}
+use Rattle.escape_core.specs.Escapes.{escaped}
+use Rattle.escape_core.specs.Escapes as Escape
+use Rattle.escape_core.proofs.Reading.{unescaped-escaped}
 use Rattle.frame_core.specs.declared.frame.Frame.{Frame}
 use Rattle.frame_core.specs.declared.frame.Verb.{Verb}
 use Rattle.frame_core.specs.Verbs.{name_of, is_raw}

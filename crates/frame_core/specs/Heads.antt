@@ -2,7 +2,7 @@ use Rattle.std.specs.Prelude.{◌≡◌, ◌≢◌, ◌<◌, List, [], ◌∷◌
 use Rattle.std.specs.Global.{Global}
 use Rattle.std.specs.List.{AllByRecursion}
 use Rattle.std.specs.Str.{IsUtf8}
-use Rattle.frame_core.specs.Escapes.{unescaped}
+use Rattle.escape_core.specs.Escapes.{unescaped}
 use Rattle.frame_core.specs.declared.frame.Verb.{Verb}
 use Rattle.frame_core.specs.Verbs.{name_of, is_raw}
 

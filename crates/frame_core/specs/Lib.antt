@@ -1,4 +1,3 @@
-pub mod Escapes
 pub mod Words
 pub mod Forms
 pub mod SameHeaders

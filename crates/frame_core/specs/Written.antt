@@ -1,6 +1,6 @@
 use Rattle.std.specs.Prelude.{List, ◌∷◌, [], ◌++◌, ℕ, cond, flat_map}
 use Rattle.std.specs.Str.{IsUtf8}
-use Rattle.frame_core.specs.Escapes.{escaped}
+use Rattle.escape_core.specs.Escapes.{escaped}
 use Rattle.frame_core.specs.declared.frame.Frame.{Frame}
 use Rattle.frame_core.specs.declared.frame.Verb.{Verb}
 use Rattle.frame_core.specs.Verbs.{name_of, is_raw}

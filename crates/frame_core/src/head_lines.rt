@@ -16,7 +16,7 @@ use crate::frame::{Verb, value_of};
 use crate::partial::{MAX_BODY, Stop};
 use crate::search::{has_byte, place_of};
 use crate::text::Text;
-use crate::{EscapeFault, is_defined, unescape};
+use escape_core::{EscapeFault, is_defined, unescape};
 use std::alloc::Global;
 
 /// The digits that a `content-length` may have.

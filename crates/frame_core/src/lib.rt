@@ -3,7 +3,6 @@
 #![tactic(auto)]
 
 mod bytes;
-mod escapes;
 mod fault;
 mod frame;
 mod head_lines;
@@ -17,9 +16,6 @@ mod word;
 mod write;
 
 pub use bytes::Bytes;
-pub use escapes::{
-    EscapeFault, escape, is_defined, is_plain, means_itself, one_written_form, unescape,
-};
 pub use fault::FrameFault;
 pub use frame::{Frame, Verb, first};
 pub use headers::Headers;

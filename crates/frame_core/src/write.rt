@@ -1,7 +1,7 @@
 //! How a frame is written, and which frames can be.
 
 ghost use Rattle.std.specs.Prelude.{◌≡◌, ◌↔◌, ◌++◌, IsTrue, IfOk, OnOk, length, ◌<◌, codes, MatchOption, decimal, ◌≢◌};
-ghost use Rattle.frame_core.specs.Escapes.{escaped};
+ghost use Rattle.escape_core.specs.Escapes.{escaped};
 ghost use Rattle.frame_core.specs.Writable.{HasNoNul, IsOneLine, IsHeader, IsRawHeader, Writable, first_of};
 ghost use Rattle.frame_core.specs.Written.{written, written_header, IsText};
 ghost use Rattle.frame_core.specs.Spelling.{Spells, IsWithinLimits};
@@ -10,7 +10,7 @@ ghost use Rattle.std.specs.List.{AllByRecursion, flat_map};
 
 use crate::frame::{Frame, Verb, first};
 use crate::text::Text;
-use crate::{escape, is_plain};
+use escape_core::{escape, is_plain};
 use itoa::Buffer;
 use std::alloc::{AllocError, Global};
 

@@ -11,7 +11,7 @@ ghost use Rattle.journal_files.specs.Held.{AreLotsOf, names_waiting, queues_wait
 use broker_core::Broker;
 use broker_state::DurableName;
 use command_core::Dest;
-use broker_state::{Line, Message, size};
+use line_core::{Line, Message, size};
 use script_text::encode_text;
 use std::alloc::{AllocError, Global};
 use std::collections::BTreeMap;

@@ -10,8 +10,8 @@ use Rattle.command_core.specs.Sendings.{SendingValue}
 use Rattle.command_core.specs.PartSizes.{option_size, text_size}
 use Rattle.command_core.proofs.PartsSized.{each_sized, optional_sized}
 use Rattle.command_core.specs.PartSpellings.{IsText, counted, headers, mode_byte, optional, pair, sending}
-use Rattle.broker_state.specs.declared.message.Message.{Message}
-use Rattle.broker_state.specs.Messages.{header_size, size_of}
+use Rattle.line_core.specs.declared.message.Message.{Message}
+use Rattle.line_core.specs.Messages.{header_size, size_of}
 use Rattle.broker_state.specs.declared.subscription.Subscription.{Subscription}
 use Rattle.broker_core.specs.Lists.{is_none}
 use Rattle.broker_core.specs.Names.{Name, name_cmp}

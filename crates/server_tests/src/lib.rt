@@ -1,5 +1,5 @@
-//! Tests of the server over real sockets and files, by its public face. They are a crate of their own, since a crate that
-//! has tests is proved twice.
+//! Tests of the server over real sockets and files, and of the program over streams that fail, disks that hold something, and refused memory. What it
+//! prints of scripts and says of words is tried by `tests/scripts.py` and `tests/program/statuses.py`.
 
 #![tactic(auto)]
 
@@ -20,8 +20,16 @@ mod opening_tests;
 #[cfg(test)]
 mod quiet_tests;
 #[cfg(test)]
+mod refusal_tests;
+#[cfg(test)]
 mod servers;
 #[cfg(test)]
 mod slow_tests;
+#[cfg(test)]
+mod start_tests;
+#[cfg(test)]
+mod stream_tests;
+#[cfg(test)]
+mod texts;
 #[cfg(test)]
 mod writers;

@@ -15,8 +15,8 @@ use Rattle.command_core.specs.Commands.{Fits}
 use Rattle.command_core.specs.Destinations.{is_destination, is_queue}
 use Rattle.command_core.specs.Texts.{IsGiven}
 use Rattle.command_core.specs.Operations.{IsOp}
-use Rattle.session_core.specs.Refusals.{refusal_of_add, refusal_of_begin, refusal_of_end}
-use Rattle.session_core.specs.Transactions.{added, begun, members_of, without}
+use Rattle.tx_core.specs.Refusals.{refusal_of_add, refusal_of_begin, refusal_of_end}
+use Rattle.tx_core.specs.Transactions.{added, begun, members_of, without}
 use Rattle.session_core.specs.declared.act.Act.{Act}
 use Rattle.session_core.specs.declared.requests.Request.{Request}
 use Rattle.session_core.specs.declared.requests.Request.TheVariants.{Ask, Join, Begin, Commit, Abort, Disconnect}

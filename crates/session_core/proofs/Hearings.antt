@@ -17,8 +17,8 @@ use Rattle.session_core.specs.declared.phase.Phase.{Phase}
 use Rattle.session_core.specs.declared.phase.Phase.TheVariants.{New, Open, Ended, Failed}
 use Rattle.session_core.specs.ReadFrames.{receipt_of}
 use Rattle.session_core.specs.Requests.{asked, asked_first}
-use Rattle.session_core.specs.Refusals.{refusal_of_add, refusal_of_begin, refusal_of_end}
-use Rattle.session_core.specs.Transactions.{added, begun, members_of, without}
+use Rattle.tx_core.specs.Refusals.{refusal_of_add, refusal_of_begin, refusal_of_end}
+use Rattle.tx_core.specs.Transactions.{added, begun, members_of, without}
 use Rattle.session_core.specs.declared.act.Act.{Act}
 use Rattle.session_core.specs.Sessions.{Hearing, Hears, HearsFrames, HearsFault, IsOver, acts_of, phase_of, told, next, refused, answered, executed, committed, unless, first_answered}
 

@@ -1,6 +1,3 @@
-pub mod Entries
-pub mod Named
-pub mod Orders
 pub mod ReadFrames
 pub mod Acting
 pub mod Hearings

@@ -1,7 +1,3 @@
-pub mod TxFaults
-pub mod Transactions
-pub mod Refusals
-pub mod Places
 pub mod Versions
 pub mod Numbers
 pub mod ReadFrames

@@ -12,8 +12,8 @@ use Rattle.command_core.specs.Commands.{Fits}
 use Rattle.command_core.specs.Faults.{fault_of}
 use Rattle.command_core.specs.Operations.{IsOp, op_of}
 use Rattle.command_core.specs.Replies.{error_frame}
-use Rattle.session_core.specs.Refusals.{refusal_of_add, refusal_of_begin, refusal_of_end}
-use Rattle.session_core.specs.Transactions.{added, begun, bytes_of_all, members_of, without}
+use Rattle.tx_core.specs.Refusals.{refusal_of_add, refusal_of_begin, refusal_of_end}
+use Rattle.tx_core.specs.Transactions.{added, begun, bytes_of_all, members_of, without}
 use Rattle.session_core.specs.declared.act.Act.{Act}
 use Rattle.session_core.specs.declared.act.Act.TheVariants.{Do, Direct, Close}
 use Rattle.session_core.specs.declared.act.CloseCode.TheVariants.{NormalClosure, ProtocolError}

@@ -1,6 +1,6 @@
 //! Where a session stands.
 
-use crate::OpenTx;
+use tx_core::OpenTx;
 
 /// Where a session stands.
 #[derive(Drop)]

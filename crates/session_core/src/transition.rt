@@ -2,7 +2,7 @@
 
 ghost use Rattle.std.specs.Prelude.{◌≡◌, ◌++◌, None, IfOk, IsSome, OnOk, MatchResult};
 ghost use Rattle.std.specs.List.{AllByRecursion};
-ghost use Rattle.session_core.specs.TxFaults.{fault_of};
+ghost use Rattle.tx_core.specs.TxFaults.{fault_of};
 ghost use Rattle.session_core.specs.ReadFrames.{IsRead};
 ghost use Rattle.session_core.specs.Sessions.{acts_of, executed, ends_by, first_answered, heard, next, note, phase_of, refused, told, unless, does};
 ghost use Rattle.session_core.specs.declared.phase.Phase.TheVariants as phases;
@@ -16,7 +16,7 @@ use crate::requests::{Request, ask, ask_first};
 use command_core::{End, Fault, HeaderText, Member, Op, error_reply};
 use frame_core::Frame;
 use std::alloc::{AllocError, Global};
-use crate::{OpenTx, TxFault};
+use tx_core::{OpenTx, TxFault};
 
 /// What is to be done for frames, one after another. It answers where the session stands then.
 pub fn answer_all(

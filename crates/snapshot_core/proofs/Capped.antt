@@ -5,7 +5,7 @@ use Rattle.std.proofs.lemmas.List.{take_more, flat_map_more}
 use Rattle.command_core.specs.PartSizes.{sending_size}
 use Rattle.command_core.specs.PartSpellings.{counted, mode_byte, optional}
 use Rattle.command_core.proofs.PartsSized.{sending_sized}
-use Rattle.broker_state.specs.declared.message.Message.{Message}
+use Rattle.line_core.specs.declared.message.Message.{Message}
 use Rattle.snapshot_core.specs.Lengths.{counted_in_eight}
 use Rattle.broker_state.specs.declared.subscription.Subscription.{Subscription}
 use Rattle.broker_core.specs.Names.{Name, name_cmp}

@@ -2,7 +2,7 @@
 use Rattle.std.proofs.Common.{◌≡◌, ◌∙◌, ℕ, List, Option, None, Some, ap, refl, subst, sym}
 use Rattle.command_core.specs.declared.decode_fault.DecodeFault.{DecodeFault}
 use Rattle.command_core.specs.PartReading.{◌>>=◌, Fails, destination_at}
-use Rattle.broker_state.specs.declared.message.Message.{Message}
+use Rattle.line_core.specs.declared.message.Message.{Message}
 use Rattle.broker_core.specs.Names.{Name}
 use Rattle.snapshot_core.specs.Reading.{durable_at, full_name_at, given_at, queue_at, waiting_at}
 use Rattle.snapshot_core.proofs.SnapshotEntries.{Entry}

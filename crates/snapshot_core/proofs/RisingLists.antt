@@ -13,9 +13,9 @@ use Rattle.std.proofs.lemmas.List.Elements.{All-from_get_or, recursion_from_All}
 use Rattle.std.proofs.lemmas.List.Sorted.{sorted_far}
 use Rattle.std.proofs.lemmas.Map.Entries.{length-keys_of}
 use Rattle.std.proofs.lemmas.Map.Keys.{Less-from_sorted, sorted_from_all_adjacent}
-use Rattle.broker_state.specs.declared.message.Message.{Message}
-use Rattle.broker_state.specs.Lines.{IsRising, by_number}
-use Rattle.broker_state.proofs.RisingLines.{ranks}
+use Rattle.line_core.specs.declared.message.Message.{Message}
+use Rattle.line_core.specs.Lines.{IsRising, by_number}
+use Rattle.line_core.proofs.RisingLines.{ranks}
 use Rattle.snapshot_core.specs.Reading.{is_rising, rises}
 
 -- a test that each item passes

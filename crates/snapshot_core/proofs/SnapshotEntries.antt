@@ -8,7 +8,7 @@ use Rattle.command_core.specs.PartReading.{◌>>=◌, destination_at, name_at, t
 use Rattle.command_core.specs.PartSpellings.{AreBytes, IsText, counted, optional}
 use Rattle.command_core.proofs.Formats.{Format, Takes, Takes-then, last_takes, tested}
 use Rattle.command_core.proofs.RecordTexts.{destination_format, name_format, text_format}
-use Rattle.broker_state.specs.declared.message.Message.{Message}
+use Rattle.line_core.specs.declared.message.Message.{Message}
 use Rattle.broker_core.specs.Names.{Name}
 use Rattle.snapshot_core.specs.Reading.{durable_at, given_at, queue_at, session_at, waiting_at}
 use Rattle.snapshot_core.specs.Snapshots.{IsName, IsSession, line, queue, session}

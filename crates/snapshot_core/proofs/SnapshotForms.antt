@@ -10,7 +10,7 @@ use Rattle.std.proofs.lemmas.Option.{none-some, some_pair_parts}
 use Rattle.frame_core.proofs.Lists.{all_both, all_weaker}
 use Rattle.command_core.specs.Destinations.{IsDestination}
 use Rattle.command_core.specs.PartSpellings.{AreBytes}
-use Rattle.broker_state.specs.declared.message.Message.{Message}
+use Rattle.line_core.specs.declared.message.Message.{Message}
 use Rattle.broker_state.specs.declared.subscription.Subscription.{Subscription}
 use Rattle.broker_core.specs.Lists.{is_none}
 use Rattle.broker_core.specs.Names.{Name, name_cmp, text_cmp}

@@ -7,7 +7,7 @@ use Rattle.std.specs.Map.{keys_of, lookup}
 use Rattle.std.specs.Ordering.{is_eq}
 use Rattle.std.specs.declared.cmp.Ordering.TheVariants.{Less}
 use Rattle.frame_core.proofs.Lists.{all_both, all_weaker}
-use Rattle.broker_state.specs.declared.message.Message.{Message}
+use Rattle.line_core.specs.declared.message.Message.{Message}
 use Rattle.broker_core.specs.Lists.{is_none}
 use Rattle.broker_core.specs.Names.{Name, name_cmp}
 use Rattle.broker_core.specs.Operations.{topic_of}

@@ -10,7 +10,7 @@ use Rattle.command_core.specs.PartSpellings.{AreBytes, sending}
 use Rattle.command_core.proofs.Formats.{Format, HasBytes, Listed, Takes, Takes-then, First, first_again, first_takes, last_takes, number, tested, wide32, wide64}
 use Rattle.command_core.proofs.Formats.{listed as format_of_list}
 use Rattle.command_core.proofs.RecordMessages.{sending_format}
-use Rattle.broker_state.specs.declared.message.Message.{Message}
+use Rattle.line_core.specs.declared.message.Message.{Message}
 use Rattle.command_core.specs.PartReading.{listed_at}
 use Rattle.snapshot_core.specs.Reading.{delivery_at, is_rising, keyed_at, message_at, rises, waiting_at}
 use Rattle.snapshot_core.specs.Snapshots.{IsDelivery, IsLine, IsMessage, delivery, line, listed, message}

@@ -16,7 +16,7 @@ use Rattle.command_core.proofs.Formats.{Format, Takes, Takes-then, bind_some, la
 use Rattle.command_core.proofs.RecordModes.{mode_format}
 use Rattle.command_core.proofs.RecordTexts as texts
 use Rattle.command_core.proofs.RecordTexts.{destination_format, name_format, text_format}
-use Rattle.broker_state.specs.declared.message.Message.{Message}
+use Rattle.line_core.specs.declared.message.Message.{Message}
 use Rattle.broker_state.specs.declared.subscription.Subscription.{Subscription}
 use Rattle.broker_core.specs.Names.{Name}
 use Rattle.broker_core.specs.Operations.{client_in}

@@ -7,7 +7,7 @@ use Rattle.command_core.specs.declared.decode_fault.DecodeFault.{DecodeFault}
 use Rattle.command_core.specs.declared.decode_fault.DecodeFault.TheVariants as faults
 use Rattle.command_core.specs.Destinations.{is_queue}
 use Rattle.command_core.specs.PartReading.{◌>>=◌, Fails, destination_at, mode_at, name_at, number_at, text_at}
-use Rattle.broker_state.specs.declared.message.Message.{Message}
+use Rattle.line_core.specs.declared.message.Message.{Message}
 use Rattle.broker_state.specs.declared.subscription.Subscription.{Subscription}
 use Rattle.broker_core.specs.Names.{Name}
 use Rattle.broker_core.specs.Operations.{client_in}

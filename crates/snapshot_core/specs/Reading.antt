@@ -9,8 +9,8 @@ use Rattle.std.specs.declared.cmp.Ordering.{Ordering}
 use Rattle.command_core.specs.declared.ack_mode.AckMode.{AckMode}
 use Rattle.command_core.specs.Destinations.{is_queue}
 use Rattle.command_core.specs.PartReading.{◌>>=◌, Reader, destination_at, listed_at, mode_at, name_at, number_at, sending_at, text_at}
-use Rattle.broker_state.specs.declared.message.Message.{Message}
-use Rattle.broker_state.specs.Lines.{by_number}
+use Rattle.line_core.specs.declared.message.Message.{Message}
+use Rattle.line_core.specs.Lines.{by_number}
 use Rattle.broker_state.specs.declared.subscription.Subscription.{Subscription}
 use Rattle.broker_core.specs.Lists.{is_none}
 use Rattle.broker_core.specs.Names.{Name, name_cmp, text_cmp}

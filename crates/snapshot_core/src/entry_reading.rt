@@ -15,7 +15,7 @@ use broker_state::{DurableName, GivenName};
 use command_core::{
     DecodeFault, Dest, read_destination, read_list, read_name, read_text, read_u64,
 };
-use broker_state::Line;
+use line_core::Line;
 use std::alloc::Global;
 use std::collections::BTreeMap;
 

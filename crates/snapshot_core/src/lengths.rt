@@ -14,7 +14,7 @@ use broker_core::Broker;
 use broker_state::{DurableName, GivenName, Subscription};
 use broker_tables::SharedLines;
 use command_core::{Dest, sending_size, text_size};
-use broker_state::{Line, Message};
+use line_core::{Line, Message};
 use std::collections::BTreeMap;
 
 #[tactic(auto, using(crate::proofs::Capped::message_counted))]

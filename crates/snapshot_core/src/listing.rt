@@ -21,7 +21,7 @@ use broker_state::{DurableName, GivenName, Subscription};
 use broker_tables::SharedLines;
 use command_core::{Dest, HeaderText, Sending, mode_byte};
 use frame_core::Text;
-use broker_state::{Line, Message};
+use line_core::{Line, Message};
 use std::alloc::{AllocError, Global};
 use std::collections::BTreeMap;
 

@@ -7,7 +7,7 @@ ghost use Rattle.snapshot_core.specs.Reading.{delivery_at, keyed_at, message_at,
 
 use crate::rising::{is_rising, rises};
 use command_core::{DecodeFault, read_list, read_sending, read_u32, read_u64};
-use broker_state::{Flight, Line, Message, MessageNumber};
+use line_core::{Flight, Line, Message, MessageNumber};
 use std::alloc::Global;
 
 /// A message: the number of its command, its place there, and what is sent.

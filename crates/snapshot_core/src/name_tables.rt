@@ -4,14 +4,14 @@ ghost use Rattle.std.specs.Prelude.{◌≡◌, IfOk, List, ℕ, OnOk, if◌then�
 ghost use Rattle.std.specs.BTreeMap.{insert_entry};
 ghost use Rattle.std.specs.List.Sorted.{IsStrictlySortedBy};
 ghost use Rattle.std.specs.Map.{keys_of};
-ghost use Rattle.broker_state.specs.declared.message.Message.{Message};
+ghost use Rattle.line_core.specs.declared.message.Message.{Message};
 ghost use Rattle.broker_core.specs.Lists.{is_none};
 ghost use Rattle.broker_core.specs.Names.{Name, name_cmp};
 ghost use Rattle.snapshot_core.specs.Reading.{lines_of};
 
 use broker_state::DurableName;
 use command_core::Dest;
-use broker_state::Line;
+use line_core::Line;
 use std::alloc::{AllocError, Global};
 use std::collections::BTreeMap;
 

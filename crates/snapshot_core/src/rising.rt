@@ -4,11 +4,11 @@ ghost use Rattle.std.specs.Prelude.{◌≡◌, IfOk, IsTrue, None, Some, if◌th
 ghost use Rattle.std.specs.List.Sorted.{IsStrictlySortedBy};
 ghost use Rattle.std.specs.Map.{keys_of};
 ghost use Rattle.command_core.specs.PartReading.{Gives};
-ghost use Rattle.broker_state.specs.Lines.{IsRising};
+ghost use Rattle.line_core.specs.Lines.{IsRising};
 ghost use Rattle.snapshot_core.specs.Reading.{is_rising as stand_rising, rises as keys_rise};
 
 use command_core::DecodeFault;
-use broker_state::Message;
+use line_core::Message;
 use std::alloc::{AllocError, Global};
 use std::collections::BTreeMap;
 

@@ -14,7 +14,7 @@ use command_core::{
     AckMode, DecodeFault, Dest, HeaderText, read_destination, read_list, read_mode, read_text,
     read_u64,
 };
-use broker_state::{Flight, Line, Message};
+use line_core::{Flight, Line, Message};
 use std::alloc::Global;
 use std::collections::BTreeMap;
 

@@ -5,8 +5,8 @@ use Rattle.std.specs.Map.{lookup}
 use Rattle.std.specs.Str.{bytes_eq}
 use Rattle.std.proofs.lemmas.Option.{none-some, same_Some}
 use Rattle.std.specs.Ordering.{is_lt}
-use Rattle.broker_state.specs.Lines.{by_number, inserted}
-use Rattle.broker_state.specs.declared.message.Message.{Message}
+use Rattle.line_core.specs.Lines.{by_number, inserted}
+use Rattle.line_core.specs.declared.message.Message.{Message}
 use Rattle.broker_state.specs.declared.subscription.Subscription.{Subscription}
 use Rattle.broker_state.specs.Lists.{changed, is_none}
 use Rattle.broker_state.specs.Names.{Name, name_cmp, text_cmp}

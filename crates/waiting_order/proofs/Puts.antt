@@ -1,7 +1,7 @@
 -- A message is put into the own lines of a group, one after another.
 use Rattle.std.proofs.Common.{◌≡◌, ◌≢◌, ◌≤◌, ◌+◌, ◌&&◌, List, ℕ, Bool, true, false, Some, suc, length, not, refl, sym, ap, ◌∙◌, arith, slice_get}
-use Rattle.broker_state.specs.Lines.{inserted}
-use Rattle.broker_state.specs.declared.message.Message.{Message}
+use Rattle.line_core.specs.Lines.{inserted}
+use Rattle.line_core.specs.declared.message.Message.{Message}
 use Rattle.broker_state.specs.Lists.{changed, is_none}
 use Rattle.waiting_order.specs.declared.group.Group.{Group}
 use Rattle.waiting_order.specs.declared.places.Place.{Place}

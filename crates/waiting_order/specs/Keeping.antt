@@ -1,6 +1,6 @@
 use Rattle.std.specs.Prelude.{◌++◌, ◌∷◌, [], ℕ, Bool, drop, if◌then◌else◌}
-use Rattle.broker_state.specs.Lines.{inserted}
-use Rattle.broker_state.specs.declared.message.Message.{Message}
+use Rattle.line_core.specs.Lines.{inserted}
+use Rattle.line_core.specs.declared.message.Message.{Message}
 use Rattle.broker_state.specs.declared.subscription.Subscription.{Subscription}
 use Rattle.broker_state.specs.Operations.{settled_by}
 use Rattle.waiting_order.specs.declared.key.Key.{Key}

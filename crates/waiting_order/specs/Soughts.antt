@@ -1,6 +1,6 @@
 use Rattle.std.specs.Prelude.{◌≡◌, ◌&&◌, ◌≤◌, List, ℕ, Bool, true, false, MatchOption, Option, None, Some, nat_le, slice_get, if◌then◌else◌}
 use Rattle.std.specs.Str.{bytes_eq}
-use Rattle.broker_state.specs.Flights.{has_delivery}
+use Rattle.line_core.specs.Flights.{has_delivery}
 use Rattle.broker_state.specs.declared.subscription.Subscription.{Subscription}
 use Rattle.broker_state.specs.Operations.{is_of}
 use Rattle.waiting_order.specs.declared.key.Key.{Key}

@@ -20,7 +20,7 @@ ghost use Rattle.waiting_order.specs.declared.standing.Standing.{Standing};
 use crate::group::Group;
 use crate::places::Place;
 use crate::standings::Standings;
-use broker_state::Message;
+use line_core::Message;
 use slab::Slab;
 use std::alloc::{AllocError, Global};
 use std::collections::BTreeMap;

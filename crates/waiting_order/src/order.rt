@@ -4,8 +4,8 @@ ghost use Rattle.std.specs.Prelude.{◌≡◌, ◌+◌, ◌++◌, ◌∷◌, ◌
 ghost use Rattle.std.specs.List.{sum_by};
 ghost use Rattle.broker_state.specs.declared.subscription.Subscription.{Subscription};
 ghost use Rattle.waiting_order.specs.declared.key.Key.{Key};
-ghost use Rattle.broker_state.specs.Flights.{IsOver, has_delivery, settled};
-ghost use Rattle.broker_state.specs.Lines.{first_of};
+ghost use Rattle.line_core.specs.Flights.{IsOver, has_delivery, settled};
+ghost use Rattle.line_core.specs.Lines.{first_of};
 ghost use Rattle.broker_state.specs.Lists.{changed};
 ghost use Rattle.broker_state.specs.Operations.{is_of, uses};
 ghost use Rattle.waiting_order.specs.Directories.{AreFound, GroupsAreAlike, IsGroup, IsNext, behind_in, is_in, is_plain_at, members};
@@ -25,7 +25,7 @@ use crate::standings::Standings;
 use broker_state::{DurableName, Subscription};
 use command_core::Dest;
 use indexmap::map::Slice;
-use broker_state::Message;
+use line_core::Message;
 use std::alloc::{AllocError, Global};
 use std::marker::Model;
 

@@ -1,13 +1,13 @@
 //! A subscription that waits.
 
 ghost use Rattle.std.specs.Prelude.{◌≡◌, ◌==◌, ◌++◌, ◌∷◌, [], IfOk, None, OnErr, OnOk, Some, drop, length, true, if◌then◌else◌};
-ghost use Rattle.broker_state.specs.Flights.{IsOver, has_delivery, settled};
-ghost use Rattle.broker_state.specs.Lines.{first_of, inserted};
+ghost use Rattle.line_core.specs.Flights.{IsOver, has_delivery, settled};
+ghost use Rattle.line_core.specs.Lines.{first_of, inserted};
 ghost use Rattle.broker_state.specs.Lists.{is_none};
 ghost use Rattle.broker_state.specs.Operations.{settled_by};
 
 use broker_state::Subscription;
-use broker_state::{Message, SettleFault};
+use line_core::{Message, SettleFault};
 use std::alloc::AllocError;
 
 /// A subscription with its ticket, and the handle of its group. Those with lesser tickets are served before it.

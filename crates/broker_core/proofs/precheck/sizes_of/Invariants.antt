@@ -1,5 +1,5 @@
 use Rattle.std.proofs.Common.{◌≡◌, take}
-use Rattle.broker_state.specs.Flights.{mapped}
+use Rattle.line_core.specs.Flights.{mapped}
 use Rattle.broker_core.specs.Prechecks.{sized}
 use Rattle.broker_core.proofs.precheck.sizes_of.Given as goal
 

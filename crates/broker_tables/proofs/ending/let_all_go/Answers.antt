@@ -1,7 +1,7 @@
 use Rattle.std.proofs.Common.{◌∙◌, ap, arith, fold, sym, ℕ}
 use Rattle.std.specs.List.{sum_by}
 use Rattle.std.proofs.lemmas.List.Sums.{sum_by-cons}
-use Rattle.broker_state.specs.declared.message.Message.{Message}
+use Rattle.line_core.specs.declared.message.Message.{Message}
 use Rattle.broker_state.specs.States.{bytes, one, weight_of_subscription}
 use Rattle.broker_state.specs.Waiting.{Shared, returned}
 use Rattle.broker_tables.proofs.ending.let_all_go.Goals as goal

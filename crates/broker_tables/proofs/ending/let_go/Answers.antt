@@ -1,6 +1,6 @@
 use Rattle.std.proofs.Common.{ℕ, ap, arith}
 use Rattle.std.specs.List.{sum_by}
-use Rattle.broker_state.specs.declared.message.Message.{Message}
+use Rattle.line_core.specs.declared.message.Message.{Message}
 use Rattle.broker_state.specs.States.{bytes, one}
 use Rattle.broker_tables.proofs.ending.let_go.Goals as goal
 

@@ -1,6 +1,6 @@
 use Rattle.std.proofs.Common.{◌≡◌, ◌∙◌, Some, true, false, ap, cond, drop, subst, sym}
 use Rattle.std.proofs.lemmas.Result.{IfOk-weaker}
-use Rattle.broker_state.specs.Lines.{first_of}
+use Rattle.line_core.specs.Lines.{first_of}
 use Rattle.broker_state.specs.declared.subscription.Subscription.{Subscription}
 use Rattle.broker_state.specs.Lists.{is_none}
 use Rattle.broker_state.specs.Waiting.{is_own, left_line, left_shared, line_for}

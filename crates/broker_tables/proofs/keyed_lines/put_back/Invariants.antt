@@ -1,6 +1,6 @@
 use Rattle.std.proofs.Common.{◌≡◌, ◌+◌, ℕ}
 use Rattle.std.specs.List.{sum_by}
-use Rattle.broker_state.specs.declared.message.Message.{Message}
+use Rattle.line_core.specs.declared.message.Message.{Message}
 use Rattle.broker_state.specs.Waiting.{weight_of_lines, with_deliveries}
 use Rattle.broker_tables.proofs.keyed_lines.put_back.Given as goal
 

@@ -1,5 +1,5 @@
 use Rattle.std.proofs.Common.{◌≡◌, ◌≤◌, ◌*◌, take}
-use Rattle.broker_state.specs.Flights.{settled}
+use Rattle.line_core.specs.Flights.{settled}
 use Rattle.broker_tables.specs.Refusals.{all_kept_bytes}
 use Rattle.broker_tables.proofs.refusing.bytes_to_keep.Given as goal
 

@@ -1,5 +1,5 @@
 use Rattle.std.proofs.Common.{◌+◌, ◌∙◌, List, ℕ, ap, arith, length, sym}
-use Rattle.broker_state.specs.declared.message.Message.{Message}
+use Rattle.line_core.specs.declared.message.Message.{Message}
 use Rattle.broker_state.specs.Dead.{is_dropped, refused_from, with_refused}
 use Rattle.broker_state.specs.Waiting.{Shared}
 use Rattle.broker_tables.specs.Refusals.{all_kept, all_kept_bytes}

@@ -1,6 +1,6 @@
 use Rattle.std.proofs.Common.{◌≡◌, ◌≤◌, ◌*◌, take}
 use Rattle.std.specs.List.{sum_by}
-use Rattle.broker_state.specs.Flights.{settled}
+use Rattle.line_core.specs.Flights.{settled}
 use Rattle.broker_state.specs.States.{bytes}
 use Rattle.broker_tables.proofs.refusing.settled_bytes.Given as goal
 

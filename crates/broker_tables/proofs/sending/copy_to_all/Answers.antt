@@ -1,5 +1,5 @@
 use Rattle.std.proofs.Common.{◌≡◌, ◌∷◌, ◌∙◌, List, ap, fold, rules, sym}
-use Rattle.broker_state.specs.declared.message.Message.{Message}
+use Rattle.line_core.specs.declared.message.Message.{Message}
 use Rattle.broker_state.specs.Names.{Name, name_cmp}
 use Rattle.broker_state.specs.Waiting.{Lines, Shared, with_message}
 use Rattle.broker_tables.proofs.sending.copy_to_all.Goals as goal

@@ -1,5 +1,5 @@
 use Rattle.std.proofs.Common.{OnOk, subst}
-use Rattle.broker_state.specs.declared.message.Message.{Message}
+use Rattle.line_core.specs.declared.message.Message.{Message}
 use Rattle.broker_tables.specs.Sendings.{IsFannedOut}
 use Rattle.waiting_order.specs.Waiting.{subs_of}
 use Rattle.broker_tables.proofs.sending.fan_out.Goals as goal

@@ -1,5 +1,5 @@
 use Rattle.std.proofs.Common.{◌≡◌, false, sym, ◌∙◌}
-use Rattle.frame_core.proofs.Reading.{unescaped_whole}
+use Rattle.escape_core.proofs.Reading.{unescaped_whole}
 use Rattle.frame_core.specs.Verbs.{is_raw}
 use Rattle.frame_core.proofs.head_lines.meaning_of.Goals as goal
 

@@ -1,6 +1,6 @@
 use Rattle.std.proofs.Common.{◌≡◌, ◌≢◌, ◌+◌, ◌&&◌, ◌∙◌, List, ℕ, Bool, Some, true, false, suc, ap, arith, length, not, refl, rules, slice_get, subst, sym}
 use Rattle.std.proofs.lemmas.Option.{none-some}
-use Rattle.broker_state.specs.declared.message.Message.{Message}
+use Rattle.line_core.specs.declared.message.Message.{Message}
 use Rattle.broker_state.proofs.Firsts.{found}
 use Rattle.broker_state.specs.Lists.{changed, is_none}
 use Rattle.waiting_order.specs.declared.group.Group.{Group}

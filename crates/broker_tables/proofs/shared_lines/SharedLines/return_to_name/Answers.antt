@@ -1,6 +1,6 @@
 use Rattle.std.proofs.Common.{◌∙◌, ℕ, ap, arith}
 use Rattle.std.specs.List.{sum_by}
-use Rattle.broker_state.specs.declared.message.Message.{Message}
+use Rattle.line_core.specs.declared.message.Message.{Message}
 use Rattle.broker_state.specs.Names.{Name, name_cmp}
 use Rattle.broker_state.specs.Waiting.{Lines, Shared, weight_of_shared, with_deliveries}
 use Rattle.broker_state.proofs.Keys.{same_names}

@@ -1,5 +1,5 @@
 use Rattle.std.proofs.Common.{◌≡◌, ◌+◌, ◌++◌, ◌∷◌, ◌∙◌, [], List, Some, ap, arith, drop, refl, remove, slice_get, ℕ}
-use Rattle.broker_state.specs.Flights.{IsOver}
+use Rattle.line_core.specs.Flights.{IsOver}
 use Rattle.broker_state.specs.declared.subscription.Subscription.{Subscription}
 use Rattle.broker_state.specs.HandOut.{delivered, message_out}
 use Rattle.broker_state.specs.States.{bytes, one, weight_of_subscription}

@@ -1,7 +1,7 @@
 use Rattle.std.proofs.Common.{◌≡◌, ◌∙◌, Some, ap, arith, refl, slice_get, subst, sym}
 use Rattle.std.specs.List.{AllByRecursion, sum_by}
 use Rattle.std.proofs.lemmas.Bool.{and_parts}
-use Rattle.broker_state.specs.Flights.{IsOver, has_delivery}
+use Rattle.line_core.specs.Flights.{IsOver, has_delivery}
 use Rattle.broker_state.specs.declared.subscription.Subscription.{Subscription}
 use Rattle.broker_state.specs.Operations.{is_of, settled_by}
 use Rattle.broker_state.specs.States.{bytes, one, weight_of_subscription}

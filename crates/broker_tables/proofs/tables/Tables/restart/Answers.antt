@@ -1,6 +1,6 @@
 use Rattle.std.proofs.Common.{◌≡◌, ◌∙◌, [], List, Option, ap, arith, fold, refl, subst, sym, true, ℕ, length}
 use Rattle.std.specs.List.{AllByRecursion, sum_by}
-use Rattle.broker_state.specs.Flights.{IsOver}
+use Rattle.line_core.specs.Flights.{IsOver}
 use Rattle.broker_state.specs.declared.subscription.Subscription.{Subscription}
 use Rattle.broker_state.specs.States.{State, bytes, one, weight_of_subscription}
 use Rattle.broker_state.specs.HandOut.{can_take}

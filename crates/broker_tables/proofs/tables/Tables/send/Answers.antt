@@ -1,7 +1,7 @@
 use Rattle.std.proofs.Common.{◌≡◌, ◌∙◌, ◌+◌, ◌*◌, true, false, Ok, ap, arith, nat_le, rules, subst, sym}
 use Rattle.std.proofs.lemmas.Bool.{and_parts}
 use Rattle.std.proofs.lemmas.Bool.Decides.{nat_tests}
-use Rattle.broker_state.specs.Messages.{size_of}
+use Rattle.line_core.specs.Messages.{size_of}
 use Rattle.broker_state.specs.Operations.{message_of}
 use Rattle.broker_state.specs.Parts.{copies_to}
 use Rattle.broker_state.specs.States.{IsNext, State, bytes, held_bytes, held_messages, one}

@@ -2,7 +2,7 @@ use Rattle.std.proofs.Common.{◌≡◌, ◌∙◌, List, true, ap, subst, sym}
 use Rattle.std.specs.Option.{option_copied_mut}
 use Rattle.std.proofs.lemmas.Option.{same_Some}
 use Rattle.std.proofs.lemmas.Result.{IfOk-weaker, on_err_weaker, on_ok_weaker}
-use Rattle.broker_state.specs.Flights.{has_delivery, settled}
+use Rattle.line_core.specs.Flights.{has_delivery, settled}
 use Rattle.broker_state.specs.Operations.{settled_by}
 use Rattle.waiting_order.specs.Keeping.{settled_at}
 use Rattle.waiting_order.specs.declared.standing.Standing.{Standing}

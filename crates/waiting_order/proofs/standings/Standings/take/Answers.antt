@@ -1,7 +1,7 @@
 use Rattle.std.proofs.Common.{◌≡◌, ◌==◌, ◌∙◌, List, None, Some, ap, drop, length, sym, if◌then◌else◌}
 use Rattle.std.specs.Option.{option_copied_mut}
 use Rattle.std.proofs.lemmas.Option.{same_Some}
-use Rattle.broker_state.specs.Lines.{first_of}
+use Rattle.line_core.specs.Lines.{first_of}
 use Rattle.waiting_order.specs.Keeping.{taken_from}
 use Rattle.waiting_order.specs.declared.standing.Standing.{Standing}
 use Rattle.waiting_order.proofs.Timed.{W, at_its_key, at_key, order_changed, there_mut, there_now, timed_changed}

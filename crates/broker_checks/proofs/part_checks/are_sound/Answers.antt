@@ -1,5 +1,0 @@
-use Rattle.std.proofs.Common.{rules}
-use Rattle.broker_checks.proofs.part_checks.are_sound.Goals as goal
-
-pub returns-in_ok-has_lines : goal.returns-in_ok-has_lines
-returns-in_ok-has_lines c = search rules

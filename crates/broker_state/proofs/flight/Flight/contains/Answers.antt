@@ -1,5 +1,0 @@
-use Rattle.std.proofs.Common.{rules}
-use Rattle.broker_state.proofs.flight.Flight.contains.Goals as goal
-
-pub returns-clause-has : goal.returns-clause-has
-returns-clause-has g c = search rules

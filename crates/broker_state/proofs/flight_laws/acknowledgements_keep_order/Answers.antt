@@ -1,5 +1,0 @@
-use Rattle.broker_state.proofs.Flights.{rising-settled, rising-unsettled}
-use Rattle.broker_state.proofs.flight_laws.acknowledgements_keep_order.Goals as goal
-
-pub returns : goal.returns
-returns g c = record { settled = rising-settled; unsettled = rising-unsettled }

@@ -1,4 +1,0 @@
-use Rattle.broker_state.proofs.line.Line.new.Goals as goal
-
-pub invariant_of-result : goal.invariant_of-result
-invariant_of-result c = rw c.new.ensures.items tt

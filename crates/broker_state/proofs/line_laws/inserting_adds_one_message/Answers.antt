@@ -1,5 +1,0 @@
-use Rattle.broker_state.proofs.Inserted.{length-inserted, sum_by-inserted}
-use Rattle.broker_state.proofs.line_laws.inserting_adds_one_message.Goals as goal
-
-pub returns : goal.returns
-returns c = record { count = length-inserted; sum = λ f m line. sum_by-inserted m f line }

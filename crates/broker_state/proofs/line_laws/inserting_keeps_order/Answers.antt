@@ -1,5 +1,0 @@
-use Rattle.broker_state.proofs.Inserted.{has_number-inserted, inserted_last, rising_inserted}
-use Rattle.broker_state.proofs.line_laws.inserting_keeps_order.Goals as goal
-
-pub returns : goal.returns
-returns c = record { rising = rising_inserted; numbers = has_number-inserted; last = inserted_last }

@@ -1,6 +1,0 @@
-use Rattle.std.proofs.Common.{◌≡◌, take}
-use Rattle.frame_core.specs.Escapes.{escaped}
-use Rattle.frame_core.proofs.escapes.escape.Given as goal
-
-abbrev pub invariant-loop-b : goal.invariant-loop-b
-invariant-loop-b l = l.written.items ≡ escaped (take l.b-index l.text)

@@ -1,5 +1,0 @@
-use Rattle.frame_core.proofs.Reading.{IsReadTo}
-use Rattle.frame_core.proofs.escapes.unescape.Given as goal
-
-abbrev pub invariant-loop-b : goal.invariant-loop-b
-invariant-loop-b l = IsReadTo l.bytes l.text.items l.in_escape l.b-index

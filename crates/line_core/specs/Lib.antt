@@ -1,0 +1,3 @@
+pub mod Flights
+pub mod Lines
+pub mod Messages

@@ -1,0 +1,4 @@
+pub mod TxFaults
+pub mod Transactions
+pub mod Refusals
+pub mod Places
