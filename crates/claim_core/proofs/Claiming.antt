@@ -1,5 +1,5 @@
 -- The steps of a claimer keep the rule.
-use Rattle.std.proofs.Common.{◌≡◌, ℕ, ◌+◌, ◌*◌, ◌%◌, ◌<◌, ◌≤◌, ◌≢◌, Bool, List, [], ◌∷◌, ◌++◌, length, get_or, set, sym, refl, ap, ◌∙◌, subst, inl, inr, ⊎_elim, arith, length-append, length-set, get_or-set_other, get_or-set_same, mod-lt, mod-eq_of_lt, true, append_assoc}
+use Rattle.std.proofs.Common.{◌≡◌, ℕ, ◌+◌, ◌%◌, ◌<◌, ◌≤◌, ◌≢◌, Bool, List, [], ◌∷◌, ◌++◌, length, get_or, set, sym, refl, ap, ◌∙◌, subst, inl, inr, ⊎_elim, arith, length-append, length-set, get_or-set_other, get_or-set_same, mod-lt, mod-eq_of_lt, true, append_assoc}
 use Rattle.std.proofs.lemmas.Bool.{cases_eq}
 use mathlib.Core.Option.{some, none}
 use lib.ListN.{get_elem?}
@@ -14,6 +14,7 @@ use Rattle.claim_core.specs.declared.views.Claimer.{Claimer}
 use Rattle.claim_core.specs.declared.views.View.{View}
 use Rattle.claim_core.specs.declared.views.View.TheVariants.{Owns, Claims, Spent}
 use Rattle.claim_core.specs.Counts.{Pair, sum_of, same, from, times, above, pends, times_of, pends_of}
+use Rattle.claim_core.specs.Places.{free_for, ready_at}
 use Rattle.claim_core.specs.Rule.{far, ClaimerOk, Fits, Stands, RingRule}
 use Rattle.claim_core.specs.Steps.{claimer, Sat, MayClaim, saw_mark, saw_stop, IsLast, claimed_for, readied}
 use Rattle.claim_core.proofs.Sums.{sum_set, sum_at, sum_le, sum_zero, sum_snoc, same_is, same_not, above_mono, from_one, pends_le}
@@ -116,15 +117,15 @@ module _ {B : Type 0} (key : Limits) (s : St B) (r : RingRule key s) where
 
   -- the seat of c makes its ticket t ready
   readied_at : (id t : ℕ) (c : Claimer) (e : EntryValue B) → get_elem? s.views id ≡ some (Claims c) → c.pending ≡ Some t → ((i : ℕ) × (t ≡ key.base + i) × (get_elem? r.log i ≡ some e.command))
-      → RingRule key record { words = set s.words (t % length s.homes + 3) (3 * t + 1); homes = set s.homes (t % length s.homes) (some (Some e)); views = set s.views id (Claims (claimer c.own None c.seen c.stopped)) }
-  readied_at id t c e at waits said = let n : ℕ = length s.homes in let c' : Claimer = claimer c.own None c.seen c.stopped in let k : ℕ = t % n + 3 in let words' : List ℕ = set s.words k (3 * t + 1) in let homes' : Homes B = set s.homes (t % n) (some (Some e)) in
+      → RingRule key record { words = set s.words (t % length s.homes + 3) (ready_at t); homes = set s.homes (t % length s.homes) (some (Some e)); views = set s.views id (Claims (claimer c.own None c.seen c.stopped)) }
+  readied_at id t c e at waits said = let n : ℕ = length s.homes in let c' : Claimer = claimer c.own None c.seen c.stopped in let k : ℕ = t % n + 3 in let words' : List ℕ = set s.words k (ready_at t) in let homes' : Homes B = set s.homes (t % n) (some (Some e)) in
       let ok : ClaimerOk key.base key.window r.owner.published r.owner.stopped T r.log c = r.each_view id (Claims c) at in let i : ℕ = said.0 in let ti : t ≡ key.base + i = said.1 in let lt : i < length r.log = get_below r.log i e.command said.2 in
       let low : T ≤ t = (ok.pending_own t waits).1 in let nr : N ≤ r.owner.published + n = near key s r in let reach = in_reach t (omega arith) in let high : t < T + n = reach.0 in let pos : 0 < n = let p = r.published_low in omega arith in
       let tn : t % n < n = mod-lt t pos in let w : length s.words ≡ n + 3 = r.wide in
       let ps : ℕ → ℕ = λ u. sum_of (pends_of u) s.views in let ps' : ℕ → ℕ = λ u. sum_of (pends_of u) (set s.views id (Claims c')) in
       let mine : (u : ℕ) → ps' u + pends u (Some t) ≡ ps u + 0 = λ u. subst (λ o. ps' u + pends u o ≡ ps u + 0) waits (sum_set (pends_of u) s.views id (Claims c) (Claims c') at) in
-      claimer_moves key s r id c c' words' homes' r.log at (length-set s.words k (3 * t + 1)) (length-set s.homes (t % n) (some (Some e)))
-      (get_or-set_other s.words k 0 (3 * t + 1) 0 (λ x. omega arith) ∙ r.tail_is) (get_or-set_other s.words k 1 (3 * t + 1) 0 (λ x. omega arith)) (get_or-set_other s.words k 2 (3 * t + 1) 0 (λ x. omega arith))
+      claimer_moves key s r id c c' words' homes' r.log at (length-set s.words k (ready_at t)) (length-set s.homes (t % n) (some (Some e)))
+      (get_or-set_other s.words k 0 (ready_at t) 0 (λ x. omega arith) ∙ r.tail_is) (get_or-set_other s.words k 1 (ready_at t) 0 (λ x. omega arith)) (get_or-set_other s.words k 2 (ready_at t) 0 (λ x. omega arith))
       (λ j x q. q) r.prefix (λ j l. same_sum key s r (times_of (key.base + j)) id (Claims c) (Claims c') at refl ∙ r.once j l)
       record { pairs = ok.pairs; rising = ok.rising; window_kept = ok.window_kept; seen_low = ok.seen_low; stop_seen = ok.stop_seen; few_far = ok.few_far; pending_own = λ u q. absurd (none_not_some u q) }
       (λ u a b h. ⊎_elim
@@ -133,21 +134,21 @@ module _ {B : Type 0} (key : Limits) (s : St B) (r : RingRule key s) where
       inr (inr (
         omega arith,
         (let m = mine u in let z : pends u (Some t) ≡ 1 = same_is u t x in omega arith),
-        subst (λ z. get_or words' (z % n + 3) 0 ≡ 3 * z + 1) (sym x) (get_or-set_same s.words k (3 * t + 1) 0 (omega arith)),
+        subst (λ z. get_or words' (z % n + 3) 0 ≡ ready_at z) (sym x) (get_or-set_same s.words k (ready_at t) 0 (omega arith)),
         (e, i, subst (λ z. get_elem? homes' (z % n) ≡ some (some (Some e))) (sym x) (set_here s.homes (t % n) (some (Some e)) tn), x ∙ ti, said.2),
       )))
-      (λ ne. let other : u % n ≢ t % n = apart T n u t a b low high ne in stands_still n key.base s.words words' s.homes homes' r.log r.log (ps u) (ps' u) u (get_or-set_other s.words k (u % n + 3) (3 * t + 1) 0 (λ x. other (omega arith)))
+      (λ ne. let other : u % n ≢ t % n = apart T n u t a b low high ne in stands_still n key.base s.words words' s.homes homes' r.log r.log (ps u) (ps' u) u (get_or-set_other s.words k (u % n + 3) (ready_at t) 0 (λ x. other (omega arith)))
       (set_else s.homes (t % n) (u % n) (some (Some e)) other) (λ j x q. q) (omega arith) (λ q. q) (let m = mine u in let z : pends u (Some t) ≡ 0 = same_not u t ne in omega arith) (r.places u a b h))
       (cases_eq u t))
       (λ u b held le is. let other : u % n ≢ t % n = apart u n u t (omega arith) (omega arith) (omega arith) (reach.2 u b held) (λ x. omega arith) in
-      (get_or-set_other s.words k (u % n + 3) (3 * t + 1) 0 (λ x. other (omega arith)) ∙ is.0, set_else s.homes (t % n) (u % n) (some (Some e)) other ∙ is.1))
+      (get_or-set_other s.words k (u % n + 3) (ready_at t) 0 (λ x. other (omega arith)) ∙ is.0, set_else s.homes (t % n) (u % n) (some (Some e)) other ∙ is.1))
 
   -- the place of the next ticket is free
   pub next_free : N < r.owner.published + length s.homes → get_elem? s.homes (N % length s.homes) ≡ some (some None)
   next_free lt = let tw = taken_within key s r in let reach = in_reach N lt in
       ⊎_elim (λ a. a.2) (λ b. absurd (⊎_elim (λ c. let l : N < N = c.0 in omega arith) (λ c. let l : N < N = c.0 in omega arith) b)) (r.places N (omega arith) reach.0 reach.1)
 
-  free_face : N < r.owner.published + length s.homes → get_or s.words (N % length s.homes + 3) 0 ≡ 3 * N
+  free_face : N < r.owner.published + length s.homes → get_or s.words (N % length s.homes + 3) 0 ≡ free_for N
   free_face lt = let tw = taken_within key s r in let reach = in_reach N lt in
       ⊎_elim (λ a. a.1) (λ b. absurd (⊎_elim (λ c. let l : N < N = c.0 in omega arith) (λ c. let l : N < N = c.0 in omega arith) b)) (r.places N (omega arith) reach.0 reach.1)
 
@@ -216,7 +217,7 @@ module _ {B : Type 0} (key : Limits) where
         ),
       )
 
-  pub readies : (n id : ℕ) (me : Sat B) (k new t : ℕ) (c : Claimer) (own : List Pair) (e : EntryValue B) (more : List (ℕ × Option (EntryValue B))) → k ≡ t % n + 3 → new ≡ 3 * t + 1 → me.0 ≡ Claims c → c.pending ≡ Some t → c.own ≡ own ++ (t, e.command) ∷ [] → me.1 ≡ (t % n, Some e) ∷ more
+  pub readies : (n id : ℕ) (me : Sat B) (k new t : ℕ) (c : Claimer) (own : List Pair) (e : EntryValue B) (more : List (ℕ × Option (EntryValue B))) → k ≡ t % n + 3 → new ≡ ready_at t → me.0 ≡ Claims c → c.pending ≡ Some t → c.own ≡ own ++ (t, e.command) ∷ [] → me.1 ≡ (t % n, Some e) ∷ more
       → Allows (RingRule key) n id me k (λ _. new) (λ _. readied (step n k new 0 none) me new)
   readies n id me k new t c own e more k_is new_is is waits last has s r wide at _ = let at' : get_elem? s.views id ≡ some (Claims c) = at ∙ ap some is in let m : ℕ = length s.homes in
       let ok : ClaimerOk key.base key.window r.owner.published r.owner.stopped (key.base + length r.owner.taken) r.log c = r.each_view id (Claims c) at' in

@@ -16,6 +16,7 @@ use Rattle.claim_core.specs.declared.views.Owner.{Owner}
 use Rattle.claim_core.specs.declared.views.View.{View}
 use Rattle.claim_core.specs.declared.views.View.TheVariants.{Owns, Claims, Spent}
 use Rattle.claim_core.specs.Counts.{sum_of, times_of, pends_of, heads}
+use Rattle.claim_core.specs.Places.{free_for, ready_at, taken_at}
 use Rattle.claim_core.specs.Rule.{far, stop_word, Fits, Stands, IsHeld, RingRule}
 use Rattle.claim_core.specs.Steps.{owning, next_of, Sat, took, freed, raised, stopped}
 use Rattle.claim_core.proofs.Sums.{sum_set, sum_at}
@@ -89,38 +90,38 @@ module _ {B : Type 0} (key : Limits) (s : St B) (r : RingRule key s) where
   -- the place of the next ticket is ready, and the flusher takes it
   abbrev Takes : EntryValue B → Type 0
   Takes e = (get_elem? s.homes (T % length s.homes) ≡ some (some (Some e)))
-      × RingRule key record { words = set s.words (T % length s.homes + 3) (3 * T + 2); homes = set s.homes (T % length s.homes) none; views = set s.views 0 (Owns (owning r.owner.base (r.owner.taken ++ e.command ∷ []) true r.owner.published r.owner.stopped r.owner.count r.owner.joined)) }
+      × RingRule key record { words = set s.words (T % length s.homes + 3) (taken_at T); homes = set s.homes (T % length s.homes) none; views = set s.views 0 (Owns (owning r.owner.base (r.owner.taken ++ e.command ∷ []) true r.owner.published r.owner.stopped r.owner.count r.owner.joined)) }
 
-  takes_at : r.owner.held ≡ false → get_or s.words (T % length s.homes + 3) 0 ≡ 3 * T + 1 → (e : EntryValue B) × Takes e
+  takes_at : r.owner.held ≡ false → get_or s.words (T % length s.homes + 3) 0 ≡ ready_at T → (e : EntryValue B) × Takes e
   takes_at idle hit = let n : ℕ = length s.homes in let pos : 0 < n = r.some_place in let tn : T % n < n = mod-lt T pos in let w : length s.words ≡ n + 3 = r.wide in let no_hold : r.owner.held ≡ true → ⊥ = λ h. both_ways r.owner.held idle h in
-      ⊎_elim (λ (a : (N ≤ T) × (get_or s.words (T % n + 3) 0 ≡ 3 * T) × (get_elem? s.homes (T % n) ≡ some (some None))). let l = a.1 in absurd (omega arith))
-      (λ z. ⊎_elim (λ (b : (T < N) × (sum_of (pends_of T) s.views ≡ 1) × (get_or s.words (T % n + 3) 0 ≡ 3 * T) × (get_elem? s.homes (T % n) ≡ some none)). let l = b.2 in absurd (omega arith))
+      ⊎_elim (λ (a : (N ≤ T) × (get_or s.words (T % n + 3) 0 ≡ free_for T) × (get_elem? s.homes (T % n) ≡ some (some None))). let l = a.1 in absurd (omega arith))
+      (λ z. ⊎_elim (λ (b : (T < N) × (sum_of (pends_of T) s.views ≡ 1) × (get_or s.words (T % n + 3) 0 ≡ free_for T) × (get_elem? s.homes (T % n) ≡ some none)). let l = b.2 in absurd (omega arith))
       (λ c. let e : EntryValue B = c.3.0 in let i : ℕ = c.3.1 in let ti : T ≡ key.base + i = c.3.3 in let x : CommandValue = e.command in let o = r.owner in let nobody : sum_of (pends_of T) s.views ≡ 0 = c.1 in
       let it : get_elem? r.log (length o.taken) ≡ some x = subst (λ j. get_elem? r.log j ≡ some x) (let g : i ≡ length o.taken = omega arith in g) c.3.4 in
       let on = goes_on o.taken r.prefix.0 x (ap (λ (l : List CommandValue). get_elem? l (length o.taken)) (sym r.prefix.1) ∙ it) in let taken' : List CommandValue = o.taken ++ x ∷ [] in let longer : length taken' ≡ length o.taken + 1 = length-append o.taken (x ∷ []) in
-      let k : ℕ = T % n + 3 in let words' : List ℕ = set s.words k (3 * T + 2) in let homes' : Homes B = set s.homes (T % n) none in let pl : o.published ≤ T = r.published_low in (
+      let k : ℕ = T % n + 3 in let words' : List ℕ = set s.words k (taken_at T) in let homes' : Homes B = set s.homes (T % n) none in let pl : o.published ≤ T = r.published_low in (
         e,
         (
           c.3.2,
-          owner_moves words' homes' taken' true o.published o.stopped (length-set s.words k (3 * T + 2)) (length-set s.homes (T % n) none) (get_or-set_other s.words k 0 (3 * T + 2) 0 (λ q. omega arith)) (get_or-set_other s.words k 1 (3 * T + 2) 0 (λ q. omega arith) ∙ r.mark_is)
-              (get_or-set_other s.words k 2 (3 * T + 2) 0 (λ q. omega arith) ∙ r.stop_is) (λ q. q) (omega arith) (omega arith) (omega arith) (on.0, r.prefix.1 ∙ on.1)
+          owner_moves words' homes' taken' true o.published o.stopped (length-set s.words k (taken_at T)) (length-set s.homes (T % n) none) (get_or-set_other s.words k 0 (taken_at T) 0 (λ q. omega arith)) (get_or-set_other s.words k 1 (taken_at T) 0 (λ q. omega arith) ∙ r.mark_is)
+              (get_or-set_other s.words k 2 (taken_at T) 0 (λ q. omega arith) ∙ r.stop_is) (λ q. q) (omega arith) (omega arith) (omega arith) (on.0, r.prefix.1 ∙ on.1)
               (λ t one le. ⊎_elim (λ (y : t ≡ T). let z : sum_of (pends_of t) s.views ≡ 0 = subst (λ u. sum_of (pends_of u) s.views ≡ 0) (sym y) nobody in absurd (omega arith)) (λ ne. omega arith) (cases_eq t T))
               (λ t a b h. let ne : t ≢ T = λ q. omega arith in let last : t + 1 ≢ key.base + length taken' + n = h refl in let high : t < T + n = omega arith in let other : t % n ≢ T % n = apart T n t T (omega arith) high (omega arith) (omega arith) ne in
-              stands_still n key.base s.words words' s.homes homes' r.log r.log (sum_of (pends_of t) s.views) (sum_of (pends_of t) s.views) t (get_or-set_other s.words k (t % n + 3) (3 * T + 2) 0 (λ q. other (omega arith))) (set_else s.homes (T % n) (t % n) none other)
+              stands_still n key.base s.words words' s.homes homes' r.log r.log (sum_of (pends_of t) s.views) (sum_of (pends_of t) s.views) t (get_or-set_other s.words k (t % n + 3) (taken_at T) 0 (λ q. other (omega arith))) (set_else s.homes (T % n) (t % n) none other)
               (λ j y q. q) (omega arith) (λ q. q) refl (r.places t (omega arith) high (λ h'. absurd (no_hold h'))))
-              (λ _. (T, omega arith, pl, (get_or-set_same s.words k (3 * T + 2) 0 (omega arith), set_here s.homes (T % n) none tn))),
+              (λ _. (T, omega arith, pl, (get_or-set_same s.words k (taken_at T) 0 (omega arith), set_here s.homes (T % n) none tn))),
         ),
       )) z) (r.places T (omega arith) (omega arith) (λ h. absurd (no_hold h)))
 
   -- the place of the ticket t, taken last, is freed for the next round
   frees_at : (t : ℕ) → r.owner.held ≡ true → t + 1 ≡ T
-      → RingRule key record { words = set s.words (t % length s.homes + 3) (3 * (t + length s.homes)); homes = set s.homes (t % length s.homes) (some None); views = set s.views 0 (Owns (owning r.owner.base r.owner.taken false r.owner.published r.owner.stopped r.owner.count r.owner.joined)) }
+      → RingRule key record { words = set s.words (t % length s.homes + 3) (free_for (t + length s.homes)); homes = set s.homes (t % length s.homes) (some None); views = set s.views 0 (Owns (owning r.owner.base r.owner.taken false r.owner.published r.owner.stopped r.owner.count r.owner.joined)) }
   frees_at t held is = let n : ℕ = length s.homes in let pos : 0 < n = r.some_place in let tn : t % n < n = mod-lt t pos in let w : length s.words ≡ n + 3 = r.wide in let h = r.held held in let pt : r.owner.published ≤ t = (let a : h.0 + 1 ≡ T = h.1 in let b : r.owner.published ≤ h.0 = h.2 in omega arith) in
-      let k : ℕ = t % n + 3 in let y : ℕ = 3 * (t + n) in let words' : List ℕ = set s.words k y in let homes' : Homes B = set s.homes (t % n) (some None) in let o = r.owner in let turn : (t + n) % n ≡ t % n = add-mod_right t n in let nr : N ≤ o.published + n = near key s r in
+      let k : ℕ = t % n + 3 in let y : ℕ = free_for (t + n) in let words' : List ℕ = set s.words k y in let homes' : Homes B = set s.homes (t % n) (some None) in let o = r.owner in let turn : (t + n) % n ≡ t % n = add-mod_right t n in let nr : N ≤ o.published + n = near key s r in
       owner_moves words' homes' o.taken false o.published o.stopped (length-set s.words k y) (length-set s.homes (t % n) (some None)) (get_or-set_other s.words k 0 y 0 (λ q. omega arith)) (get_or-set_other s.words k 1 y 0 (λ q. omega arith) ∙ r.mark_is)
       (get_or-set_other s.words k 2 y 0 (λ q. omega arith) ∙ r.stop_is) (λ q. q) (omega arith) r.published_low (omega arith) r.prefix (λ u one le. le)
       (λ u a b _. ⊎_elim
-      (λ (q : u ≡ t + n). inl (omega arith, subst (λ z. get_or words' (z % n + 3) 0 ≡ 3 * z) (sym q) (ap (λ z. get_or words' (z + 3) 0) turn ∙ get_or-set_same s.words k y 0 (omega arith)), subst (λ z. get_elem? homes' (z % n) ≡ some (some None)) (sym q) (ap (get_elem? homes') turn ∙ set_here s.homes (t % n) (some None) tn)))
+      (λ (q : u ≡ t + n). inl (omega arith, subst (λ z. get_or words' (z % n + 3) 0 ≡ free_for z) (sym q) (ap (λ z. get_or words' (z + 3) 0) turn ∙ get_or-set_same s.words k y 0 (omega arith)), subst (λ z. get_elem? homes' (z % n) ≡ some (some None)) (sym q) (ap (get_elem? homes') turn ∙ set_here s.homes (t % n) (some None) tn)))
       (λ ne. let other' : u % n ≢ (t + n) % n = apart T n u (t + n) a b (omega arith) (omega arith) ne in let other : u % n ≢ t % n = λ q. other' (q ∙ sym turn) in
       stands_still n key.base s.words words' s.homes homes' r.log r.log (sum_of (pends_of u) s.views) (sum_of (pends_of u) s.views) u (get_or-set_other s.words k (u % n + 3) y 0 (λ q. other (omega arith))) (set_else s.homes (t % n) (u % n) (some None) other)
       (λ j z q. q) (omega arith) (λ q. q) refl (r.places u a b (λ _ q. ne (omega arith))))
@@ -136,18 +137,18 @@ module _ {B : Type 0} (key : Limits) (s : St B) (r : RingRule key s) where
 
 module _ {B : Type 0} (key : Limits) where
   pub holds : (n id : ℕ) (me : Sat B) (k ticket : ℕ) (o : Owner) → k ≡ ticket % n + 3 → me.0 ≡ Owns o → o.held ≡ false → ticket ≡ next_of o
-      → Allows (RingRule key) n id me k (λ y. either (eqb y (3 * ticket + 1)) (3 * ticket + 2) y) (took (step n k (3 * ticket + 1) (3 * ticket + 2) none) me)
+      → Allows (RingRule key) n id me k (λ y. either (eqb y (ready_at ticket)) (taken_at ticket) y) (took (step n k (ready_at ticket) (taken_at ticket) none) me)
   holds n id me k ticket o k_is is idle t_is s r wide at _ = let at' : get_elem? s.views id ≡ some (Owns o) = at ∙ ap some is in let who = is_owner key s r id o at' in let m : ℕ = length s.homes in let t : ℕ = key.base + length r.owner.taken in
       let next : next_of o ≡ t = ap next_of who.1 ∙ ap (λ z. z + length r.owner.taken) r.base_is in let tt' : ticket ≡ t = t_is ∙ next in
-      subst (λ (z : ℕ). k ≡ ticket % z + 3 → Goes key s k id me (took (step z k (3 * ticket + 1) (3 * ticket + 2) none) me) (either (eqb (get_or s.words k 0) (3 * ticket + 1)) (3 * ticket + 2) (get_or s.words k 0))) wide (λ k_is'.
-      let y : ℕ = get_or s.words k 0 in let told : ℕ → Sat B → Type 0 = took (step m k (3 * ticket + 1) (3 * ticket + 2) none) me in let kt : k ≡ t % m + 3 = k_is' ∙ ap (λ z. z % m + 3) tt' in
-      exchanged y (3 * ticket + 1) (3 * ticket + 2) (Goes key s k id me told)
-      (λ hit. let got = takes_at key s r (ap (λ (z : Owner). z.held) (sym who.1) ∙ idle) (ap (λ z. get_or s.words z 0) (sym kt) ∙ (hit ∙ ap (λ z. 3 * z + 1) tt')) in let e : EntryValue B = got.0 in (
+      subst (λ (z : ℕ). k ≡ ticket % z + 3 → Goes key s k id me (took (step z k (ready_at ticket) (taken_at ticket) none) me) (either (eqb (get_or s.words k 0) (ready_at ticket)) (taken_at ticket) (get_or s.words k 0))) wide (λ k_is'.
+      let y : ℕ = get_or s.words k 0 in let told : ℕ → Sat B → Type 0 = took (step m k (ready_at ticket) (taken_at ticket) none) me in let kt : k ≡ t % m + 3 = k_is' ∙ ap (λ z. z % m + 3) tt' in
+      exchanged y (ready_at ticket) (taken_at ticket) (Goes key s k id me told)
+      (λ hit. let got = takes_at key s r (ap (λ (z : Owner). z.held) (sym who.1) ∙ idle) (ap (λ z. get_or s.words z 0) (sym kt) ∙ (hit ∙ ap ready_at tt')) in let e : EntryValue B = got.0 in (
         Owns (owning o.base (o.taken ++ e.command ∷ []) true o.published o.stopped o.count o.joined),
         takes (next_of o % m) (Some e),
         ap (λ z. get_elem? s.homes (z % m)) next ∙ got.1.0,
         subst (λ (z : ℕ × ℕ × ℕ × ℕ × Owner). RingRule key record { words = set s.words z.0 z.1; homes = set s.homes (z.2 % m) none; views = set s.views z.3 (Owns (owning z.4.base (z.4.taken ++ e.command ∷ []) true z.4.published z.4.stopped z.4.count z.4.joined)) })
-            (λ i. (sym kt i, 3 * sym tt' i + 2, sym next i, sym who.0 i, sym who.1 i)) got.1.1,
+            (λ i. (sym kt i, taken_at (sym tt' i), sym next i, sym who.0 i, sym who.1 i)) got.1.1,
         ((λ miss. absurd (miss hit)), λ _ p same. let op : o ≡ p = owns_injective o p (sym is ∙ same) in (e, ap (λ (z : Owner). (next_of z % m, Some e) ∷ me.1) op, ap (λ (z : Owner). Owns (owning z.base (z.taken ++ e.command ∷ []) true z.published z.stopped z.count z.joined)) op, subst (λ (z : Owner). next_of z < 4 * far) op (omega (arith, tail_low key s r, taken_within key s r, next)))),
       ))
       (λ miss. (
@@ -159,11 +160,11 @@ module _ {B : Type 0} (key : Limits) where
         ((λ _. refl), λ hit. absurd (miss hit)),
       ))) k_is
 
-  pub frees : (n id : ℕ) (me : Sat B) (k new t : ℕ) (o : Owner) (more : List (ℕ × Option (EntryValue B))) → k ≡ t % n + 3 → new ≡ 3 * (t + n) → me.0 ≡ Owns o → o.held ≡ true → t + 1 ≡ next_of o → me.1 ≡ (t % n, None) ∷ more
+  pub frees : (n id : ℕ) (me : Sat B) (k new t : ℕ) (o : Owner) (more : List (ℕ × Option (EntryValue B))) → k ≡ t % n + 3 → new ≡ free_for (t + n) → me.0 ≡ Owns o → o.held ≡ true → t + 1 ≡ next_of o → me.1 ≡ (t % n, None) ∷ more
       → Allows (RingRule key) n id me k (λ _. new) (λ _. freed (step n k new 0 none) me new)
   frees n id me k new t o more k_is new_is is held t_is has s r wide at _ = let at' : get_elem? s.views id ≡ some (Owns o) = at ∙ ap some is in let who = is_owner key s r id o at' in let m : ℕ = length s.homes in
       let next : next_of o ≡ key.base + length r.owner.taken = ap next_of who.1 ∙ ap (λ z. z + length r.owner.taken) r.base_is in
-      subst (λ (z : ℕ). k ≡ t % z + 3 → new ≡ 3 * (t + z) → me.1 ≡ (t % z, None) ∷ more → Goes key s k id me (λ _. freed (step z k new 0 none) me new) new) wide (λ k_is' new_is' has'.
+      subst (λ (z : ℕ). k ≡ t % z + 3 → new ≡ free_for (t + z) → me.1 ≡ (t % z, None) ∷ more → Goes key s k id me (λ _. freed (step z k new 0 none) me new) new) wide (λ k_is' new_is' has'.
       subst (λ (cs : List (ℕ × Option (EntryValue B))). Goes key s k id (me.0, cs) (λ _. freed (step m k new 0 none) (me.0, cs) new) new) (sym has') (
         Owns (owning o.base o.taken false o.published o.stopped o.count o.joined),
         gives,

@@ -9,6 +9,7 @@ use Rattle.command_core.specs.Entries.{EntryValue}
 use Rattle.claim_core.specs.declared.views.Limits.{Limits}
 use Rattle.claim_core.specs.declared.views.Owner.{Owner}
 use Rattle.claim_core.specs.declared.views.View.{View}
+use Rattle.claim_core.specs.Places.{free_for}
 use Rattle.claim_core.specs.Rule.{far, first_view, Fits, RingRule}
 use Rattle.claim_core.specs.Steps.{owning}
 use Rattle.std.specs.Prelude.{All}
@@ -24,13 +25,13 @@ blank (suc n) zero near = refl
 blank (suc n) (suc i) near = blank n i (omega arith)
 
 -- one more place is written
-pub laid_more : (row : List ℕ) (n base i : ℕ) → 0 < n → i < n → IsLaid row n base i → IsLaid (set row ((base + i) % n + 3) (3 * (base + i))) n base (i + 1)
-laid_more row n base i pos lt laid = let t : ℕ = base + i in let k : ℕ = t % n + 3 in let y : ℕ = 3 * t in let tn : t % n < n = mod-lt t pos in let w : length row ≡ n + 3 = laid.0 in (
+pub laid_more : (row : List ℕ) (n base i : ℕ) → 0 < n → i < n → IsLaid row n base i → IsLaid (set row ((base + i) % n + 3) (free_for (base + i))) n base (i + 1)
+laid_more row n base i pos lt laid = let t : ℕ = base + i in let k : ℕ = t % n + 3 in let y : ℕ = free_for t in let tn : t % n < n = mod-lt t pos in let w : length row ≡ n + 3 = laid.0 in (
   length-set row k y ∙ w,
   get_or-set_other row k 0 y 0 (λ q. omega arith) ∙ laid.1,
   get_or-set_other row k 1 y 0 (λ q. omega arith) ∙ laid.2,
   get_or-set_other row k 2 y 0 (λ q. omega arith) ∙ laid.3,
-  λ j lj. ⊎_elim (λ (e : j ≡ i). subst (λ z. get_or (set row k y) ((base + z) % n + 3) 0 ≡ 3 * (base + z)) (sym e) (get_or-set_same row k y 0 (omega arith)))
+  λ j lj. ⊎_elim (λ (e : j ≡ i). subst (λ z. get_or (set row k y) ((base + z) % n + 3) 0 ≡ free_for (base + z)) (sym e) (get_or-set_same row k y 0 (omega arith)))
       (λ ne. let other : (base + j) % n ≢ t % n = apart base n (base + j) t (omega arith) (omega arith) (omega arith) (omega arith) (λ q. ne (omega arith)) in
       get_or-set_other row k ((base + j) % n + 3) y 0 (λ q. other (omega arith)) ∙ laid.4 j (omega arith)) (cases_eq j i),
 )
@@ -65,9 +66,9 @@ starts {B} key row n pos small roomy low laid = let o : Owner = owning key.base 
     each k zero v e = subst (Fits k.base k.window k.base false (k.base + 0) [] 0) (some-injective (first_view k) v e) (refl, λ j c q. absurd (some-ne-none c (sym q)))
     each k (suc j) v e = absurd (some-ne-none v (sym e))
 
-    place : (t : ℕ) → key.base ≤ t → t < key.base + n → get_or row (t % length (map some (replicate {A = Option (EntryValue B)} n None)) + 3) 0 ≡ 3 * t
+    place : (t : ℕ) → key.base ≤ t → t < key.base + n → get_or row (t % length (map some (replicate {A = Option (EntryValue B)} n None)) + 3) 0 ≡ free_for t
     place t a b = let i : ℕ = t - key.base in let e : key.base + i ≡ t = omega arith in let is : length (map some (replicate {A = Option (EntryValue B)} n None)) ≡ n = length-map (replicate {A = Option (EntryValue B)} n None) some ∙ length-replicate n None in
-        subst (λ m. get_or row (t % m + 3) 0 ≡ 3 * t) (sym is) (subst (λ z. get_or row (z % n + 3) 0 ≡ 3 * z) e (laid.4 i (omega arith)))
+        subst (λ m. get_or row (t % m + 3) 0 ≡ free_for t) (sym is) (subst (λ z. get_or row (z % n + 3) 0 ≡ free_for z) e (laid.4 i (omega arith)))
 
 abbrev value_in : {A : Type 0} → A → Option A → A
 value_in d None = d

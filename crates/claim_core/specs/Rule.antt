@@ -12,6 +12,7 @@ use Rattle.claim_core.specs.declared.views.Owner.{Owner}
 use Rattle.claim_core.specs.declared.views.View.{View}
 use Rattle.claim_core.specs.declared.views.View.TheVariants.{Owns, Claims, Spent}
 use Rattle.claim_core.specs.Counts.{Pair, sum_of, times, above, times_of, pends_of, heads}
+use Rattle.claim_core.specs.Places.{free_for, ready_at, taken_at}
 
 -- 2 ^ 60: from here on nothing more is claimed
 abbrev pub far : ℕ
@@ -66,13 +67,13 @@ module _ {B : Type 0} (n : ℕ) (words : List ℕ) (homes : List (maybe.Option (
   -- the seats that t is pending at.
   abbrev pub Stands : ℕ → List CommandValue → ℕ → ℕ → Type 0
   Stands base log p t =
-      ((base + length log ≤ t) × (face t ≡ 3 * t) × (home t ≡ some (some None)))
-      ⊎ (((t < base + length log) × (p ≡ 1) × (face t ≡ 3 * t) × (home t ≡ some none))
-      ⊎ ((t < base + length log) × (p ≡ 0) × (face t ≡ 3 * t + 1) × ((e : EntryValue B) × (i : ℕ) × (home t ≡ some (some (Some e))) × (t ≡ base + i) × (get_elem? log i ≡ some e.command))))
+      ((base + length log ≤ t) × (face t ≡ free_for t) × (home t ≡ some (some None)))
+      ⊎ (((t < base + length log) × (p ≡ 1) × (face t ≡ free_for t) × (home t ≡ some none))
+      ⊎ ((t < base + length log) × (p ≡ 0) × (face t ≡ ready_at t) × ((e : EntryValue B) × (i : ℕ) × (home t ≡ some (some (Some e))) × (t ≡ base + i) × (get_elem? log i ≡ some e.command))))
 
   -- it is out with the flusher
   abbrev pub IsHeld : ℕ → Type 0
-  IsHeld t = (face t ≡ 3 * t + 2) × (home t ≡ some none)
+  IsHeld t = (face t ≡ taken_at t) × (home t ≡ some none)
 
 pub record RingRule {B : Type 0} (key : Limits) (s : State (Option (EntryValue B)) View) : Type 0 where
   -- the history, and the owner's view

@@ -1,11 +1,12 @@
 //! The steps on the ring's words. Each keeps the rule of the ring.
 
-ghost use Rattle.std.specs.Prelude.{◌≡◌, ◌+◌, ◌*◌, ◌<◌, ◌≤◌, ◌^◌, List, [], ◌∷◌, None, Some, false};
+ghost use Rattle.std.specs.Prelude.{◌≡◌, ◌<◌, ◌≤◌, ◌^◌, List, [], ◌∷◌, None, Some, false};
 ghost use mathlib.Core.Option.{none};
 ghost use Rattle.atomic_table.specs.Table.{step};
 ghost use Rattle.claim_core.specs.declared.views.Claimer.{Claimer};
 ghost use Rattle.claim_core.specs.declared.views.Owner.{Owner};
 ghost use Rattle.claim_core.specs.declared.views.View.TheVariants.{Owns, Claims, Spent};
+ghost use Rattle.claim_core.specs.Places.{ready_at, taken_at};
 ghost use Rattle.claim_core.specs.Steps.{saw_mark, saw_stop, claimed, readied, took, freed, raised, stopped, ended, dealt, fresh, joined_to, handed_back, came_back, nobody, next_of, MayClaim, MayFill, MayFree, MayRaise, IsAt, IsPlaceOf};
 
 use crate::plays::{
@@ -75,7 +76,7 @@ pub fn ready<B>(
     entry: Entry<B>,
 )
     requires fits { IsAt seat.old.table_id board.now.table_id }
-    requires place { IsPlaceOf ticket place board.now.table_id.slots × (3 * ticket + 1 < 2 ^ 64) }
+    requires place { IsPlaceOf ticket place board.now.table_id.slots × (ready_at ticket < 2 ^ 64) }
     requires claimed { MayFill ticket place entry seat.old.me }
     ensures ring { seat.new.table_id ≡ seat.old.table_id }
     ensures told { readied (step 0 0 0 0 none) seat.old.me 0 seat.new.me }
@@ -87,13 +88,13 @@ pub fn ready<B>(
     board.store::<Ready>(seat, FIRST_PLACE + place, 3 * ticket + 1);
 }
 
-// The flusher's seat takes the place of the next ticket, if that is ready: then the answer is 3 * ticket + 1.
+// The flusher's seat takes the place of the next ticket, if that is ready: then the answer is `ready_at ticket`.
 pub fn hold<B>(board: &Board<B>, seat: &mut TableSeat<B>, ticket: u64, place: usize) -> u64
     requires fits { IsAt seat.old.table_id board.now.table_id }
-    requires place { IsPlaceOf ticket place board.now.table_id.slots × (3 * ticket + 2 < 2 ^ 64) }
+    requires place { IsPlaceOf ticket place board.now.table_id.slots × (taken_at ticket < 2 ^ 64) }
     requires owner { (o : Owner) × (seat.old.me.0 ≡ Owns o) × (o.held ≡ false) × (ticket ≡ next_of o) }
     ensures ring { seat.new.table_id ≡ seat.old.table_id }
-    ensures told { took (step board.now.table_id.slots 0 (3 * ticket + 1) 0 none) seat.old.me result seat.new.me }
+    ensures told { took (step board.now.table_id.slots 0 (ready_at ticket) 0 none) seat.old.me result seat.new.me }
 {
     board.compare_exchange::<Take>(seat, FIRST_PLACE + place, 3 * ticket + 1, 3 * ticket + 2)
 }
