@@ -13,7 +13,7 @@ use Rattle.recover_core.specs.declared.faults.OpenFault.{OpenFault}
 use Rattle.recover_core.specs.declared.faults.OpenFault.TheVariants.{Area, Read, CountTooLarge}
 use Rattle.recover_core.specs.Standing.{Stands}
 use Rattle.recover_core.specs.declared.store.Store.{Store}
-use Rattle.flush_core.specs.Flushed.{Flushed, flushed}
+use Rattle.flush_core.specs.Flushed.{Flushed, new_flusher}
 use Rattle.engine_core.specs.Hubs.{HubValue, hub, IsFirst, IsWhole, Begins, IsWant}
 
 -- what is so of what an option holds
@@ -24,7 +24,7 @@ pub some_of : {X : Type 0} (o : Option X) (x : X) (P : X → Type 0) → Some x 
 some_of o x P e p = let At : Option _ → Type 0 = λ k. IfSome k P in subst At (sym e) p
 
 pub first : {D : Type 0} {disk : Ghosts D} (f : Flushed D) (store : Store D disk) (seat : FlushSeatValue) (broker : BrokerValue) (ring : TableId) (base : ℕ)
-    → f ≡ flushed store seat broker.state seat.base seat.base [] broker [] [] [] [] [] false None seat.base → seat ≡ new_flushing ring base SEATS → broker.broken ≡ false → IsFirst ring base f
+    → f ≡ new_flusher store seat broker → seat ≡ new_flushing ring base SEATS → broker.broken ≡ false → IsFirst ring base f
 first f store seat broker ring base is seat_is whole =
     let base_is : seat.base ≡ base = ap (λ (s : FlushSeatValue). s.base) seat_is in
     let broker_is : f.broker ≡ broker = ap (λ (x : Flushed _). x.broker) is in

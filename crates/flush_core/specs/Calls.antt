@@ -19,15 +19,15 @@ use Rattle.claim_core.specs.Seats.{FlushSeatValue, next_ticket}
 use Rattle.recover_core.specs.declared.store.Store.{Store}
 use Rattle.recover_core.specs.Calls.{StoreAdds, StoreRefuses}
 use Rattle.recover_core.specs.Compactions.{HasNoRoomFor, HoldsItAlone}
-use Rattle.recover_core.specs.Standing.{StandFor, StandsForEither}
+use Rattle.recover_core.specs.Standing.{StandFor, Stands, StandsForEither}
 use Rattle.recover_core.specs.Stores.{disk_of, is_broken, size_of, used_of}
 use Rattle.flush_core.specs.declared.faults.FlushFault.{FlushFault}
 use Rattle.flush_core.specs.declared.faults.FlushFault.TheVariants.{Full}
 use Rattle.flush_core.specs.Backlogs.{IsLight}
 use Rattle.flush_core.specs.Batches.{IsBatch, block_bytes, from_on, state_at, with_more}
-use Rattle.flush_core.specs.Faults.{IfMemory, IsFlushCaused}
+use Rattle.flush_core.specs.Faults.{IfMemory, IsFlushCaused, NeedsNoDisk}
 use Rattle.flush_core.specs.Flushed.{Flushed, HasStopped, gathered, state_stored}
-use Rattle.flush_core.specs.Outcomes.{IsCompacted, IsLeft, IsNext, IsOutcome, IsTurn, IsTurned, compacted, storing}
+use Rattle.flush_core.specs.Outcomes.{IsCompacted, IsLeft, IsNext, IsOutcome, IsTurn, IsTurned, compacted, storing, taking}
 use Rattle.flush_core.specs.Room.{Fits, HasNoRoom, HasNoRoomForState, HasNoRoomLeft, IsTooLong, StoresAfresh, used_afresh}
 use Rattle.flush_core.specs.Sessions.{boxes_after, ended_of}
 
@@ -35,7 +35,11 @@ use Rattle.flush_core.specs.Sessions.{boxes_after, ended_of}
 abbrev pub UnbrokenThroughout : {D : Type 0} → Ghosts D → Flushed D → Flushed D → (List ℕ → Type 0) → Type 0
 UnbrokenThroughout disk old new P = disk.honest old.disk → old.broken ≡ false → LeavesOnly disk.moment disk.images_since old.disk new.disk P
 
--- And it stands for the state after what is stored, or after `count` more commands.
+-- And it stands for the state after what is stored.
+abbrev pub SameThroughout : {D : Type 0} → Ghosts D → Flushed D → Flushed D → Type 0
+SameThroughout disk old new = UnbrokenThroughout disk old new (λ c. Stands c (state_stored old))
+
+-- Or it stands for that state, or for the one after `count` more commands.
 abbrev pub EitherThroughout : {D : Type 0} → Ghosts D → Flushed D → Flushed D → ℕ → Type 0
 EitherThroughout disk old new count = UnbrokenThroughout disk old new (StandsForEither (state_stored old) (state_at old.opening old.seat (old.stored + count)))
 
@@ -45,6 +49,12 @@ pub record FlushBreaks {D X : Type 0} (disk : Ghosts D) (old new : Flushed D) (r
   pub outcome : IsOutcome old new result
   pub stops : OnErr result (HasStopped new)
   pub cause : IsFlushCaused (disk.failures old.disk) (disk.failures new.disk) result
+
+-- The same for a call that reaches no disk.
+pub record BreaksInMemory {D X : Type 0} (old new : Flushed D) (result : Result X FlushFault) : Type 0 where
+  pub outcome : IsOutcome old new result
+  pub stops : OnErr result (HasStopped new)
+  pub fault : NeedsNoDisk result
 
 -- The same for a turn, which may have taken and stored commands by then.
 pub record TurnBreaks {D X : Type 0} (disk : Ghosts D) (old new : Flushed D) (result : Result X FlushFault) : Type 0 where
@@ -171,6 +181,14 @@ pub record RefusesTurn {D X : Type 0} (disk : Ghosts D) (most most_bytes : ℕ) 
 -- `count` more entries are taken, and come after the batch.
 abbrev pub TakesMore : FlushSeatValue → FlushSeatValue → List (EntryValue SenderValue) → List (EntryValue SenderValue) → ℕ → Type 0
 TakesMore old new batch longer count = (more : List (EntryValue SenderValue)) × (length more ≡ count) × (new ≡ with_more old (commands more)) × (longer ≡ batch ++ more)
+
+-- The same of a flusher, of which nothing else has changed.
+abbrev pub Gathers : {D : Type 0} → Flushed D → Flushed D → ℕ → Type 0
+Gathers old new count = (more : List (EntryValue SenderValue)) × (length more ≡ count) × (new ≡ taking old more)
+
+-- No command is taken, and the disk stays.
+abbrev pub GathersNone : {D : Type 0} → Flushed D → Flushed D → Type 0
+GathersNone old new = (new.disk ≡ old.disk) × (new.seat.taken ≡ old.seat.taken)
 
 -- The entries are executed, in turn. The broker has the state after them, and their outputs come after those that wait. The boxes that came
 -- with Opens are kept, and the sessions that ended are noted.

@@ -1,5 +1,5 @@
 -- What contracts see of a flusher, and what it keeps.
-use Rattle.std.specs.Prelude.{◌≡◌, ◌≤◌, ◌<◌, ◌+◌, ◌^◌, ℕ, List, Bool, Option, true, false, length}
+use Rattle.std.specs.Prelude.{◌≡◌, ◌≤◌, ◌<◌, ◌+◌, ◌^◌, ℕ, List, [], Bool, Option, None, true, false, length}
 use Rattle.std.specs.List.{AllByRecursion}
 use Rattle.disk_core.specs.declared.disk.Disk.{Ghosts}
 use Rattle.command_core.specs.Commands.{CommandValue}
@@ -45,9 +45,26 @@ pub record Flushed (D : Type 0) : Type 0 where
   pub broken : Bool
   pub last : Compaction
 
-abbrev pub flushed : {D : Type 0} {disk : Ghosts D} → Store D disk → FlushSeatValue → State → ℕ → ℕ → List (EntryValue SenderValue) → BrokerValue → Kept → List ℕ → List ℕ → List OutValue → List OutValue → Bool → Option ℕ → ℕ → Flushed D
-flushed store seat opening stored executed brought broker boxes ended past waiting left broken won since =
-    record { disk = disk_of store; size = size_of store; used = used_of store; seat = seat; opening = opening; stored = stored; executed = executed; brought = brought; broker = broker; boxes = boxes; ended = ended; past = past; waiting = waiting; left = left; broken = broken; last = record { won = won; since = since } }
+-- a flusher that is new, made of these
+abbrev pub new_flusher : {D : Type 0} {disk : Ghosts D} → Store D disk → FlushSeatValue → BrokerValue → Flushed D
+new_flusher store seat broker = record {
+  disk = disk_of store;
+  size = size_of store;
+  used = used_of store;
+  seat = seat;
+  opening = broker.state;
+  stored = seat.base;
+  executed = seat.base;
+  brought = [];
+  broker = broker;
+  boxes = [];
+  ended = [];
+  past = [];
+  waiting = [];
+  left = [];
+  broken = false;
+  last = record { won = None; since = seat.base };
+}
 
 -- the state after all that is stored
 abbrev pub state_stored : {D : Type 0} → Flushed D → State

@@ -2,6 +2,7 @@ pub mod Backlogs
 pub mod Batches
 pub mod Calls
 pub mod Faults
+pub mod Fields
 pub mod Flushed
 pub mod Outcomes
 pub mod Room

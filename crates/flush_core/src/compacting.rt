@@ -2,9 +2,8 @@
 
 ghost use Rattle.std.specs.Prelude.{◌≡◌, OnErr, OnOk, None, true, false};
 ghost use Rattle.disk_core.specs.Calls.{Lasts};
-ghost use Rattle.recover_core.specs.Standing.{Stands};
-ghost use Rattle.flush_core.specs.Calls.{FlushBreaks, FlushCompacts, RefusesState, UnbrokenThroughout, WinsRoom};
-ghost use Rattle.flush_core.specs.Flushed.{HasExecuted, IsFlusher, gathered, state_stored};
+ghost use Rattle.flush_core.specs.Calls.{FlushBreaks, FlushCompacts, RefusesState, SameThroughout, WinsRoom};
+ghost use Rattle.flush_core.specs.Flushed.{HasExecuted, IsFlusher, gathered};
 ghost use Rattle.flush_core.specs.Room.{Fits, IsTooLong};
 
 use crate::FlushFault;
@@ -29,7 +28,7 @@ impl<D: Disk, B: Bell, W: Width> Flusher<D, B, W> {
     ) -> Result<(), FlushFault>
         requires ring { self.old.seat.ring ≡ ring.now }
         requires executed { self.old.broken ≡ false → self.old.executed ≡ self.old.stored }
-        ensures any_moment { UnbrokenThroughout D.Disk self.old self.new (λ c. Stands c (state_stored self.old)) }
+        ensures any_moment { SameThroughout D.Disk self.old self.new }
         ensures compacts { OnOk result (FlushCompacts D.Disk self.old self.new) }
         ensures refuses { RefusesState D.Disk self.old self.new result }
         ensures breaks { FlushBreaks D.Disk self.old self.new result }
@@ -49,7 +48,7 @@ impl<D: Disk, B: Bell, W: Width> Flusher<D, B, W> {
     ) -> Result<(), FlushFault>
         requires ring { self.old.seat.ring ≡ ring.now }
         requires done { HasExecuted self.old }
-        ensures any_moment { UnbrokenThroughout D.Disk self.old self.new (λ c. Stands c (state_stored self.old)) }
+        ensures any_moment { SameThroughout D.Disk self.old self.new }
         ensures compacts { OnOk result (FlushCompacts D.Disk self.old self.new) }
         ensures refuses { RefusesState D.Disk self.old self.new result }
         ensures breaks { FlushBreaks D.Disk self.old self.new result }
@@ -106,7 +105,7 @@ impl<D: Disk, B: Bell, W: Width> Flusher<D, B, W> {
     ) -> Result<(), FlushFault>
         requires ring { self.old.seat.ring ≡ ring.now }
         requires done { HasExecuted self.old }
-        ensures any_moment { UnbrokenThroughout D.Disk self.old self.new (λ c. Stands c (state_stored self.old)) }
+        ensures any_moment { SameThroughout D.Disk self.old self.new }
         ensures wins { WinsRoom D.Disk self.old self.new result }
         ensures refuses { RefusesState D.Disk self.old self.new result }
         ensures breaks { OnErr result (FlushBreaks D.Disk self.old self.new result) }

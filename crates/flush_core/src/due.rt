@@ -3,9 +3,8 @@
 ghost use Rattle.std.specs.Prelude.{◌≡◌, ◌≤◌, ◌-◌, OnOk, false, true};
 ghost use Rattle.disk_core.specs.Calls.{Lasts};
 ghost use Rattle.recover_core.specs.Compactions.{HasNoRoomFor};
-ghost use Rattle.recover_core.specs.Standing.{Stands};
 ghost use Rattle.flush_core.specs.Backlogs.{IsLight, backlog, most_cost};
-ghost use Rattle.flush_core.specs.Calls.{CompactsIfDue, FlushBreaks, MayCompact, RefusesState, UnbrokenThroughout};
+ghost use Rattle.flush_core.specs.Calls.{CompactsIfDue, FlushBreaks, MayCompact, RefusesState, SameThroughout};
 ghost use Rattle.flush_core.specs.Flushed.{HasExecuted, IsFlusher, state_stored};
 
 use crate::FlushFault;
@@ -30,7 +29,7 @@ impl<D: Disk, B: Bell, W: Width> Flusher<D, B, W> {
     ) -> Result<(), FlushFault>
         requires ring { self.old.seat.ring ≡ ring.now }
         requires executed { self.old.broken ≡ false → self.old.executed ≡ self.old.stored }
-        ensures any_moment { UnbrokenThroughout D.Disk self.old self.new (λ c. Stands c (state_stored self.old)) }
+        ensures any_moment { SameThroughout D.Disk self.old self.new }
         ensures compacts { OnOk result (CompactsIfDue D.Disk self.old self.new) }
         ensures refuses { RefusesState D.Disk self.old self.new result }
         ensures breaks { FlushBreaks D.Disk self.old self.new result }
@@ -54,7 +53,7 @@ impl<D: Disk, B: Bell, W: Width> Flusher<D, B, W> {
     ) -> Result<(), FlushFault>
         requires ring { self.old.seat.ring ≡ ring.now }
         requires executed { self.old.broken ≡ false → self.old.executed ≡ self.old.stored }
-        ensures any_moment { UnbrokenThroughout D.Disk self.old self.new (λ c. Stands c (state_stored self.old)) }
+        ensures any_moment { SameThroughout D.Disk self.old self.new }
         ensures compacts { OnOk result (MayCompact D.Disk self.old self.new) }
         ensures none { OnOk result (self.new.last.since ≡ self.new.stored) }
         ensures refuses { RefusesState D.Disk self.old self.new result }
@@ -119,7 +118,7 @@ impl<D: Disk, B: Bell, W: Width> Flusher<D, B, W> {
     ) -> Result<(), FlushFault>
         requires ring { self.old.seat.ring ≡ ring.now }
         requires done { HasExecuted self.old }
-        ensures any_moment { UnbrokenThroughout D.Disk self.old self.new (λ c. Stands c (state_stored self.old)) }
+        ensures any_moment { SameThroughout D.Disk self.old self.new }
         ensures compacts { OnOk result (MayCompact D.Disk self.old self.new) }
         ensures none { OnOk result (self.new.last.since ≡ self.new.stored) }
         ensures refuses { RefusesState D.Disk self.old self.new result }

@@ -1,12 +1,11 @@
 //! Executing the commands.
 
-ghost use Rattle.std.specs.Prelude.{◌≡◌, ◌<◌, ◌≤◌, ◌+◌, ◌++◌, ◌&&◌, ◌^◌, [], ◌∷◌, OnErr, OnOk, true, false, not, if◌then◌else◌, length};
+ghost use Rattle.std.specs.Prelude.{◌≡◌, ◌<◌, ◌≤◌, ◌+◌, ◌++◌, ◌&&◌, ◌^◌, [], ◌∷◌, OnOk, true, false, not, if◌then◌else◌, length};
 ghost use Rattle.broker_state.specs.States.{is_open};
 ghost use Rattle.broker_core.specs.Steps.{outs, step};
-ghost use Rattle.flush_core.specs.Calls.{Executes, HasRoom};
-ghost use Rattle.flush_core.specs.Faults.{IsMemory, NeedsNoDisk};
-ghost use Rattle.flush_core.specs.Flushed.{HasStopped};
-ghost use Rattle.flush_core.specs.Outcomes.{IsOutcome, executing};
+ghost use Rattle.flush_core.specs.Calls.{BreaksInMemory, Executes, HasRoom};
+ghost use Rattle.flush_core.specs.Faults.{IsMemory};
+ghost use Rattle.flush_core.specs.Outcomes.{executing};
 ghost use Rattle.flush_core.specs.Sessions.{ended_by, opened};
 
 use crate::FlushFault;
@@ -198,9 +197,7 @@ impl<D: Disk, B: Bell, W: Width> Flusher<D, B, W> {
         requires ring { self.old.seat.ring ≡ ring.now }
         ensures executed { OnOk result (self.new ≡ executing self.old) }
         ensures untouched { self.new.disk ≡ self.old.disk }
-        ensures outcome { IsOutcome self.old self.new result }
-        ensures stops { OnErr result (HasStopped self.new) }
-        ensures fault { NeedsNoDisk result }
+        ensures breaks { BreaksInMemory self.old self.new result }
     {
         if self.is_broken() {
             return Err(FlushFault::Broken);
@@ -218,9 +215,7 @@ impl<D: Disk, B: Bell, W: Width> Flusher<D, B, W> {
         requires whole { self.old.broken ≡ false }
         ensures executed { OnOk result (self.new ≡ executing self.old) }
         ensures untouched { self.new.disk ≡ self.old.disk }
-        ensures outcome { IsOutcome self.old self.new result }
-        ensures stops { OnErr result (HasStopped self.new) }
-        ensures fault { NeedsNoDisk result }
+        ensures breaks { BreaksInMemory self.old self.new result }
     {
         let (steps, bytes) = (steps_of(&self.done), bytes_of(&self.done));
         let waited = self.outlet.waiting.len();

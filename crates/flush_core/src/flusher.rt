@@ -1,12 +1,12 @@
 //! The flusher, and what it keeps.
 
-ghost use Rattle.std.specs.Prelude.{◌≡◌, ◌≤◌, ◌==◌, ◌^◌, [], None, false, length};
+ghost use Rattle.std.specs.Prelude.{◌≡◌, ◌≤◌, ◌==◌, ◌^◌, [], false, length};
 ghost use Rattle.disk_core.specs.Fuse.{calls_left, fused};
 ghost use Rattle.recover_core.specs.Standing.{StandFor};
 ghost use Rattle.recover_core.specs.Stores.{disk_of, is_broken};
 ghost use Rattle.claim_core.specs.Endings.{Agree};
 ghost use Rattle.claim_core.specs.Seats.{next_ticket};
-ghost use Rattle.flush_core.specs.Flushed.{HoldBetween, IsFlusher, IsSame, flushed};
+ghost use Rattle.flush_core.specs.Flushed.{HoldBetween, IsFlusher, IsSame, new_flusher};
 
 use crate::outlet::Outlet;
 use crate::width::Width;
@@ -53,23 +53,15 @@ pub struct Flusher<D: Disk, B: Bell, W: Width> {
 }
 
 impl<D: Disk, B: Bell, W: Width> Model for Flusher<D, B, W> {
-    ghost use Rattle.std.specs.Prelude.{◌≡◌, ◌++◌, false, length, vec_capacity};
-    ghost use Rattle.recover_core.specs.Stores.{is_broken, size_of};
-    ghost use Rattle.area_core.specs.Areas.{commands};
-    ghost use Rattle.flush_core.specs.Backlogs.{IsCounted};
-    ghost use Rattle.flush_core.specs.Batches.{IsBatch, block_bytes};
-    ghost use Rattle.flush_core.specs.Flushed.{Flushed, IsFlusher, IsHeld, IsSpare, flushed};
+    ghost use Rattle.flush_core.specs.Flushed.{Flushed};
 
     ghost Value = { Flushed D };
 
-    ghost view = { λ a. flushed a.journal a.seat a.opening.value.state a.stored a.executed (a.done.items ++ a.batch.items) a.broker a.outlet.boxes a.outlet.ended.items a.outlet.past.items a.outlet.waiting.items a.outlet.left.items a.broken a.won a.since };
+    ghost use Rattle.flush_core.specs.Fields.{Keeps, flushed_of};
 
-    ghost invariant = { λ a. IsFlusher D.honest D.images (flushed a.journal a.seat a.opening.value.state a.stored a.executed (a.done.items ++ a.batch.items) a.broker a.outlet.boxes a.outlet.ended.items a.outlet.past.items a.outlet.waiting.items a.outlet.left.items a.broken a.won a.since)
-        × (a.broken ≡ false → IsHeld a.seat a.stored a.executed (is_broken a.journal) a.batch.items a.done.items a.bytes
-        (length a.outlet.left.items) (length a.outlet.waiting.items) (vec_capacity a.outlet.left))
-        × (a.broken ≡ false → IsSpare (length a.outlet.spare.items) (length a.outlet.waiting.items) (vec_capacity a.outlet.spare))
-        × (a.broken ≡ false → IsBatch W.COMMANDS (block_bytes (size_of a.journal) W.BYTES) (commands a.batch.items))
-        × (a.broken ≡ false → IsCounted a.opening.value.state a.seat a.since a.executed a.counted) };
+    ghost view = { flushed_of };
+
+    ghost invariant = { Keeps W.COMMANDS W.BYTES };
 }
 
 impl<D: Disk, B: Bell, W: Width> Flusher<D, B, W> {
@@ -85,7 +77,7 @@ impl<D: Disk, B: Bell, W: Width> Flusher<D, B, W> {
         requires stands { D.honest (disk_of journal) → StandFor (D.images (disk_of journal)) broker.state }
         requires fresh { (seat.taken ≡ []) × (seat.published ≡ seat.base) }
         requires count { broker.state.count ≡ seat.base }
-        ensures { result ≡ flushed journal seat broker.state seat.base seat.base [] broker [] [] [] [] [] false None seat.base }
+        ensures { result ≡ new_flusher journal seat broker }
     {
         let next = seat.next();
         let broken = broker.is_broken();

@@ -1,14 +1,10 @@
 //! Taking commands from the ring.
 
-ghost use Rattle.std.specs.Prelude.{◌≡◌, ◌≤◌, ◌^◌, List, IfOk, OnErr, true, false, length, vec_capacity};
-ghost use Rattle.command_core.specs.Entries.{EntryValue};
-ghost use Rattle.outbox_core.specs.Boxes.{SenderValue};
+ghost use Rattle.std.specs.Prelude.{◌≡◌, ◌≤◌, ◌^◌, IfOk, OnErr, true, false, length, vec_capacity};
 ghost use Rattle.area_core.specs.Areas.{commands, records};
 ghost use Rattle.flush_core.specs.Batches.{IsBatch, block_bytes};
-ghost use Rattle.flush_core.specs.Calls.{TakesMore};
-ghost use Rattle.flush_core.specs.Faults.{NeedsNoDisk};
-ghost use Rattle.flush_core.specs.Flushed.{HasStopped, gathered};
-ghost use Rattle.flush_core.specs.Outcomes.{IsOutcome, taking};
+ghost use Rattle.flush_core.specs.Calls.{BreaksInMemory, Gathers, GathersNone, TakesMore};
+ghost use Rattle.flush_core.specs.Flushed.{gathered};
 
 use crate::FlushFault;
 use crate::flusher::Flusher;
@@ -90,12 +86,10 @@ impl<D: Disk, B: Bell, W: Width> Flusher<D, B, W> {
     /// `Memory` comes before anything is taken.
     pub fn gather(&mut self, ring: &BrokerRing<OutSender<B>>) -> Result<u64, FlushFault>
         requires ring { self.old.seat.ring ≡ ring.now }
-        ensures taken { IfOk result (λ count. (more : List (EntryValue SenderValue)) × (length more ≡ count) × (self.new ≡ taking self.old more)) }
+        ensures taken { IfOk result (Gathers self.old self.new) }
         ensures batch { IfOk result (λ count. IsBatch W.COMMANDS (block_bytes self.old.size W.BYTES) (gathered self.new)) }
-        ensures untouched { OnErr result ((self.new.disk ≡ self.old.disk) × (self.new.seat.taken ≡ self.old.seat.taken)) }
-        ensures outcome { IsOutcome self.old self.new result }
-        ensures stops { OnErr result (HasStopped self.new) }
-        ensures fault { NeedsNoDisk result }
+        ensures untouched { OnErr result (GathersNone self.old self.new) }
+        ensures breaks { BreaksInMemory self.old self.new result }
     {
         if self.is_broken() {
             return Err(FlushFault::Broken);
@@ -107,12 +101,10 @@ impl<D: Disk, B: Bell, W: Width> Flusher<D, B, W> {
     pub(crate) fn take_batch(&mut self, ring: &BrokerRing<OutSender<B>>) -> Result<u64, FlushFault>
         requires ring { self.old.seat.ring ≡ ring.now }
         requires whole { self.old.broken ≡ false }
-        ensures taken { IfOk result (λ count. (more : List (EntryValue SenderValue)) × (length more ≡ count) × (self.new ≡ taking self.old more)) }
+        ensures taken { IfOk result (Gathers self.old self.new) }
         ensures batch { IfOk result (λ count. IsBatch W.COMMANDS (block_bytes self.old.size W.BYTES) (gathered self.new)) }
-        ensures untouched { OnErr result ((self.new.disk ≡ self.old.disk) × (self.new.seat.taken ≡ self.old.seat.taken)) }
-        ensures outcome { IsOutcome self.old self.new result }
-        ensures stops { OnErr result (HasStopped self.new) }
-        ensures fault { NeedsNoDisk result }
+        ensures untouched { OnErr result (GathersNone self.old self.new) }
+        ensures breaks { BreaksInMemory self.old self.new result }
     {
         let wanted = self.bytes_wanted();
         match Self::fill(

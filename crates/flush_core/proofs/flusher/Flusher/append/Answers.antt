@@ -20,7 +20,8 @@ use Rattle.outbox_core.specs.Boxes.{SenderValue}
 use Rattle.recover_core.specs.Standing.{StandFor, StandsForEither}
 use Rattle.flush_core.specs.Batches.{IsBatch, from_on, state_at, block_bytes}
 use Rattle.recover_core.specs.Stores.{disk_of, size_of, used_of}
-use Rattle.flush_core.specs.Flushed.{Flushed, flushed, gathered}
+use Rattle.flush_core.specs.Fields.{flushed_of}
+use Rattle.flush_core.specs.Flushed.{Flushed, gathered}
 use Rattle.flush_core.specs.Outcomes.{IsOutcome, storing}
 use Rattle.flush_core.specs.Room.{Fits, HasNoRoom, IsTooLong}
 use Rattle.flush_core.proofs.Room.{lacks_room}
@@ -33,7 +34,7 @@ pub invariant_of-self : goal.invariant_of-self
 invariant_of-self g c =
     let it = c.self.inside in
     let whole : it.broken ≡ false = ap (λ (f : Flushed g.row.D.Denot). f.broken) c.self.view_is ∙ c.requires.done.0 in
-    let f = flushed it.journal it.seat it.opening.value.state it.stored it.executed (it.done.items ++ it.batch.items) it.broker it.outlet.boxes it.outlet.ended.items it.outlet.past.items it.outlet.waiting.items it.outlet.left.items it.broken it.won it.since in
+    let f = flushed_of it in
     let opening = it.opening.value.state in
     let kept = c.self.invariant.0 in
     let held = c.self.invariant.1 whole in
@@ -78,7 +79,7 @@ pub invariant_of-self-in-Err : goal.invariant_of-self-in-Err
 invariant_of-self-in-Err g c =
     let it = c.self.inside in
     let whole : it.broken ≡ false = ap (λ (f : Flushed g.row.D.Denot). f.broken) c.self.view_is ∙ c.requires.done.0 in
-    let f = flushed it.journal it.seat it.opening.value.state it.stored it.executed (it.done.items ++ it.batch.items) it.broker it.outlet.boxes it.outlet.ended.items it.outlet.past.items it.outlet.waiting.items it.outlet.left.items it.broken it.won it.since in
+    let f = flushed_of it in
     let opening = it.opening.value.state in
     let kept = c.self.invariant.0 in
     let s = state_at opening it.seat it.stored in
@@ -139,7 +140,7 @@ returns-in-Ok-clause-stores g c = record {
       (c.in-Ok.ensures.adds.adds.stands h s ((c.self.invariant.0.running whole).stands h)));
   stored = let it = c.self.inside in
       let whole : it.broken ≡ false = ap (λ (f : Flushed g.row.D.Denot). f.broken) c.self.view_is ∙ c.requires.done.0 in
-      let f = flushed it.journal it.seat it.opening.value.state it.stored it.executed (it.done.items ++ it.batch.items) it.broker it.outlet.boxes it.outlet.ended.items it.outlet.past.items it.outlet.waiting.items it.outlet.left.items it.broken it.won it.since in
+      let f = flushed_of it in
       let kept = c.self.invariant.0 in
       let held = c.self.invariant.1 whole in
       let executed : it.executed ≡ it.stored = subst (λ (f : Flushed g.row.D.Denot). f.executed ≡ f.stored) (sym c.self.view_is) c.requires.done.1 in
@@ -224,7 +225,7 @@ returns-in-Err-clause-breaks g c = record {
   outcome = let it = c.self.inside in
       let whole : it.broken ≡ false = ap (λ (f : Flushed g.row.D.Denot). f.broken) c.self.view_is ∙ c.requires.done.0 in
       let now = c.args.self.now in
-      let new = flushed c.append_first.new.journal c.stop.new.seat it.opening.value.state it.stored it.executed (it.done.items ++ c.append_first.new.batch.items) it.broker it.outlet.boxes it.outlet.ended.items it.outlet.past.items it.outlet.waiting.items it.outlet.left.items true it.won it.since in
+      let new = flushed_of (record it { journal = c.append_first.new.journal; seat = c.stop.new.seat; batch = c.append_first.new.batch; broken = true }) in
       let other : c.in-Err.fault ≡ area.Broken → ⊥ = λ is. absurd (cc (c.append_first.ensures.refuses.sound (c.in-Err.is ∙ ap (λ (fault : AreaFault). Err fault) is), (c.self.invariant.1 whole).whole)) in
       subst (λ (fault : FlushFault). IsOutcome {X = Unit {0}} now new (Err fault)) (sym c.from.ensures)
       (fell_so c.in-Err.fault now new other (record {

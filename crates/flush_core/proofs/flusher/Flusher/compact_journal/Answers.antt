@@ -17,7 +17,8 @@ use Rattle.flush_core.specs.Faults.{IsFlushCaused}
 use Rattle.flush_core.specs.Outcomes.{IsOutcome, compacted}
 use Rattle.flush_core.specs.Batches.{IsBatch, state_at, block_bytes}
 use Rattle.area_core.specs.Areas.{commands}
-use Rattle.flush_core.specs.Flushed.{Flushed, flushed}
+use Rattle.flush_core.specs.Fields.{flushed_of}
+use Rattle.flush_core.specs.Flushed.{Flushed}
 use Rattle.flush_core.specs.Room.{HasNoRoomForState, used_afresh}
 use Rattle.flush_core.proofs.Compactions.{given_state, leaves_state, stand_then}
 use Rattle.flush_core.proofs.Counting.{counts_none}
@@ -30,7 +31,7 @@ pub invariant_of-self : goal.invariant_of-self
 invariant_of-self g c =
     let it = c.self.inside in
     let whole : it.broken ≡ false = ap (λ (f : Flushed g.row.D.Denot). f.broken) c.self.view_is ∙ c.requires.done.0 in
-    let f = flushed it.journal it.seat it.opening.value.state it.stored it.executed (it.done.items ++ it.batch.items) it.broker it.outlet.boxes it.outlet.ended.items it.outlet.past.items it.outlet.waiting.items it.outlet.left.items it.broken it.won it.since in
+    let f = flushed_of it in
     let kept = c.self.invariant.0 in
     let s = state_at it.opening.value.state it.seat it.stored in
     let same : it.broker.state ≡ s = given_state g.D.Disk.honest g.D.Disk.images _ c.args.self.now c.self.view_is c.self.invariant.0 whole c.requires.done.1 in
@@ -48,7 +49,7 @@ pub invariant_of-self-in-Err : goal.invariant_of-self-in-Err
 invariant_of-self-in-Err g c =
     let it = c.self.inside in
     let whole : it.broken ≡ false = ap (λ (f : Flushed g.row.D.Denot). f.broken) c.self.view_is ∙ c.requires.done.0 in
-    let f = flushed it.journal it.seat it.opening.value.state it.stored it.executed (it.done.items ++ it.batch.items) it.broker it.outlet.boxes it.outlet.ended.items it.outlet.past.items it.outlet.waiting.items it.outlet.left.items it.broken it.won it.since in
+    let f = flushed_of it in
     let kept = c.self.invariant.0 in
     let s = state_at it.opening.value.state it.seat it.stored in
     let same : it.broker.state ≡ s = given_state g.D.Disk.honest g.D.Disk.images _ c.args.self.now c.self.view_is c.self.invariant.0 whole c.requires.done.1 in
@@ -102,7 +103,7 @@ returns-in-Ok-clause-compacts g c = record {
       (λ h. subst (λ (s : State). Each (g.D.Disk.images c.compact.new.self.disk) (HoldsItAlone (size_of c.compact.new.self) (used_of c.compact.new.self) s)) same (c.in-Ok.ensures.compacts.alone h));
   compacted_is = let it = c.self.inside in
       let whole : it.broken ≡ false = ap (λ (f : Flushed g.row.D.Denot). f.broken) c.self.view_is ∙ c.requires.done.0 in
-      let f = flushed it.journal it.seat it.opening.value.state it.stored it.executed (it.done.items ++ it.batch.items) it.broker it.outlet.boxes it.outlet.ended.items it.outlet.past.items it.outlet.waiting.items it.outlet.left.items it.broken it.won it.since in
+      let f = flushed_of it in
       let s = state_at it.opening.value.state it.seat it.stored in
       let same : it.broker.state ≡ s = given_state g.D.Disk.honest g.D.Disk.images _ c.args.self.now c.self.view_is c.self.invariant.0 whole c.requires.done.1 in
       let afresh : used_of c.compact.new.self ≡ used_afresh s = c.in-Ok.ensures.compacts.used ∙ ap (λ (s : State). used_afresh s) same in
@@ -157,7 +158,7 @@ returns-in-Err-clause-breaks g c = record {
   outcome = let it = c.self.inside in
       let whole : it.broken ≡ false = ap (λ (f : Flushed g.row.D.Denot). f.broken) c.self.view_is ∙ c.requires.done.0 in
       let now = c.args.self.now in
-      let new = flushed c.compact.new.self c.stop.new.seat it.opening.value.state it.stored it.executed (it.done.items ++ it.batch.items) it.broker it.outlet.boxes it.outlet.ended.items it.outlet.past.items it.outlet.waiting.items it.outlet.left.items true it.won it.since in
+      let new = flushed_of (record it { journal = c.compact.new.self; seat = c.stop.new.seat; broken = true }) in
       let other : c.in-Err.fault ≡ area.Broken → ⊥ = λ is. absurd (cc (c.compact.ensures.breaks.sound (c.in-Err.is ∙ ap (λ (fault : AreaFault). Err fault) is), (c.self.invariant.1 whole).whole)) in
       subst (λ (fault : FlushFault). IsOutcome {X = Unit {0}} now new (Err fault)) (sym c.from.ensures)
       (fell_so c.in-Err.fault now new other (record {

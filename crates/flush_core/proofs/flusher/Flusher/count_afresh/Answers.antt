@@ -1,5 +1,6 @@
-use Rattle.std.proofs.Common.{◌≡◌, ◌++◌, arith, subst, sym}
-use Rattle.flush_core.specs.Flushed.{Flushed, flushed}
+use Rattle.std.proofs.Common.{◌≡◌, arith, subst, sym}
+use Rattle.flush_core.specs.Fields.{flushed_of}
+use Rattle.flush_core.specs.Flushed.{Flushed}
 use Rattle.flush_core.proofs.Counting.{counts_none}
 use Rattle.flush_core.proofs.Keeping.{tells}
 use Rattle.flush_core.proofs.flusher.Flusher.count_afresh.Goals as goal
@@ -7,7 +8,7 @@ use Rattle.flush_core.proofs.flusher.Flusher.count_afresh.Goals as goal
 pub invariant_of-self : goal.invariant_of-self
 invariant_of-self g c =
     let it = c.self.inside in
-    let f = flushed it.journal it.seat it.opening.value.state it.stored it.executed (it.done.items ++ it.batch.items) it.broker it.outlet.boxes it.outlet.ended.items it.outlet.past.items it.outlet.waiting.items it.outlet.left.items it.broken it.won it.since in
+    let f = flushed_of it in
     let kept = c.self.invariant.0 in
     let executed : it.executed ≡ it.stored = subst (λ (f : Flushed g.row.D.Denot). f.executed ≡ f.stored) (sym c.self.view_is) c.requires.done.1 in (
       tells g.D.Disk.honest g.D.Disk.images f (record { won = it.won; since = it.stored }) kept,

@@ -12,7 +12,8 @@ use Rattle.flush_core.specs.Backlogs.{most_counted, steps_of}
 use Rattle.flush_core.specs.Batches.{between, state_at}
 use Rattle.flush_core.specs.Faults.{IsMemory}
 use Rattle.flush_core.proofs.StoreFaults.{fell_for_memory, needs_memory}
-use Rattle.flush_core.specs.Flushed.{Flushed, flushed}
+use Rattle.flush_core.specs.Fields.{flushed_of}
+use Rattle.flush_core.specs.Flushed.{Flushed}
 use Rattle.flush_core.specs.Outcomes.{executing}
 use Rattle.flush_core.specs.Sessions.{boxes_after, ended_of}
 use Rattle.flush_core.proofs.Counting.{counts_more}
@@ -23,7 +24,7 @@ pub execute_all-requires-clause-count : goal.execute_all-requires-clause-count
 execute_all-requires-clause-count g c =
     let it = c.self.inside in
     let whole : it.broken ≡ false = ap (λ (f : Flushed g.row.D.Denot). f.broken) c.self.view_is ∙ c.requires.whole in
-    let f = flushed it.journal it.seat it.opening.value.state it.stored it.executed (it.done.items ++ it.batch.items) it.broker it.outlet.boxes it.outlet.ended.items it.outlet.past.items it.outlet.waiting.items it.outlet.left.items it.broken it.won it.since in
+    let f = flushed_of it in
     let held = c.self.invariant.1 whole in
     counts g.D.Disk.honest g.D.Disk.images f it.done.items whole c.self.invariant.0 held.done_is held.few
 
@@ -31,7 +32,7 @@ pub invariant_of-self : goal.invariant_of-self
 invariant_of-self g c =
     let it = c.self.inside in
     let whole : it.broken ≡ false = ap (λ (f : Flushed g.row.D.Denot). f.broken) c.self.view_is ∙ c.requires.whole in
-    let f = flushed it.journal it.seat it.opening.value.state it.stored it.executed (it.done.items ++ it.batch.items) it.broker it.outlet.boxes it.outlet.ended.items it.outlet.past.items it.outlet.waiting.items it.outlet.left.items it.broken it.won it.since in
+    let f = flushed_of it in
     let held = c.self.invariant.1 whole in
     let did = c.in-Ok.ensures in
     let state : it.broker.state ≡ state_at it.opening.value.state it.seat it.executed = ap (λ (b : BrokerValue). b.state) (c.self.invariant.0.running whole).broker in
@@ -56,7 +57,7 @@ invariant_of-self g c =
 pub invariant_of-self-in-Err : goal.invariant_of-self-in-Err
 invariant_of-self-in-Err g c =
     let it = c.self.inside in
-    let f = flushed it.journal it.seat it.opening.value.state it.stored it.executed (it.done.items ++ it.batch.items) it.broker it.outlet.boxes it.outlet.ended.items it.outlet.past.items it.outlet.waiting.items it.outlet.left.items it.broken it.won it.since in
+    let f = flushed_of it in
     let now = c.execute_all.new in (
       fails g.D.Disk.honest g.D.Disk.images f c.stop.new.seat (now.done.items ++ it.batch.items) now.broker now.outlet.boxes now.outlet.ended.items now.outlet.past.items now.outlet.waiting.items now.outlet.left.items
           c.stop.ensures c.execute_all.ensures.same.2 c.self.invariant.0,
@@ -70,7 +71,7 @@ pub returns-in-Ok-clause-executed : goal.returns-in-Ok-clause-executed
 returns-in-Ok-clause-executed g c =
     let it = c.self.inside in
     let whole : it.broken ≡ false = ap (λ (f : Flushed g.row.D.Denot). f.broken) c.self.view_is ∙ c.requires.whole in
-    let f = flushed it.journal it.seat it.opening.value.state it.stored it.executed (it.done.items ++ it.batch.items) it.broker it.outlet.boxes it.outlet.ended.items it.outlet.past.items it.outlet.waiting.items it.outlet.left.items it.broken it.won it.since in
+    let f = flushed_of it in
     let kept = c.self.invariant.0 in
     let held = c.self.invariant.1 whole in
     let did = c.in-Ok.ensures in
@@ -89,14 +90,8 @@ returns-in-Ok-clause-executed g c =
 pub returns-in-Ok-clause-untouched : goal.returns-in-Ok-clause-untouched
 returns-in-Ok-clause-untouched g c = ap (λ (f : Flushed g.row.D.Denot). f.disk) c.self.view_is
 
-pub returns-in-Ok-clause-outcome : goal.returns-in-Ok-clause-outcome
-returns-in-Ok-clause-outcome g c = (c.requires.whole, (ap (λ (f : Flushed g.row.D.Denot). f.broken) c.self.view_is ∙ c.requires.whole))
-
-pub returns-in-Ok-clause-stops : goal.returns-in-Ok-clause-stops
-returns-in-Ok-clause-stops g c = tt
-
-pub returns-in-Ok-clause-fault : goal.returns-in-Ok-clause-fault
-returns-in-Ok-clause-fault g c = tt
+pub returns-in-Ok-clause-breaks : goal.returns-in-Ok-clause-breaks
+returns-in-Ok-clause-breaks g c = record { outcome = (c.requires.whole, (ap (λ (f : Flushed g.row.D.Denot). f.broken) c.self.view_is ∙ c.requires.whole)); stops = tt; fault = tt }
 
 pub returns-in-Err-clause-executed : goal.returns-in-Err-clause-executed
 returns-in-Err-clause-executed g c = tt
@@ -104,25 +99,21 @@ returns-in-Err-clause-executed g c = tt
 pub returns-in-Err-clause-untouched : goal.returns-in-Err-clause-untouched
 returns-in-Err-clause-untouched g c = ap (λ (f : Flushed g.row.D.Denot). f.disk) c.self.view_is
 
-pub returns-in-Err-clause-outcome : goal.returns-in-Err-clause-outcome
-returns-in-Err-clause-outcome g c =
+pub returns-in-Err-clause-breaks : goal.returns-in-Err-clause-breaks
+returns-in-Err-clause-breaks g c =
     let memory : IsMemory {T = Unit {0}} (Err c.in-Err.fault) = subst (λ (r : Result (Unit {0}) FlushFault). IsMemory {T = Unit {0}} r) c.in-Err.is c.execute_all.ensures.fault in
-    fell_for_memory c.in-Err.fault _ _ memory (record {
-      was = c.requires.whole;
-      now = refl;
-      seat = c.stop.ensures ∙ ap (λ (f : Flushed g.row.D.Denot). when_stopped f.seat) c.self.view_is;
-      stored = ap (λ (f : Flushed g.row.D.Denot). f.stored) c.self.view_is;
-      opening = ap (λ (f : Flushed g.row.D.Denot). f.opening) c.self.view_is;
-      left = c.execute_all.ensures.same.2 ∙ ap (λ (f : Flushed g.row.D.Denot). f.left) c.self.view_is;
-    })
-
-pub returns-in-Err-clause-stops : goal.returns-in-Err-clause-stops
-returns-in-Err-clause-stops g c = (refl, ap (λ (s : FlushSeatValue). s.stopped) c.stop.ensures)
-
-pub returns-in-Err-clause-fault : goal.returns-in-Err-clause-fault
-returns-in-Err-clause-fault g c =
-    let memory : IsMemory {T = Unit {0}} (Err c.in-Err.fault) = subst (λ (r : Result (Unit {0}) FlushFault). IsMemory {T = Unit {0}} r) c.in-Err.is c.execute_all.ensures.fault in
-    needs_memory c.in-Err.fault memory
+    record {
+      outcome = fell_for_memory c.in-Err.fault _ _ memory (record {
+        was = c.requires.whole;
+        now = refl;
+        seat = c.stop.ensures ∙ ap (λ (f : Flushed g.row.D.Denot). when_stopped f.seat) c.self.view_is;
+        stored = ap (λ (f : Flushed g.row.D.Denot). f.stored) c.self.view_is;
+        opening = ap (λ (f : Flushed g.row.D.Denot). f.opening) c.self.view_is;
+        left = c.execute_all.ensures.same.2 ∙ ap (λ (f : Flushed g.row.D.Denot). f.left) c.self.view_is;
+      });
+      stops = (refl, ap (λ (s : FlushSeatValue). s.stopped) c.stop.ensures);
+      fault = needs_memory c.in-Err.fault memory;
+    }
 
 pub execute_all-requires-clause-whole : goal.execute_all-requires-clause-whole
 execute_all-requires-clause-whole g c = ap (λ (b : BrokerValue). b.broken) (c.self.invariant.0.running (ap (λ (f : Flushed g.row.D.Denot). f.broken) c.self.view_is ∙ c.requires.whole)).broker

@@ -13,16 +13,10 @@ returns-then-is_broken-clause-batch g c = tt
 pub returns-then-is_broken-clause-untouched : goal.returns-then-is_broken-clause-untouched
 returns-then-is_broken-clause-untouched g c = (refl, refl)
 
-pub returns-then-is_broken-clause-outcome : goal.returns-then-is_broken-clause-outcome
-returns-then-is_broken-clause-outcome g c = (sym c.is_broken.ensures.value ∙ c.if-is_broken.true, refl)
-
-pub returns-then-is_broken-clause-stops : goal.returns-then-is_broken-clause-stops
-returns-then-is_broken-clause-stops g c =
+pub returns-then-is_broken-clause-breaks : goal.returns-then-is_broken-clause-breaks
+returns-then-is_broken-clause-breaks g c =
     let broken : c.args.self.now.broken ≡ true = sym c.is_broken.ensures.value ∙ c.if-is_broken.true in
-    (broken, c.is_broken.ensures.kept.stopped broken)
-
-pub returns-then-is_broken-clause-fault : goal.returns-then-is_broken-clause-fault
-returns-then-is_broken-clause-fault g c = tt
+    record { outcome = (broken, refl); stops = (broken, c.is_broken.ensures.kept.stopped broken); fault = tt }
 
 pub returns-clause-taken : goal.returns-clause-taken
 returns-clause-taken g c = c.take_batch.ensures.taken
@@ -33,11 +27,5 @@ returns-clause-batch g c = c.take_batch.ensures.batch
 pub returns-clause-untouched : goal.returns-clause-untouched
 returns-clause-untouched g c = c.take_batch.ensures.untouched
 
-pub returns-clause-outcome : goal.returns-clause-outcome
-returns-clause-outcome g c = c.take_batch.ensures.outcome
-
-pub returns-clause-stops : goal.returns-clause-stops
-returns-clause-stops g c = c.take_batch.ensures.stops
-
-pub returns-clause-fault : goal.returns-clause-fault
-returns-clause-fault g c = c.take_batch.ensures.fault
+pub returns-clause-breaks : goal.returns-clause-breaks
+returns-clause-breaks g c = c.take_batch.ensures.breaks

@@ -1,11 +1,12 @@
-use Rattle.std.proofs.Common.{arith, ap, length, sym, subst, ◌∙◌, ◌++◌, ◌≡◌, List, false}
+use Rattle.std.proofs.Common.{arith, ap, length, sym, subst, ◌∙◌, ◌≡◌, List, false}
 use Rattle.std.specs.Prelude.{is_none}
 use Rattle.outbox_core.specs.Giving.{AreGiven, box_of}
 use Rattle.claim_core.specs.Seats.{FlushSeatValue}
 use Rattle.command_core.specs.Outs.{OutValue}
 use Rattle.recover_core.specs.Standing.{StandFor}
 use Rattle.flush_core.specs.Batches.{state_at}
-use Rattle.flush_core.specs.Flushed.{AreUnder, Flushed, flushed}
+use Rattle.flush_core.specs.Fields.{flushed_of}
+use Rattle.flush_core.specs.Flushed.{AreUnder, Flushed}
 use Rattle.flush_core.specs.Outcomes.{publishing, standing}
 use Rattle.flush_core.proofs.Counting.{counts_marked}
 use Rattle.flush_core.proofs.Keeping.{held_marked, publishes}
@@ -19,7 +20,7 @@ give-requires-clause-room g c =
 pub invariant_of-self : goal.invariant_of-self
 invariant_of-self g c =
     let it = c.self.inside in
-    let f = flushed it.journal it.seat it.opening.value.state it.stored it.executed (it.done.items ++ it.batch.items) it.broker it.outlet.boxes it.outlet.ended.items it.outlet.past.items it.outlet.waiting.items it.outlet.left.items it.broken it.won it.since in
+    let f = flushed_of it in
     let whole : it.broken ≡ false = ap (λ (f : Flushed g.row.D.Denot). f.broken) c.self.view_is ∙ c.requires.whole in
     let executed : it.executed ≡ it.stored = subst (λ (f : Flushed g.row.D.Denot). f.executed ≡ f.stored) (sym c.self.view_is) c.requires.executed in
     let waiting = ap (λ (l : List OutValue). length l) c.give.ensures.none.0 in (
@@ -35,7 +36,7 @@ invariant_of-self g c =
 pub returns-clause-published : goal.returns-clause-published
 returns-clause-published g c =
     let it = c.self.inside in
-    let f = flushed it.journal it.seat it.opening.value.state it.stored it.executed (it.done.items ++ it.batch.items) it.broker it.outlet.boxes it.outlet.ended.items it.outlet.past.items it.outlet.waiting.items it.outlet.left.items it.broken it.won it.since in
+    let f = flushed_of it in
     (λ i. record f { seat = c.raise.ensures i; boxes = c.give.new.self.boxes; ended = c.give.ensures.ended.0 i; past = c.give.ensures.ended.1 i; waiting = c.give.ensures.none.0 i; left = c.give.ensures.left i })
     ∙ ap (λ (f : Flushed g.row.D.Denot). publishing f c.give.new.self.boxes) c.self.view_is
 

@@ -5,7 +5,8 @@ use Rattle.command_core.specs.Entries.{EntryValue}
 use Rattle.outbox_core.specs.Boxes.{SenderValue}
 use Rattle.claim_core.specs.Seats.{FlushSeatValue, when_stopped}
 use Rattle.flush_core.specs.Batches.{IsBatch, from_on, block_bytes, with_more}
-use Rattle.flush_core.specs.Flushed.{Flushed, flushed}
+use Rattle.flush_core.specs.Fields.{flushed_of}
+use Rattle.flush_core.specs.Flushed.{Flushed}
 use Rattle.flush_core.specs.Outcomes.{taking}
 use Rattle.flush_core.proofs.Counting.{counts_taken}
 use Rattle.flush_core.proofs.Keeping.{all_brought, fails, held_more, takes}
@@ -17,7 +18,7 @@ pub invariant_of-self : goal.invariant_of-self
 invariant_of-self g c =
     let it = c.self.inside in
     let whole : it.broken ≡ false = ap (λ (f : Flushed g.row.D.Denot). f.broken) c.self.view_is ∙ c.requires.whole in
-    let f = flushed it.journal it.seat it.opening.value.state it.stored it.executed (it.done.items ++ it.batch.items) it.broker it.outlet.boxes it.outlet.ended.items it.outlet.past.items it.outlet.waiting.items it.outlet.left.items it.broken it.won it.since in
+    let f = flushed_of it in
     let kept = c.self.invariant.0 in
     let held = c.self.invariant.1 whole in
     let took = c.in-Ok.ensures.taken in
@@ -40,7 +41,7 @@ invariant_of-self g c =
 pub invariant_of-self-in-Err : goal.invariant_of-self-in-Err
 invariant_of-self-in-Err g c =
     let it = c.self.inside in
-    let f = flushed it.journal it.seat it.opening.value.state it.stored it.executed (it.done.items ++ it.batch.items) it.broker it.outlet.boxes it.outlet.ended.items it.outlet.past.items it.outlet.waiting.items it.outlet.left.items it.broken it.won it.since in (
+    let f = flushed_of it in (
       fails g.D.Disk.honest g.D.Disk.images f c.stop.new.seat (it.done.items ++ c.fill.new.batch.items) it.broker it.outlet.boxes it.outlet.ended.items it.outlet.past.items it.outlet.waiting.items it.outlet.left.items
           (c.stop.ensures ∙ ap (λ (s : FlushSeatValue). when_stopped s) c.in-Err.ensures.refused) refl c.self.invariant.0,
       λ w. absurd (cc w),
@@ -64,7 +65,7 @@ returns-in-Ok-clause-batch g c =
 pub returns-in-Ok-clause-taken : goal.returns-in-Ok-clause-taken
 returns-in-Ok-clause-taken g c =
     let it = c.self.inside in
-    let f = flushed it.journal it.seat it.opening.value.state it.stored it.executed (it.done.items ++ it.batch.items) it.broker it.outlet.boxes it.outlet.ended.items it.outlet.past.items it.outlet.waiting.items it.outlet.left.items it.broken it.won it.since in
+    let f = flushed_of it in
     let took = c.in-Ok.ensures.taken in (
       took.0,
       took.1,
@@ -75,14 +76,8 @@ returns-in-Ok-clause-taken g c =
 pub returns-in-Ok-clause-untouched : goal.returns-in-Ok-clause-untouched
 returns-in-Ok-clause-untouched g c = tt
 
-pub returns-in-Ok-clause-outcome : goal.returns-in-Ok-clause-outcome
-returns-in-Ok-clause-outcome g c = (c.requires.whole, (ap (λ (f : Flushed g.row.D.Denot). f.broken) c.self.view_is ∙ c.requires.whole))
-
-pub returns-in-Ok-clause-stops : goal.returns-in-Ok-clause-stops
-returns-in-Ok-clause-stops g c = tt
-
-pub returns-in-Ok-clause-fault : goal.returns-in-Ok-clause-fault
-returns-in-Ok-clause-fault g c = tt
+pub returns-in-Ok-clause-breaks : goal.returns-in-Ok-clause-breaks
+returns-in-Ok-clause-breaks g c = record { outcome = (c.requires.whole, (ap (λ (f : Flushed g.row.D.Denot). f.broken) c.self.view_is ∙ c.requires.whole)); stops = tt; fault = tt }
 
 pub returns-in-Err-clause-taken : goal.returns-in-Err-clause-taken
 returns-in-Err-clause-taken g c = tt
@@ -96,21 +91,19 @@ returns-in-Err-clause-untouched g c = (
   ap (λ (s : FlushSeatValue). s.taken) c.stop.ensures ∙ (ap (λ (s : FlushSeatValue). s.taken) c.in-Err.ensures.refused ∙ ap (λ (f : Flushed g.row.D.Denot). f.seat.taken) c.self.view_is),
 )
 
-pub returns-in-Err-clause-outcome : goal.returns-in-Err-clause-outcome
-returns-in-Err-clause-outcome g c = record {
-  was = c.requires.whole;
-  now = refl;
-  seat = c.stop.ensures ∙ ap (λ (s : FlushSeatValue). when_stopped s) (c.in-Err.ensures.refused ∙ ap (λ (f : Flushed g.row.D.Denot). f.seat) c.self.view_is);
-  stored = ap (λ (f : Flushed g.row.D.Denot). f.stored) c.self.view_is;
-  opening = ap (λ (f : Flushed g.row.D.Denot). f.opening) c.self.view_is;
-  left = ap (λ (f : Flushed g.row.D.Denot). f.left) c.self.view_is;
+pub returns-in-Err-clause-breaks : goal.returns-in-Err-clause-breaks
+returns-in-Err-clause-breaks g c = record {
+  outcome = record {
+    was = c.requires.whole;
+    now = refl;
+    seat = c.stop.ensures ∙ ap (λ (s : FlushSeatValue). when_stopped s) (c.in-Err.ensures.refused ∙ ap (λ (f : Flushed g.row.D.Denot). f.seat) c.self.view_is);
+    stored = ap (λ (f : Flushed g.row.D.Denot). f.stored) c.self.view_is;
+    opening = ap (λ (f : Flushed g.row.D.Denot). f.opening) c.self.view_is;
+    left = ap (λ (f : Flushed g.row.D.Denot). f.left) c.self.view_is;
+  };
+  stops = (refl, ap (λ (s : FlushSeatValue). s.stopped) c.stop.ensures);
+  fault = tt;
 }
-
-pub returns-in-Err-clause-stops : goal.returns-in-Err-clause-stops
-returns-in-Err-clause-stops g c = (refl, ap (λ (s : FlushSeatValue). s.stopped) c.stop.ensures)
-
-pub returns-in-Err-clause-fault : goal.returns-in-Err-clause-fault
-returns-in-Err-clause-fault g c = tt
 
 pub fill-requires-clause-bytes : goal.fill-requires-clause-bytes
 fill-requires-clause-bytes g c = (c.self.invariant.1 (ap (λ (f : Flushed g.row.D.Denot). f.broken) c.self.view_is ∙ c.requires.whole)).bytes_is

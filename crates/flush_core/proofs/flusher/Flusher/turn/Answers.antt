@@ -44,7 +44,7 @@ pub returns-in_err-count-clause-any_moment : goal.returns-in_err-count-clause-an
 returns-in_err-count-clause-any_moment g c honest whole =
     let now = c.args.self.now in
     let new = c.take_batch.new.self in
-    let same = failed_keeps ℕ now new _ c.in_err-count.ensures.outcome in
+    let same = failed_keeps ℕ now new _ c.in_err-count.ensures.breaks.outcome in
     let p = err_from_is_err_and c.from_residual.result c.from_residual.ensures.1 in
     let is : c.from_residual.result ≡ Err c.in_err-count.field-0.0 = cc (p.1, p.2) in
     record {
@@ -70,7 +70,7 @@ returns-in_err-count-clause-refuses g c =
     let p = err_from_is_err_and c.from_residual.result c.from_residual.ensures.1 in
     let is : c.from_residual.result ≡ Err c.in_err-count.field-0.0 = cc (p.1, p.2) in
     subst (λ (r : Result ℕ FlushFault). RefusesTurn g.D.Disk g.W.Width.COMMANDS g.W.Width.BYTES now new r) (sym is)
-    (refuses_none g.D.Disk ℕ g.W.Width.COMMANDS g.W.Width.BYTES now new c.in_err-count.field-0.0 c.in_err-count.ensures.fault)
+    (refuses_none g.D.Disk ℕ g.W.Width.COMMANDS g.W.Width.BYTES now new c.in_err-count.field-0.0 c.in_err-count.ensures.breaks.fault)
 
 pub returns-in_err-count-clause-breaks : goal.returns-in_err-count-clause-breaks
 returns-in_err-count-clause-breaks g c =
@@ -79,7 +79,7 @@ returns-in_err-count-clause-breaks g c =
     let p = err_from_is_err_and c.from_residual.result c.from_residual.ensures.1 in
     let is : c.from_residual.result ≡ Err c.in_err-count.field-0.0 = cc (p.1, p.2) in
     subst (λ (r : Result ℕ FlushFault). TurnBreaks g.D.Disk now new r) (sym is)
-    (gather_breaks g.D.Disk now new c.in_err-count.field-0.0 c.in_err-count.ensures.fault c.in_err-count.ensures.untouched.0 c.in_err-count.ensures.outcome c.in_err-count.ensures.stops)
+    (gather_breaks g.D.Disk now new c.in_err-count.field-0.0 c.in_err-count.ensures.breaks.fault c.in_err-count.ensures.untouched.0 c.in_err-count.ensures.breaks.outcome c.in_err-count.ensures.breaks.stops)
 
 pub returns-in_err-count-clause-lasts : goal.returns-in_err-count-clause-lasts
 returns-in_err-count-clause-lasts g c = lasts_same g.D.Disk c.args.self.now.disk c.take_batch.new.self.disk c.in_err-count.ensures.untouched.0
@@ -95,15 +95,15 @@ execute_stored-requires-clause-whole g c = c.in_ok-store_gathered.ensures.breaks
 
 pub store_gathered-requires-clause-done : goal.store_gathered-requires-clause-done
 store_gathered-requires-clause-done g c = (
-  c.in_ok-count.ensures.outcome.1,
-  subst (λ (f : Flushed g.row.D.Denot). f.executed ≡ f.stored) (sym c.in_ok-count.ensures.taken.2) (c.requires.executed c.in_ok-count.ensures.outcome.0),
+  c.in_ok-count.ensures.breaks.outcome.1,
+  subst (λ (f : Flushed g.row.D.Denot). f.executed ≡ f.stored) (sym c.in_ok-count.ensures.taken.2) (c.requires.executed c.in_ok-count.ensures.breaks.outcome.0),
 )
 
 pub returns-in_err-store_gathered-clause-any_moment : goal.returns-in_err-store_gathered-clause-any_moment
 returns-in_err-store_gathered-clause-any_moment g c honest whole =
     let now = c.args.self.now in
     let took = c.in_ok-count.ensures.taken in
-    let there = c.store_gathered.ensures.any_moment (subst (λ (f : Flushed g.row.D.Denot). g.D.Disk.honest f.disk) (sym took.2) honest) c.in_ok-count.ensures.outcome.1 in
+    let there = c.store_gathered.ensures.any_moment (subst (λ (f : Flushed g.row.D.Denot). g.D.Disk.honest f.disk) (sym took.2) honest) c.in_ok-count.ensures.breaks.outcome.1 in
     let new = c.store_gathered.new.self in
     let same = failed_keeps (Unit {0}) c.take_batch.new.self new _ c.in_err-store_gathered.ensures.breaks.outcome in
     let p = err_from_is_err_and c.from_residual-in_err-store_gathered.result c.from_residual-in_err-store_gathered.ensures.1 in
@@ -125,7 +125,7 @@ pub returns-in_err-store_gathered-clause-nothing : goal.returns-in_err-store_gat
 returns-in_err-store_gathered-clause-nothing g c none =
     let took = c.in_ok-count.ensures.taken in
     let waits : gathered c.take_batch.new.self ≡ [] = gathered_stays g.D.Disk c.args.self.now c.take_batch.new.self c.store_gathered.new.self took.0 _ c.is_broken.ensures.kept took.2 c.in_err-store_gathered.ensures.breaks.outcome ∙ none in
-    absurd (false≢true (c.in_err-store_gathered.ensures.refuses.nothing c.in_ok-count.ensures.outcome.1 waits).0)
+    absurd (false≢true (c.in_err-store_gathered.ensures.refuses.nothing c.in_ok-count.ensures.breaks.outcome.1 waits).0)
 
 pub returns-in_err-store_gathered-clause-refuses : goal.returns-in_err-store_gathered-clause-refuses
 returns-in_err-store_gathered-clause-refuses g c =
@@ -136,7 +136,7 @@ returns-in_err-store_gathered-clause-refuses g c =
     let is : c.from_residual-in_err-store_gathered.result ≡ Err c.in_err-store_gathered.field-0.0 = cc (p.1, p.2) in
     subst (λ (r : Result ℕ FlushFault). RefusesTurn g.D.Disk g.W.Width.COMMANDS g.W.Width.BYTES now new r) (sym is)
     (refuses_turn g.D.Disk now c.take_batch.new.self new took.0 c.in_err-store_gathered.field-0.0 c.is_broken.ensures.kept took.2 c.in_err-store_gathered.ensures.breaks.outcome g.W.Width.COMMANDS g.W.Width.BYTES
-    c.in_ok-count.ensures.outcome.1 c.in_ok-count.ensures.batch c.in_err-store_gathered.ensures.refuses)
+    c.in_ok-count.ensures.breaks.outcome.1 c.in_ok-count.ensures.batch c.in_err-store_gathered.ensures.refuses)
 
 pub returns-in_err-store_gathered-clause-breaks : goal.returns-in_err-store_gathered-clause-breaks
 returns-in_err-store_gathered-clause-breaks g c =
@@ -146,7 +146,7 @@ returns-in_err-store_gathered-clause-breaks g c =
     let p = err_from_is_err_and c.from_residual-in_err-store_gathered.result c.from_residual-in_err-store_gathered.ensures.1 in
     let is : c.from_residual-in_err-store_gathered.result ≡ Err c.in_err-store_gathered.field-0.0 = cc (p.1, p.2) in
     subst (λ (r : Result ℕ FlushFault). TurnBreaks g.D.Disk now new r) (sym is)
-    (store_breaks g.D.Disk now c.take_batch.new.self new took.0 c.in_err-store_gathered.field-0.0 c.in_ok-count.ensures.outcome.0 c.in_ok-count.ensures.outcome.1 took.2 c.in_err-store_gathered.ensures.breaks)
+    (store_breaks g.D.Disk now c.take_batch.new.self new took.0 c.in_err-store_gathered.field-0.0 c.in_ok-count.ensures.breaks.outcome.0 c.in_ok-count.ensures.breaks.outcome.1 took.2 c.in_err-store_gathered.ensures.breaks)
 
 pub returns-in_err-store_gathered-clause-lasts : goal.returns-in_err-store_gathered-clause-lasts
 returns-in_err-store_gathered-clause-lasts g c = subst (λ (f : Flushed g.row.D.Denot). Lasts g.D.Disk f.disk c.store_gathered.new.self.disk) c.in_ok-count.ensures.taken.2 c.store_gathered.ensures.lasts
@@ -155,10 +155,10 @@ pub returns-in_err-execute_stored-clause-any_moment : goal.returns-in_err-execut
 returns-in_err-execute_stored-clause-any_moment g c honest whole =
     let now = c.args.self.now in
     let took = c.in_ok-count.ensures.taken in
-    let there = c.store_gathered.ensures.any_moment (subst (λ (f : Flushed g.row.D.Denot). g.D.Disk.honest f.disk) (sym took.2) honest) c.in_ok-count.ensures.outcome.1 in
+    let there = c.store_gathered.ensures.any_moment (subst (λ (f : Flushed g.row.D.Denot). g.D.Disk.honest f.disk) (sym took.2) honest) c.in_ok-count.ensures.breaks.outcome.1 in
     let new = c.execute_stored.new.self in
     let did = c.in_ok-store_gathered.ensures.stores.stored in
-    let failed = failed_keeps (Unit {0}) c.store_gathered.new.self new _ c.in_err-execute_stored.ensures.outcome in
+    let failed = failed_keeps (Unit {0}) c.store_gathered.new.self new _ c.in_err-execute_stored.ensures.breaks.outcome in
     let opened : new.opening ≡ c.take_batch.new.self.opening = failed.0 ∙ ap (λ (f : Flushed g.row.D.Denot). f.opening) did in
     let taken : new.seat.taken ≡ c.take_batch.new.self.seat.taken = failed.1 ∙ ap (λ (f : Flushed g.row.D.Denot). f.seat.taken) did in
     let base : new.seat.base ≡ c.take_batch.new.self.seat.base = failed.2 ∙ ap (λ (f : Flushed g.row.D.Denot). f.seat.base) did in
@@ -180,8 +180,8 @@ returns-in_err-execute_stored-clause-turns g c =
 pub returns-in_err-execute_stored-clause-nothing : goal.returns-in_err-execute_stored-clause-nothing
 returns-in_err-execute_stored-clause-nothing g c none =
     let took = c.in_ok-count.ensures.taken in
-    still_unexecuted c.args.self.now c.take_batch.new.self c.store_gathered.new.self took.0 _ _ _ _ _ took.2 c.in_ok-store_gathered.ensures.stores.stored (λ waits. (c.store_gathered.ensures.refuses.nothing c.in_ok-count.ensures.outcome.1 waits).1)
-    c.execute_stored.new.self _ c.in_err-execute_stored.ensures.outcome c.execute_stored.ensures.untouched none
+    still_unexecuted c.args.self.now c.take_batch.new.self c.store_gathered.new.self took.0 _ _ _ _ _ took.2 c.in_ok-store_gathered.ensures.stores.stored (λ waits. (c.store_gathered.ensures.refuses.nothing c.in_ok-count.ensures.breaks.outcome.1 waits).1)
+    c.execute_stored.new.self _ c.in_err-execute_stored.ensures.breaks.outcome c.execute_stored.ensures.untouched none
 
 pub returns-in_err-execute_stored-clause-refuses : goal.returns-in_err-execute_stored-clause-refuses
 returns-in_err-execute_stored-clause-refuses g c =
@@ -190,7 +190,7 @@ returns-in_err-execute_stored-clause-refuses g c =
     let p = err_from_is_err_and c.from_residual-in_err-execute_stored.result c.from_residual-in_err-execute_stored.ensures.1 in
     let is : c.from_residual-in_err-execute_stored.result ≡ Err c.in_err-execute_stored.field-0.0 = cc (p.1, p.2) in
     subst (λ (r : Result ℕ FlushFault). RefusesTurn g.D.Disk g.W.Width.COMMANDS g.W.Width.BYTES now new r) (sym is)
-    (refuses_none g.D.Disk (Unit {0}) g.W.Width.COMMANDS g.W.Width.BYTES now new c.in_err-execute_stored.field-0.0 c.in_err-execute_stored.ensures.fault)
+    (refuses_none g.D.Disk (Unit {0}) g.W.Width.COMMANDS g.W.Width.BYTES now new c.in_err-execute_stored.field-0.0 c.in_err-execute_stored.ensures.breaks.fault)
 
 pub returns-in_err-execute_stored-clause-breaks : goal.returns-in_err-execute_stored-clause-breaks
 returns-in_err-execute_stored-clause-breaks g c =
@@ -201,10 +201,10 @@ returns-in_err-execute_stored-clause-breaks g c =
     let p = err_from_is_err_and c.from_residual-in_err-execute_stored.result c.from_residual-in_err-execute_stored.ensures.1 in
     let is : c.from_residual-in_err-execute_stored.result ≡ Err c.in_err-execute_stored.field-0.0 = cc (p.1, p.2) in
     subst (λ (r : Result ℕ FlushFault). TurnBreaks g.D.Disk now new r) (sym is) (record {
-      outcome = execute_falls now c.take_batch.new.self c.store_gathered.new.self new took.0 _ _ _ _ _ c.in_ok-count.ensures.outcome.0 took.2 c.in_ok-store_gathered.ensures.stores.stored
-          ℕ fault c.in_ok-store_gathered.ensures.breaks.outcome.1 c.in_err-execute_stored.ensures.outcome;
-      stops = c.in_err-execute_stored.ensures.stops;
-      cause = caused_none (Unit {0}) ℕ fault (g.D.Disk.failures now.disk) (g.D.Disk.failures new.disk) c.in_err-execute_stored.ensures.fault
+      outcome = execute_falls now c.take_batch.new.self c.store_gathered.new.self new took.0 _ _ _ _ _ c.in_ok-count.ensures.breaks.outcome.0 took.2 c.in_ok-store_gathered.ensures.stores.stored
+          ℕ fault c.in_ok-store_gathered.ensures.breaks.outcome.1 c.in_err-execute_stored.ensures.breaks.outcome;
+      stops = c.in_err-execute_stored.ensures.breaks.stops;
+      cause = caused_none (Unit {0}) ℕ fault (g.D.Disk.failures now.disk) (g.D.Disk.failures new.disk) c.in_err-execute_stored.ensures.breaks.fault
           (ap (λ d. g.D.Disk.failures d) c.execute_stored.ensures.untouched ∙ (c.in_ok-store_gathered.ensures.breaks.cause ∙ ap (λ (f : Flushed g.row.D.Denot). g.D.Disk.failures f.disk) took.2));
     })
 
@@ -217,7 +217,7 @@ pub returns-clause-any_moment : goal.returns-clause-any_moment
 returns-clause-any_moment g c honest whole =
     let now = c.args.self.now in
     let took = c.in_ok-count.ensures.taken in
-    let there = c.in_ok-store_gathered.ensures.any_moment (subst (λ (f : Flushed g.row.D.Denot). g.D.Disk.honest f.disk) (sym took.2) honest) c.in_ok-count.ensures.outcome.1 in
+    let there = c.in_ok-store_gathered.ensures.any_moment (subst (λ (f : Flushed g.row.D.Denot). g.D.Disk.honest f.disk) (sym took.2) honest) c.in_ok-count.ensures.breaks.outcome.1 in
     let new = c.publish.new.self in
     let did = c.in_ok-store_gathered.ensures.stores.stored in
     let executed = c.in_ok-execute_stored.ensures.executed in
@@ -239,7 +239,7 @@ returns-clause-turns g c =
     let took = c.in_ok-count.ensures.taken in
     let now = c.args.self.now in
     let new = c.publish.new.self in
-    let whole = c.in_ok-count.ensures.outcome.0 in
+    let whole = c.in_ok-count.ensures.breaks.outcome.0 in
     let did = c.in_ok-store_gathered.ensures.stores in
     let executed = c.in_ok-execute_stored.ensures.executed in
     let published = c.publish.ensures.published in
@@ -250,21 +250,21 @@ returns-clause-turns g c =
       many = took.1;
       turned = turned g.D.Disk now c.take_batch.new.self c.store_gathered.new.self c.execute_stored.new.self new took.0 c.store_gathered.new.self.stored c.store_gathered.new.self.disk c.store_gathered.new.self.size c.store_gathered.new.self.used c.store_gathered.new.self.last
           (c.requires.executed whole) (omega (arith, before, did.within.0)) (omega (arith, end, did.within.1)) took.2 did.stored executed published c.publish.ensures.given;
-      batch = subst (λ (l : List CommandValue). IsBatch g.W.Width.COMMANDS (block_bytes now.size g.W.Width.BYTES) l) (taken_stays c.args.self.now c.take_batch.new.self c.store_gathered.new.self took.0 _ _ _ _ _ took.2 did.stored (λ waits. (c.store_gathered.ensures.refuses.nothing c.in_ok-count.ensures.outcome.1 waits).1) c.execute_stored.new.self c.publish.new.self executed published) c.in_ok-count.ensures.batch;
+      batch = subst (λ (l : List CommandValue). IsBatch g.W.Width.COMMANDS (block_bytes now.size g.W.Width.BYTES) l) (taken_stays c.args.self.now c.take_batch.new.self c.store_gathered.new.self took.0 _ _ _ _ _ took.2 did.stored (λ waits. (c.store_gathered.ensures.refuses.nothing c.in_ok-count.ensures.breaks.outcome.1 waits).1) c.execute_stored.new.self c.publish.new.self executed published) c.in_ok-count.ensures.batch;
       stores = record {
         stands = λ honest. stands_so g.D.Disk c.take_batch.new.self c.store_gathered.new.self c.execute_stored.new.self new c.store_gathered.new.self.stored _ _ _ _ did.stored executed c.execute_stored.ensures.untouched published
             (did.next.stands (subst (λ (f : Flushed g.row.D.Denot). g.D.Disk.honest f.disk) (sym took.2) honest));
-        behind = came_behind c.args.self.now c.take_batch.new.self c.store_gathered.new.self took.0 _ _ _ _ _ took.2 did.stored (λ waits. (c.store_gathered.ensures.refuses.nothing c.in_ok-count.ensures.outcome.1 waits).1) c.execute_stored.new.self c.publish.new.self executed published did.next.behind;
-        afresh = came_afresh c.args.self.now c.take_batch.new.self c.store_gathered.new.self took.0 _ _ _ _ _ took.2 did.stored (λ waits. (c.store_gathered.ensures.refuses.nothing c.in_ok-count.ensures.outcome.1 waits).1) c.execute_stored.new.self c.publish.new.self executed published c.is_broken.ensures.kept.stored did.next.afresh;
+        behind = came_behind c.args.self.now c.take_batch.new.self c.store_gathered.new.self took.0 _ _ _ _ _ took.2 did.stored (λ waits. (c.store_gathered.ensures.refuses.nothing c.in_ok-count.ensures.breaks.outcome.1 waits).1) c.execute_stored.new.self c.publish.new.self executed published did.next.behind;
+        afresh = came_afresh c.args.self.now c.take_batch.new.self c.store_gathered.new.self took.0 _ _ _ _ _ took.2 did.stored (λ waits. (c.store_gathered.ensures.refuses.nothing c.in_ok-count.ensures.breaks.outcome.1 waits).1) c.execute_stored.new.self c.publish.new.self executed published c.is_broken.ensures.kept.stored did.next.afresh;
         size = ap (λ (f : Flushed g.row.D.Denot). f.size) published ∙ (ap (λ (f : Flushed g.row.D.Denot). f.size) executed ∙ (did.next.size ∙ ap (λ (f : Flushed g.row.D.Denot). f.size) took.2));
       };
-      idle = none_won c.args.self.now c.take_batch.new.self c.store_gathered.new.self took.0 _ _ _ _ _ took.2 did.stored (λ waits. (c.store_gathered.ensures.refuses.nothing c.in_ok-count.ensures.outcome.1 waits).1) c.execute_stored.new.self c.publish.new.self executed published;
+      idle = none_won c.args.self.now c.take_batch.new.self c.store_gathered.new.self took.0 _ _ _ _ _ took.2 did.stored (λ waits. (c.store_gathered.ensures.refuses.nothing c.in_ok-count.ensures.breaks.outcome.1 waits).1) c.execute_stored.new.self c.publish.new.self executed published;
     }
 
 pub returns-clause-nothing : goal.returns-clause-nothing
 returns-clause-nothing g c none =
     let took = c.in_ok-count.ensures.taken in
-    still_published c.args.self.now c.take_batch.new.self c.store_gathered.new.self took.0 _ _ _ _ _ took.2 c.in_ok-store_gathered.ensures.stores.stored (λ waits. (c.store_gathered.ensures.refuses.nothing c.in_ok-count.ensures.outcome.1 waits).1)
+    still_published c.args.self.now c.take_batch.new.self c.store_gathered.new.self took.0 _ _ _ _ _ took.2 c.in_ok-store_gathered.ensures.stores.stored (λ waits. (c.store_gathered.ensures.refuses.nothing c.in_ok-count.ensures.breaks.outcome.1 waits).1)
     c.execute_stored.new.self c.publish.new.self c.in_ok-execute_stored.ensures.executed c.execute_stored.ensures.untouched c.publish.ensures.published none
 
 pub returns-clause-refuses : goal.returns-clause-refuses
@@ -278,7 +278,7 @@ returns-clause-breaks g c =
     let took = c.in_ok-count.ensures.taken in
     let published = c.publish.ensures.published in
     record {
-      outcome = (c.in_ok-count.ensures.outcome.0, ap (λ (f : Flushed g.row.D.Denot). f.broken) published ∙ c.in_ok-execute_stored.ensures.outcome.1);
+      outcome = (c.in_ok-count.ensures.breaks.outcome.0, ap (λ (f : Flushed g.row.D.Denot). f.broken) published ∙ c.in_ok-execute_stored.ensures.breaks.outcome.1);
       stops = tt;
       cause = ap (λ d. g.D.Disk.failures d) (ap (λ (f : Flushed g.row.D.Denot). f.disk) c.publish.ensures.published ∙ c.execute_stored.ensures.untouched) ∙ (c.in_ok-store_gathered.ensures.breaks.cause ∙ ap (λ (f : Flushed g.row.D.Denot). g.D.Disk.failures f.disk) took.2);
     }
