@@ -1,12 +1,10 @@
 //! The live area of a journal.
 
-ghost use Rattle.std.specs.Prelude.{◌≡◌, ◌+◌, ◌*◌, ◌%◌, ◌<◌, ◌≤◌, ◌^◌, ◌↔◌, IsTrue, length};
-ghost use Rattle.area_core.specs.Areas.{commands, number, records};
+ghost use Rattle.std.specs.Prelude.{◌≡◌, ◌+◌, ◌*◌, ◌%◌, ◌<◌, ◌≤◌, ◌^◌, ◌↔◌, IsTrue};
+ghost use Rattle.area_core.specs.Areas.{number};
 ghost use Rattle.area_core.specs.Journals.{is_odd, other, start};
 
 use crate::Version;
-use crate::batch::records_len;
-use command_core::Entry;
 
 /// The live area of a journal, with the place of its first closed gate. It does not hold the disk.
 #[derive(Drop)]
@@ -55,22 +53,12 @@ impl Area {
         self.begins() + 8
     }
 
-    /// Whether a block of `records` bytes of records fits.
+    /// Whether a block of `records` bytes of records fits, with the gate after it.
     pub fn fits(&self, records: u64) -> bool
         ensures { IsTrue result ↔ (self.now.gate + 10 + records ≤ self.now.size) }
     {
         let left = self.size - self.gate;
         left >= 10 && records <= left - 10
-    }
-
-    /// Whether the block of these commands fits, with the gate after it.
-    pub fn takes<B>(&self, batch: &[Entry<B>]) -> bool
-        ensures { IsTrue result ↔ (self.now.gate + 10 + length (records (commands batch.now)) ≤ self.now.size) }
-    {
-        match records_len(batch) {
-            Some(total) => self.fits(total),
-            None => false,
-        }
     }
 
     /// The number of its version, which its first byte gives: 1 or 2.

@@ -94,7 +94,7 @@ impl<D: Disk, B: Bell, W: Width> Flusher<D, B, W> {
         ensures long { result ≡ false → IsTooLong self.now.size self.now.used (gathered self.now) }
         ensures kept { IsFlusher D.honest D.images self.now }
     {
-        self.journal.fits(&self.batch)
+        self.journal.fits(self.bytes)
     }
 
     // Compacts the journal if the block of what is gathered doesn't fit, and otherwise does nothing.

@@ -71,9 +71,6 @@ pub(crate) fn append_first<D: Disk, B: Drop>(
     ensures size { size_of journal.new ≡ size_of journal.old }
     ensures lasts { Lasts D.Disk (disk_of journal.old) (disk_of journal.new) }
 {
-    if !journal.fits(&batch[..count]) {
-        return Err(AreaFault::Full);
-    }
     let rest = match batch.split_off(count) {
         Ok(rest) => rest,
         Err(refused) => return Err(AreaFault::Memory(refused)),

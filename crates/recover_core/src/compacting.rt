@@ -1,8 +1,7 @@
 //! A store is compacted.
 
-ghost use Rattle.std.specs.Prelude.{◌≡◌, ◌+◌, ◌≤◌, ◌↔◌, IsTrue, OnOk, false, length, true};
+ghost use Rattle.std.specs.Prelude.{◌≡◌, ◌+◌, ◌≤◌, ◌↔◌, IsTrue, OnOk, false, true};
 ghost use Rattle.disk_core.specs.Calls.{Lasts, Throughout};
-ghost use Rattle.area_core.specs.Areas.{commands, records};
 ghost use Rattle.area_core.specs.Calls.{IsReady};
 ghost use Rattle.recover_core.specs.Calls.{BreaksOrKeeps, CompactBreaks, Compacts, HasRoomFor, IsCompacting, KeepsKind, KeepsOpened, StandsUnbroken, WritesState};
 ghost use Rattle.recover_core.specs.Compactions.{HasNoRoomFor, IsWritingState};
@@ -12,7 +11,6 @@ use crate::snapshot::Snapshot;
 use crate::store::Store;
 use area_core::{Area, AreaFault};
 use broker_core::Broker;
-use command_core::Entry;
 use disk_core::Disk;
 use snapshot_core::state_len;
 use std::alloc::Global;
@@ -54,11 +52,11 @@ pub(crate) fn write_state<D: Disk>(
 }
 
 impl<D: Disk> Store<D> {
-    /// Whether the block of a batch fits into the live area with the gate after it.
-    pub fn fits<B>(&self, batch: &[Entry<B>]) -> bool
-        ensures { IsTrue result ↔ (used_of self.now + 9 + length (records (commands batch.now)) ≤ size_of self.now) }
+    /// Whether a block of `records` bytes of records fits into the live area with the gate after it.
+    pub fn fits(&self, records: u64) -> bool
+        ensures { IsTrue result ↔ (used_of self.now + 9 + records ≤ size_of self.now) }
     {
-        self.area.takes(batch)
+        self.area.fits(records)
     }
 
     /// Whether a snapshot of the broker's state fits into an area.

@@ -1,10 +1,9 @@
-use Rattle.std.proofs.Common.{Bool, Err, List, subst, ap, arith, inl, inr, refl, sym, true, false, length, take, ◌∙◌, ◌≡◌, ◌≤◌, ◌+◌, ℕ}
-use Rattle.std.proofs.lemmas.Bool.{cases_lt, false≢true}
+use Rattle.std.proofs.Common.{Err, List, subst, arith, inl, refl, take, ◌∙◌, ◌≡◌, ℕ}
 use Rattle.disk_core.specs.declared.disk.Disk.{Ghosts}
 use Rattle.disk_core.specs.Calls.{Throughout}
 use Rattle.command_core.specs.Commands.{CommandValue}
 use Rattle.command_core.specs.Entries.{EntryValue}
-use Rattle.area_core.specs.Areas.{commands, records}
+use Rattle.area_core.specs.Areas.{commands}
 use Rattle.area_core.specs.declared.faults.AreaFault.{AreaFault}
 use Rattle.area_core.specs.declared.faults.AreaFault.TheVariants as area
 use Rattle.broker_core.specs.Steps.{state_after}
@@ -13,19 +12,9 @@ use Rattle.recover_core.specs.Calls.{StandsThroughout, StoreAdds, StoreBreaks, S
 use Rattle.recover_core.specs.Standing.{StandsForEither}
 use Rattle.recover_core.specs.Stores.{disk_of, size_of, used_of}
 use Rattle.flush_core.specs.Calls.{RefusesFirst}
-use Rattle.flush_core.specs.Room.{Fits, IsTooLong}
+use Rattle.flush_core.specs.Room.{Fits}
 use Rattle.flush_core.proofs.Calls.{lasts_same}
 use Rattle.flush_core.proofs.fitting.append_first.Goals as goal
-
--- the test of the room says no
-too_long : {B : Type 0} (size used : ℕ) (es fs : List (EntryValue B)) (b : Bool) → es ≡ fs
-    → (used + 9 + length (records (commands es)) ≤ size → b ≡ true) → b ≡ false → IsTooLong size used (commands fs)
-too_long {B} size used es fs b same fits none =
-    subst (λ (l : List (EntryValue B)). IsTooLong size used (commands l)) same
-    (elim (cases_lt size (used + 9 + length (records (commands es)))) [
-      | inl less ↦ less
-      | inr room ↦ absurd (false≢true (sym none ∙ fits room))
-    ])
 
 module _ {D : Type 0} (disk : Ghosts D) where
   -- a store stands for what it did if its disk is not called
@@ -49,30 +38,8 @@ module _ {D : Type 0} (disk : Ghosts D) where
       so area.Broken refuses breaks = record { block = record { full = λ is. absurd (cc is); memory = tt }; sound = λ is. breaks.sound refl; cause = breaks.cause }
       so (area.Memory refused) refuses breaks = record { block = record { full = λ is. absurd (cc is); memory = refuses.memory }; sound = λ is. absurd (cc is); cause = breaks.cause }
 
-pub returns-then-not-fits-clause-any_moment : goal.returns-then-not-fits-clause-any_moment
-returns-then-not-fits-clause-any_moment g c = stands_still g.D.Disk c.args.journal.now (commands (take c.args.count c.args.batch.now.items)) (g.met.D.Disk.only_now c.args.journal.now.disk)
-
 pub returns-in-Err-clause-any_moment : goal.returns-in-Err-clause-any_moment
 returns-in-Err-clause-any_moment g c = stands_still g.D.Disk c.args.journal.now (commands (take c.args.count c.args.batch.now.items)) (g.met.D.Disk.only_now c.args.journal.now.disk)
-
-pub returns-then-not-fits-clause-adds : goal.returns-then-not-fits-clause-adds
-returns-then-not-fits-clause-adds g c = tt
-
-pub returns-then-not-fits-clause-refuses : goal.returns-then-not-fits-clause-refuses
-returns-then-not-fits-clause-refuses g c = record {
-  block = record {
-    full = λ is. (too_long _ _ _ _ c.fits.result (ap (λ (l : List (EntryValue g.row.B.Denot)). take c.args.count l) c.deref.ensures.value) c.fits.ensures.1 c.if-not-fits.true, refl);
-    memory = tt;
-  };
-  sound = λ is. absurd (cc is);
-  cause = refl;
-}
-
-pub returns-then-not-fits-clause-size : goal.returns-then-not-fits-clause-size
-returns-then-not-fits-clause-size g c = refl
-
-pub returns-then-not-fits-clause-lasts : goal.returns-then-not-fits-clause-lasts
-returns-then-not-fits-clause-lasts g c = lasts_same g.D.Disk c.args.journal.now.disk c.args.journal.now.disk refl
 
 pub returns-in-Err-clause-adds : goal.returns-in-Err-clause-adds
 returns-in-Err-clause-adds g c = tt
@@ -93,14 +60,15 @@ returns-in-Err-clause-lasts g c = lasts_same g.D.Disk c.args.journal.now.disk c.
 pub returns-in-Ok-append-clause-any_moment : goal.returns-in-Ok-append-clause-any_moment
 returns-in-Ok-append-clause-any_moment g c = λ s stand.
     subst (λ es. Throughout g.D.Disk (disk_of c.args.journal.now) (disk_of c.append.new.self) (StandsForEither s (state_after s (commands es))))
-    (c.deref-2.ensures.value ∙ c.in-Ok.ensures.items) (c.append.ensures.any_moment s stand)
+    (c.deref.ensures.value ∙ c.in-Ok.ensures.items) (c.append.ensures.any_moment s stand)
 
 pub returns-in-Ok-append-clause-adds : goal.returns-in-Ok-append-clause-adds
 returns-in-Ok-append-clause-adds g c = record {
   first_is = c.in-Ok.ensures.items;
   rest_is = c.in-Ok.ensures.tail;
-  adds = subst (λ (l : List (EntryValue g.row.B.Denot)). StoreAdds g.D.Disk c.args.journal.now c.append.new.self (commands l)) (c.deref-2.ensures.value ∙ c.in-Ok.ensures.items) c.in-Ok-append.ensures.adds;
-  fits = subst (λ (l : List (EntryValue g.row.B.Denot)). Fits (size_of c.args.journal.now) (used_of c.args.journal.now) (commands l)) (ap (λ (l : List (EntryValue g.row.B.Denot)). take c.args.count l) c.deref.ensures.value) (c.fits.ensures.0 c.if-not-fits.false);
+  adds = subst (λ (l : List (EntryValue g.row.B.Denot)). StoreAdds g.D.Disk c.args.journal.now c.append.new.self (commands l)) (c.deref.ensures.value ∙ c.in-Ok.ensures.items) c.in-Ok-append.ensures.adds;
+  fits = subst (λ (l : List (EntryValue g.row.B.Denot)). Fits (size_of c.args.journal.now) (used_of c.args.journal.now) (commands l)) (c.deref.ensures.value ∙ c.in-Ok.ensures.items)
+      (omega (arith, c.in-Ok-append.ensures.adds.used, c.append.new.self.area.within, c.append.ensures.keeps.size));
   whole = c.in-Ok-append.ensures.breaks.ok;
 }
 
@@ -120,14 +88,14 @@ returns-in-Ok-append-clause-lasts g c = c.append.ensures.lasts
 pub returns-in-Err-append-clause-any_moment : goal.returns-in-Err-append-clause-any_moment
 returns-in-Err-append-clause-any_moment g c = λ s stand.
     subst (λ es. Throughout g.D.Disk (disk_of c.args.journal.now) (disk_of c.append.new.self) (StandsForEither s (state_after s (commands es))))
-    (c.deref-2.ensures.value ∙ c.in-Ok.ensures.items) (c.append.ensures.any_moment s stand)
+    (c.deref.ensures.value ∙ c.in-Ok.ensures.items) (c.append.ensures.any_moment s stand)
 
 pub returns-in-Err-append-clause-adds : goal.returns-in-Err-append-clause-adds
 returns-in-Err-append-clause-adds g c = tt
 
 pub returns-in-Err-append-clause-refuses : goal.returns-in-Err-append-clause-refuses
 returns-in-Err-append-clause-refuses g c =
-    refuses_as g.D.Disk c.args.journal.now c.append.new.self c.deref-2.result.now _ c.in-Err-append.fault (c.deref-2.ensures.value ∙ c.in-Ok.ensures.items) c.in-Err-append.ensures.refuses c.in-Err-append.ensures.breaks
+    refuses_as g.D.Disk c.args.journal.now c.append.new.self c.deref.result.now _ c.in-Err-append.fault (c.deref.ensures.value ∙ c.in-Ok.ensures.items) c.in-Err-append.ensures.refuses c.in-Err-append.ensures.breaks
 
 pub returns-in-Err-append-clause-size : goal.returns-in-Err-append-clause-size
 returns-in-Err-append-clause-size g c = c.append.ensures.keeps.size

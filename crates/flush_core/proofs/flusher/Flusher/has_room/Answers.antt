@@ -1,7 +1,6 @@
-use Rattle.std.proofs.Common.{◌∙◌, ◌≡◌, ◌+◌, inl, inr, List, ap, length, subst, sym, false}
+use Rattle.std.proofs.Common.{◌∙◌, ◌≡◌, ◌≤◌, ◌<◌, ◌+◌, ℕ, inl, inr, ap, length, subst, sym, false}
 use Rattle.std.proofs.lemmas.Bool.{cases_lt, false≢true}
-use Rattle.area_core.specs.Areas.{commands, records}
-use Rattle.command_core.specs.Commands.{CommandValue}
+use Rattle.area_core.specs.Areas.{records}
 use Rattle.recover_core.specs.Stores.{size_of, used_of}
 use Rattle.flush_core.specs.Batches.{from_on}
 use Rattle.flush_core.specs.Flushed.{Flushed, IsFlusher, gathered}
@@ -11,23 +10,22 @@ use Rattle.flush_core.proofs.flusher.Flusher.has_room.Goals as goal
 pub returns-clause-fits : goal.returns-clause-fits
 returns-clause-fits g c = λ t.
     let it = c.self.inside in
-    let whole : it.broken ≡ false = ap (λ (f : Flushed g.row.D.Denot). f.broken) c.self.view_is ∙ c.requires.whole in
-    let is : commands c.deref.result.now ≡ from_on it.seat it.stored = ap (λ l. commands l) c.deref.ensures.value ∙ (c.self.invariant.1 whole).batch_is in
+    let held = c.self.invariant.1 (ap (λ (f : Flushed g.row.D.Denot). f.broken) c.self.view_is ∙ c.requires.whole) in
+    let is : it.bytes ≡ length (records (from_on it.seat it.stored)) = held.bytes_is ∙ ap (λ l. length (records l)) held.batch_is in
     subst (λ (f : Flushed g.row.D.Denot). Fits f.size f.used (gathered f)) c.self.view_is
-    (subst (λ (l : List CommandValue). Fits (size_of it.journal) (used_of it.journal) l) is (c.fits.ensures.0 t))
+    (subst (λ (n : ℕ). used_of it.journal + 9 + n ≤ size_of it.journal) is (c.fits.ensures.0 t))
 
 pub returns-clause-long : goal.returns-clause-long
 returns-clause-long g c = λ t.
     let it = c.self.inside in
-    let whole : it.broken ≡ false = ap (λ (f : Flushed g.row.D.Denot). f.broken) c.self.view_is ∙ c.requires.whole in
-    let is : commands c.deref.result.now ≡ from_on it.seat it.stored = ap (λ l. commands l) c.deref.ensures.value ∙ (c.self.invariant.1 whole).batch_is in
-    let wanted = used_of it.journal + 9 + length (records (commands c.deref.result.now)) in
-    let long : IsTooLong (size_of it.journal) (used_of it.journal) (commands c.deref.result.now) = elim (cases_lt (size_of it.journal) wanted) [
+    let held = c.self.invariant.1 (ap (λ (f : Flushed g.row.D.Denot). f.broken) c.self.view_is ∙ c.requires.whole) in
+    let is : it.bytes ≡ length (records (from_on it.seat it.stored)) = held.bytes_is ∙ ap (λ l. length (records l)) held.batch_is in
+    let long : size_of it.journal < used_of it.journal + 9 + it.bytes = elim (cases_lt (size_of it.journal) (used_of it.journal + 9 + it.bytes)) [
       | inl less ↦ less
       | inr fits ↦ absurd (false≢true (sym t ∙ c.fits.ensures.1 fits))
     ] in
     subst (λ (f : Flushed g.row.D.Denot). IsTooLong f.size f.used (gathered f)) c.self.view_is
-    (subst (λ (l : List CommandValue). IsTooLong (size_of it.journal) (used_of it.journal) l) is long)
+    (subst (λ (n : ℕ). size_of it.journal < used_of it.journal + 9 + n) is long)
 
 pub returns-clause-kept : goal.returns-clause-kept
 returns-clause-kept g c = subst (λ (f : Flushed g.row.D.Denot). IsFlusher g.D.Disk.honest g.D.Disk.images f) c.self.view_is c.self.invariant.0
