@@ -53,7 +53,6 @@ fn claim_as<B, C: Told>(board: &Board<B>, seat: &mut TableSeat<B>, entry: &Entry
     ensures ring { seat.new.table_id ≡ seat.old.table_id }
     ensures told { claimed entry.now.command (step board.now.table_id.slots 0 1 0 none) seat.old.me result seat.new.me }
 {
-    let _ = entry;
     board.fetch_add::<Claim<C>>(seat, TAIL, 1)
 }
 

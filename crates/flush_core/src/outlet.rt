@@ -80,7 +80,6 @@ impl<B: Bell> Outlet<B> {
         ensures left { self.new.left.items ≡ self.old.left.items ++ unboxed (without self.old.boxes self.old.past.items) self.old.waiting.items }
         ensures none { (self.new.waiting.items ≡ []) × (self.new.spare.items ≡ []) }
     {
-        let _published = seat;
         let_past_go(&mut self.boxes, &mut self.past, &mut self.ended);
         give_waiting(&mut self.boxes, &mut self.waiting, &mut self.spare);
         leave(&mut self.left, &mut self.spare);

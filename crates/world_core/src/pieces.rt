@@ -82,7 +82,6 @@ impl Parts {
         ensures some { IfOk result (λ found. IfSome found (λ p. IsPatch (value_of self.now) (LastCall.Copying done all) p.at p.bytes.items)) }
         ensures none { IfOk result (λ found. found ≡ None → IsNoPatch (value_of self.now) (LastCall.Copying done all)) }
     {
-        let _ = all;
         let Some(bytes) = self.copy_bytes(alloc)? else {
             return Ok(None);
         };
@@ -102,7 +101,6 @@ impl Parts {
         ensures some { IfOk result (λ found. IfSome found (λ p. IsPatch (value_of self.now) (LastCall.SnapshotWriting done all) p.at p.bytes.items)) }
         ensures none { IfOk result (λ found. found ≡ None → IsNoPatch (value_of self.now) (LastCall.SnapshotWriting done all)) }
     {
-        let _ = all;
         let Some(bytes) = self.rest_bytes(alloc)? else {
             return Ok(None);
         };
