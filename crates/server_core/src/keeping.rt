@@ -2,16 +2,16 @@
 
 ghost use Rattle.std.specs.Prelude.{◌≡◌, ◌<◌, None, slice_index_or};
 ghost use Rattle.client_schedule.specs.Clients.{client_at};
-ghost use Rattle.memory_budget.specs.Sums.{counted};
-ghost use Rattle.memory_budget.specs.declared.held.TheConstants.{PLACES};
+ghost use Rattle.wakeups.specs.Sums.{counted};
+ghost use Rattle.wakeups.specs.declared.held.TheConstants.{PLACES};
 ghost use Rattle.server_core.specs.Keeping.{EvictsMost};
 
 use crate::service::Service;
 use client_schedule::CLIENTS;
 use event_log::Kind;
-use memory_budget::{Counted, PLACES};
 use std::sync::Wait;
 use std::time::Clock;
+use wakeups::{Counted, PLACES};
 
 const _: () = prove!(PLACES == CLIENTS);
 
