@@ -1,14 +1,14 @@
 -- What each step keeps.
 use Rattle.std.proofs.Common.{◌≡◌, ◌+◌, ◌<◌, ◌⊎◌, ℕ, Bool, true, false, List, [], ◌∷◌, inl, inr, refl, sym, ap, subst, ◌∙◌, arith, if◌then◌else◌}
-use Rattle.wakeups.specs.declared.step.Step.{Step}
-use Rattle.wakeups.specs.declared.step.Step.TheVariants.{Note, Ring, RingForOthers, Look, Wake, SayAsleep, Check, Return, SayAwake, TakeRing, TakeCalls}
-use Rattle.wakeups.specs.declared.step.Worker.{Worker}
-use Rattle.wakeups.specs.declared.step.Worker.TheVariants.{Serves, FallsAsleep, Waits, Hurries, Returned, Awake, TakesCalls}
+use Rattle.wakeups.specs.declared.bell_step.BellStep.{BellStep}
+use Rattle.wakeups.specs.declared.bell_step.BellStep.TheVariants.{Note, Ring, RingForOthers, Look, Wake, SayAsleep, Check, Return, SayAwake, TakeRing, TakeCalls}
+use Rattle.wakeups.specs.declared.bell_step.Sleeper.{Sleeper}
+use Rattle.wakeups.specs.declared.bell_step.Sleeper.TheVariants.{Serves, FallsAsleep, Waits, Hurries, Returned, Awake, TakesCalls}
 use Rattle.wakeups.specs.Machines.{Machine, May, Polls, Runs, after, begin}
 use Rattle.wakeups.specs.Promises.{IsHeard}
 
 -- it has said that it sleeps, and has not been told otherwise by itself
-abbrev pub IsDown : Worker → Type 0
+abbrev pub IsDown : Sleeper → Type 0
 IsDown FallsAsleep = Unit {0}
 IsDown Waits = Unit {0}
 IsDown Serves = ⊥
@@ -52,7 +52,7 @@ taken : (b : Bool) → b ≡ true → (if b then TakesCalls else Serves) ≡ Tak
 taken true is = refl
 taken false is = absurd cc
 
-polls_no_calls : (w : Worker) → Polls w → w ≡ TakesCalls → ⊥
+polls_no_calls : (w : Sleeper) → Polls w → w ≡ TakesCalls → ⊥
 polls_no_calls Serves polls is = absurd cc
 polls_no_calls FallsAsleep polls is = polls
 polls_no_calls Waits polls is = absurd cc
@@ -63,7 +63,7 @@ polls_no_calls TakesCalls polls is = polls
 
 -- a bit that is set stays heard of, if the worker was not taking the calls
 module _ (m : Machine) (kept : IsKept m) (other : m.worker ≡ TakesCalls → ⊥) where
-  not_taking : (w : Worker) → m.called ≡ true → (m.rung ≡ true) ⊎ ((w ≡ TakesCalls) ⊎ (0 < m.noting))
+  not_taking : (w : Sleeper) → m.called ≡ true → (m.rung ≡ true) ⊎ ((w ≡ TakesCalls) ⊎ (0 < m.noting))
   not_taking w called =
       elim (kept.heard called) [ inl rung ↦ inl rung | inr rest ↦ elim rest [ inl takes ↦ absurd (other takes) | inr noting ↦ inr (inr noting) ] ]
 
@@ -73,7 +73,7 @@ module _ (m : Machine) (kept : IsKept m) where
   rings waits =
       elim (kept.down (subst IsDown (sym waits) tt)) [ inl asleep ↦ inr (inr (asleep, omega arith)) | inr rest ↦ elim rest [ inl waking ↦ inr (inl waking) | inr woken ↦ inl woken ] ]
 
-  pub keeps : (step : Step) → May m step → IsKept (after m step)
+  pub keeps : (step : BellStep) → May m step → IsKept (after m step)
   keeps Note may = record { heard = λ _. inr (inr (omega arith)); down = kept.down; wakes = kept.wakes }
   keeps Ring may = record { heard = λ _. inl refl; down = kept.down; wakes = λ waits _. rings waits }
   keeps RingForOthers may = record { heard = λ _. inl refl; down = kept.down; wakes = λ waits _. rings waits }
@@ -127,7 +127,7 @@ module _ (m : Machine) (kept : IsKept m) where
   }
 
 -- what is kept is kept by all steps
-pub runs_keep : (m : Machine) (steps : List Step) (n : Machine) → IsKept m → Runs m steps n → IsKept n
+pub runs_keep : (m : Machine) (steps : List BellStep) (n : Machine) → IsKept m → Runs m steps n → IsKept n
 runs_keep m [] n kept is = subst IsKept (sym is) kept
 runs_keep m (step ∷ steps) n kept runs = runs_keep (after m step) steps n (keeps m kept step runs.0) runs.1
 
@@ -137,7 +137,7 @@ at_first = record { heard = λ called. absurd cc; down = λ down. absurd down; w
 none : (n : ℕ) → n ≡ 0 → 0 < n → ⊥
 none n is some = absurd (omega (arith, is, some))
 
-pub heard : (steps : List Step) (m : Machine) → Runs begin steps m → IsHeard m
+pub heard : (steps : List BellStep) (m : Machine) → Runs begin steps m → IsHeard m
 heard steps m runs =
     let kept = runs_keep begin steps m at_first runs in
     record {
@@ -146,14 +146,14 @@ heard steps m runs =
     }
 
 -- a worker that waits, and wakes, takes the calls
-module _ (steps : List Step) (m : Machine) (told : Bool) (runs : Runs begin steps m) (waits : m.worker ≡ Waits) (called : m.called ≡ true) (no_one : m.noting ≡ 0) where
+module _ (steps : List BellStep) (m : Machine) (told : Bool) (runs : Runs begin steps m) (waits : m.worker ≡ Waits) (called : m.called ≡ true) (no_one : m.noting ≡ 0) where
   rung_for : m.rung ≡ true
   rung_for = elim ((heard steps m runs).found called no_one) [ inl rung ↦ rung | inr takes ↦ absurd (waiting (sym waits ∙ takes)) ]
     where
       waiting : Waits ≡ TakesCalls → ⊥
       waiting is = absurd cc
 
-  abbrev pub four : List Step
+  abbrev pub four : List BellStep
   four = Return told ∷ SayAwake ∷ TakeRing ∷ TakeCalls ∷ []
 
   abbrev woken_up : Machine

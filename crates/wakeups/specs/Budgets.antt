@@ -9,7 +9,7 @@ abbrev pub IsMost : List ℕ → ℕ → Type 0
 IsMost here at = (at < length here) × All (λ held. held ≤ slice_index_or here at 0) here
 
 -- how many bytes each of some clients holds, and the place of one that holds most
-pub record HeldValue : Type 0 where
+pub record ClientBytesValue : Type 0 where
   pub bytes : List ℕ
   pub most : ℕ
 

@@ -1,10 +1,10 @@
 -- A worker that waits for its sockets and its bell, and any number of callers that ring for one of its clients. Each step is one atomic
 -- step of the code. The steps of all of them come in any order.
 use Rattle.std.specs.Prelude.{◌≡◌, ◌+◌, ◌-◌, ◌<◌, ℕ, Bool, true, false, List, [], ◌∷◌, if◌then◌else◌}
-use Rattle.wakeups.specs.declared.step.Step.{Step}
-use Rattle.wakeups.specs.declared.step.Step.TheVariants.{Note, Ring, RingForOthers, Look, Wake, SayAsleep, Check, Return, SayAwake, TakeRing, TakeCalls}
-use Rattle.wakeups.specs.declared.step.Worker.{Worker}
-use Rattle.wakeups.specs.declared.step.Worker.TheVariants.{Serves, FallsAsleep, Waits, Hurries, Returned, Awake, TakesCalls}
+use Rattle.wakeups.specs.declared.bell_step.BellStep.{BellStep}
+use Rattle.wakeups.specs.declared.bell_step.BellStep.TheVariants.{Note, Ring, RingForOthers, Look, Wake, SayAsleep, Check, Return, SayAwake, TakeRing, TakeCalls}
+use Rattle.wakeups.specs.declared.bell_step.Sleeper.{Sleeper}
+use Rattle.wakeups.specs.declared.bell_step.Sleeper.TheVariants.{Serves, FallsAsleep, Waits, Hurries, Returned, Awake, TakesCalls}
 
 -- Whether the client's bit is set, there was a ring, the worker has said that it sleeps, and the system was asked to end its wait. How far
 -- the worker has come. How many callers have set the bit but not rung yet; how many have rung but not looked whether the worker sleeps; and
@@ -14,7 +14,7 @@ pub record Machine : Type 0 where
   pub rung : Bool
   pub asleep : Bool
   pub woken : Bool
-  pub worker : Worker
+  pub worker : Sleeper
   pub noting : ℕ
   pub looking : ℕ
   pub waking : ℕ
@@ -24,7 +24,7 @@ abbrev pub begin : Machine
 begin = record { called = false; rung = false; asleep = false; woken = false; worker = Serves; noting = 0; looking = 0; waking = 0 }
 
 -- the worker's poll may end
-abbrev pub Polls : Worker → Type 0
+abbrev pub Polls : Sleeper → Type 0
 Polls Serves = Unit {0}
 Polls Waits = Unit {0}
 Polls Hurries = Unit {0}
@@ -34,7 +34,7 @@ Polls Awake = ⊥
 Polls TakesCalls = ⊥
 
 -- when a step is possible
-abbrev pub May : Machine → Step → Type 0
+abbrev pub May : Machine → BellStep → Type 0
 May m Note = Unit {0}
 May m Ring = 0 < m.noting
 May m RingForOthers = Unit {0}
@@ -48,7 +48,7 @@ May m TakeRing = m.worker ≡ Awake
 May m TakeCalls = m.worker ≡ TakesCalls
 
 -- what a step changes
-abbrev pub after : Machine → Step → Machine
+abbrev pub after : Machine → BellStep → Machine
 after m Note = record m { called = true; noting = m.noting + 1 }
 after m Ring = record m { rung = true; noting = m.noting - 1; looking = m.looking + 1 }
 after m RingForOthers = record m { rung = true; looking = m.looking + 1 }
@@ -62,6 +62,6 @@ after m TakeRing = record m { rung = false; worker = if m.rung then TakesCalls e
 after m TakeCalls = record m { called = false; worker = Serves }
 
 -- these steps, each of which is possible, lead from one machine to the other
-abbrev pub Runs : Machine → List Step → Machine → Type 0
+abbrev pub Runs : Machine → List BellStep → Machine → Type 0
 Runs m [] n = n ≡ m
 Runs m (step ∷ steps) n = May m step × Runs (after m step) steps n

@@ -1,6 +1,6 @@
 -- The sum of what all clients hold.
 use Rattle.std.specs.Prelude.{ℕ, Bool, true, false, List, ◌+◌, ◌-◌, ◌≤◌, cond, nat_lt, slice_set}
-use Rattle.wakeups.specs.declared.held.TheConstants.{PLACES}
+use Rattle.client_schedule.specs.declared.limits.TheConstants.{CLIENTS}
 use Rattle.wakeups.specs.declared.sum.Change.{Change}
 use Rattle.wakeups.specs.declared.sum.Change.TheVariants.{Same, More, Less}
 
@@ -24,4 +24,4 @@ is_more (Less bytes) = false
 
 -- what each client holds once the one at that place holds so much; nothing changes if there is no such place
 abbrev pub counted : ℕ → ℕ → List ℕ → List ℕ
-counted at holds bytes = cond (nat_lt at PLACES) (slice_set bytes at holds) bytes
+counted at holds bytes = cond (nat_lt at CLIENTS) (slice_set bytes at holds) bytes

@@ -1,8 +1,9 @@
 //! What each client of a desk holds, as the desk has told it to the total.
 
-use crate::held::{Held, PLACES};
+use crate::client_bytes::ClientBytes;
 use crate::sum::Change;
 use crate::total::Total;
+use client_schedule::CLIENTS;
 use std::marker::Model;
 
 /// What came of a client that holds so many bytes from now on.
@@ -20,19 +21,19 @@ pub enum Counted {
 /// at 2^64. So the total is the sum of what the clients of all desks hold. Contracts see what each holds.
 #[derive(Drop)]
 pub struct Account {
-    held: Held,
+    held: ClientBytes,
     told: u64,
 }
 
 impl Model for Account {
     ghost use Rattle.std.specs.Prelude.{◌≡◌, ◌%◌, ◌^◌, List, ℕ, length, sum};
-    ghost use Rattle.wakeups.specs.declared.held.TheConstants.{PLACES};
+    ghost use Rattle.client_schedule.specs.declared.limits.TheConstants.{CLIENTS};
 
     ghost Value = { List ℕ };
 
     ghost view = { λ a. a.held.bytes };
 
-    ghost invariant = { λ a. (a.told ≡ sum a.held.bytes % 2 ^ 64) × (length a.held.bytes ≡ PLACES) };
+    ghost invariant = { λ a. (a.told ≡ sum a.held.bytes % 2 ^ 64) × (length a.held.bytes ≡ CLIENTS) };
 }
 
 impl Account {
@@ -47,7 +48,7 @@ impl Account {
         ensures nothing { All (λ bytes. bytes ≡ 0) result }
     {
         Account {
-            held: Held::new(),
+            held: ClientBytes::new(),
             told: 0,
         }
     }
@@ -55,10 +56,10 @@ impl Account {
     /// The client at that place holds so many bytes from now on, and the total hears of it. Nothing changes if there is no such place.
     pub fn count(&mut self, total: &Total, at: usize, holds: u64) -> Counted
         ensures holds { self.new ≡ counted at holds self.old }
-        ensures its { at < PLACES → slice_index_or self.new at 0 ≡ holds }
+        ensures its { at < CLIENTS → slice_index_or self.new at 0 ≡ holds }
         ensures more { result ≡ Passed → slice_index_or self.old at 0 < holds }
     {
-        if at >= PLACES {
+        if at >= CLIENTS {
             return Counted::Same;
         }
         let change = self.held.set(at, holds);

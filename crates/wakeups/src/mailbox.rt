@@ -10,7 +10,7 @@ use crate::choice::DeskHolds;
 use crate::doorbell::Doorbell;
 use command_core::Op;
 use crossbeam_queue::ArrayQueue;
-use desk_core::{Next, Ringers, Turned};
+use desk_core::{Next, Turned, Wakers};
 use outbox_core::Bell;
 use std::alloc::{AllocError, Global};
 use std::net::TcpStream;
@@ -180,7 +180,7 @@ impl ClientWakers<'_> {
     }
 }
 
-impl Ringers<ClientWaker> for ClientWakers<'_> {
+impl Wakers<ClientWaker> for ClientWakers<'_> {
     fn bell(&self) -> Result<ClientWaker, AllocError>
         ensures { IfOk result (λ waker. called_by waker ≡ called_for self.now) }
     {

@@ -1,7 +1,7 @@
 //! The steps of a worker and of its callers.
 
 /// How far the worker has come.
-pub enum Worker {
+pub enum Sleeper {
     /// It serves its clients.
     Serves,
     /// It has said that it sleeps, and next looks whether there was a ring.
@@ -19,7 +19,7 @@ pub enum Worker {
 }
 
 /// One atomic step: the first five are a caller's, the others the worker's.
-pub enum Step {
+pub enum BellStep {
     /// A caller sets the bit of the client.
     Note,
     /// A caller that has set the bit says that there was a ring.

@@ -10,7 +10,7 @@ use std::alloc::AllocError;
 
 /// Makes the bell that the outbox of a worker's session rings. It is for a worker that waits within its link's `receive`,
 /// and is to hear of outputs there.
-pub trait Ringers<B: Bell> {
+pub trait Wakers<B: Bell> {
     /// A bell. If memory is refused, the worker asks again in its next turn.
     fn bell(&self) -> Result<B, AllocError>;
 
@@ -25,7 +25,7 @@ pub trait Ringers<B: Bell> {
     fn appended(&self, _ticket: u64) {}
 }
 
-impl Ringers<Silent> for Silent {
+impl Wakers<Silent> for Silent {
     fn bell(&self) -> Result<Silent, AllocError> {
         Ok(Silent)
     }

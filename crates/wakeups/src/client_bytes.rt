@@ -1,49 +1,47 @@
-//! What each of some clients holds.
+//! How many bytes each of some clients holds.
 
 use crate::choice::most;
 use crate::sum::Change;
+use client_schedule::CLIENTS;
 use std::marker::Model;
 use std::mem;
 
-/// How many places there are for clients.
-pub const PLACES: usize = 512;
-
 /// How many bytes each of some clients holds, by their places, and the place of one that holds most. Contracts see the two.
 #[derive(Drop)]
-pub struct Held {
-    bytes: [u64; PLACES],
+pub struct ClientBytes {
+    bytes: [u64; CLIENTS],
     most: usize,
 }
 
-impl Model for Held {
-    ghost use Rattle.wakeups.specs.Budgets.{HeldValue, IsMost};
+impl Model for ClientBytes {
+    ghost use Rattle.wakeups.specs.Budgets.{ClientBytesValue, IsMost};
 
-    ghost Value = { HeldValue };
+    ghost Value = { ClientBytesValue };
 
     ghost view = { λ a. record { bytes = a.bytes; most = a.most } };
 
     ghost invariant = { λ a. IsMost a.bytes a.most };
 }
 
-impl Held {
+impl ClientBytes {
     ghost use Rattle.std.specs.Prelude.{◌≡◌, ◌<◌, ◌≤◌, ◌+◌, ◌↔◌, ℕ, length, slice_set, sum, true};
     ghost use Rattle.std.specs.List.{All, slice_index_or};
     ghost use Rattle.wakeups.specs.Sums.{Applies, changed, is_more};
-    ghost use Rattle.wakeups.specs.declared.held.TheConstants.{PLACES};
+    ghost use Rattle.client_schedule.specs.declared.limits.TheConstants.{CLIENTS};
 
     /// Nobody holds anything.
-    pub fn new() -> Held
+    pub fn new() -> ClientBytes
         ensures nothing { All (λ bytes. bytes ≡ 0) result.bytes }
-        ensures places { length result.bytes ≡ PLACES }
+        ensures places { length result.bytes ≡ CLIENTS }
     {
-        let mut bytes = [0; PLACES];
+        let mut bytes = [0; CLIENTS];
         bytes.fill(0);
-        Held { bytes, most: 0 }
+        ClientBytes { bytes, most: 0 }
     }
 
     /// The client at that place holds so many bytes from now on. Answers how the sum changes of what all hold.
     pub fn set(&mut self, at: usize, holds: u64) -> Change
-        requires { at < PLACES }
+        requires { at < CLIENTS }
         ensures holds { self.new.bytes ≡ slice_set self.old.bytes at holds }
         ensures change { changed result (sum self.old.bytes) ≡ sum self.new.bytes }
         ensures applies { Applies result (sum self.old.bytes) }
