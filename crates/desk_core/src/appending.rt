@@ -9,11 +9,11 @@ ghost use Rattle.desk_core.specs.Histories.{Taken, Waits};
 ghost use Rattle.desk_core.specs.Progress.{IsNext};
 
 use crate::entries::charge;
-use crate::ringers::Ringers;
 use crate::slot::Slot;
 use crate::speaking::speak;
 use crate::stage::Stage;
 use crate::step::{Step, also_appended};
+use crate::wakers::Wakers;
 use claim_core::{BrokerRing, BrokerSeat, Refused};
 use command_core::{Entry, HeaderText, Op};
 use outbox_core::{Bell, OutSender};
@@ -39,13 +39,13 @@ impl<B: Bell> Slot<B> {
 
     // Does what its client asked for, in order, until something has to wait or `ACTS` are done. Answers whether a command was appended,
     // and what the last act came to.
-    pub(crate) fn execute<M: Ringers<B>, L: Link>(
+    pub(crate) fn execute<M: Wakers<B>, L: Link>(
         &mut self,
         alloc: Global,
         ring: &BrokerRing<OutSender<B>>,
         seat: &mut BrokerSeat<OutSender<B>>,
         link: &mut L,
-        ringers: &M,
+        wakers: &M,
     ) -> (bool, Step)
         requires { seat.old.ring ≡ ring.now }
         ensures goes { GoesOn L.sent L.received self.old seat.old link.old self.new seat.new link.new }
@@ -55,7 +55,7 @@ impl<B: Bell> Slot<B> {
     {
         let mut appended = false;
         for _ in 0..ACTS {
-            let step = self.step(alloc, ring, seat, link, ringers);
+            let step = self.step(alloc, ring, seat, link, wakers);
             appended = also_appended(appended, step);
             if matches!(step, Step::Room(_) | Step::Memory | Step::Rest) {
                 return (appended, step);
@@ -65,13 +65,13 @@ impl<B: Bell> Slot<B> {
     }
 
     // Appends the entry that waits, or else does the next act.
-    fn step<M: Ringers<B>, L: Link>(
+    fn step<M: Wakers<B>, L: Link>(
         &mut self,
         alloc: Global,
         ring: &BrokerRing<OutSender<B>>,
         seat: &mut BrokerSeat<OutSender<B>>,
         link: &mut L,
-        ringers: &M,
+        wakers: &M,
     ) -> Step
         requires { seat.old.ring ≡ ring.now }
         ensures goes { GoesOn L.sent L.received self.old seat.old link.old self.new seat.new link.new }
@@ -82,10 +82,10 @@ impl<B: Bell> Slot<B> {
             return Step::Rest;
         }
         if let Some(entry) = self.waiting.take() {
-            return self.append(ring, seat, ringers, entry);
+            return self.append(ring, seat, wakers, entry);
         }
         match self.connection.next() {
-            Some(Act::Do(op, receipt)) => self.request(alloc, ring, seat, ringers, op, receipt),
+            Some(Act::Do(op, receipt)) => self.request(alloc, ring, seat, wakers, op, receipt),
             Some(Act::Direct(notice)) => self.tell(alloc, link, notice),
             Some(Act::Close(code)) => {
                 self.connection.close(code);
@@ -101,12 +101,12 @@ impl<B: Bell> Slot<B> {
     // Appends the command of an operation, unless it may not be the next of the conversation. If memory is refused, it is the next act
     // again. If its session would pass what it may have by the command, the connection is given up: the command is dropped, with all that
     // waits after it.
-    fn request<M: Ringers<B>>(
+    fn request<M: Wakers<B>>(
         &mut self,
         alloc: Global,
         ring: &BrokerRing<OutSender<B>>,
         seat: &mut BrokerSeat<OutSender<B>>,
-        ringers: &M,
+        wakers: &M,
         op: Op,
         receipt: Option<HeaderText>,
     ) -> Step
@@ -126,10 +126,10 @@ impl<B: Bell> Slot<B> {
             self.connection.cut_off(alloc);
             return Step::Done;
         }
-        match charge(alloc, ringers, &mut self.connection, command) {
+        match charge(alloc, wakers, &mut self.connection, command) {
             Ok((entry, taker)) => {
                 self.opening = taker;
-                self.append(ring, seat, ringers, entry)
+                self.append(ring, seat, wakers, entry)
             }
             Err(command) => {
                 let (_, op, receipt) = command.into_parts();
@@ -140,11 +140,11 @@ impl<B: Bell> Slot<B> {
     }
 
     // Appends an entry, or keeps it if the window is full.
-    fn append<M: Ringers<B>>(
+    fn append<M: Wakers<B>>(
         &mut self,
         ring: &BrokerRing<OutSender<B>>,
         seat: &mut BrokerSeat<OutSender<B>>,
-        ringers: &M,
+        wakers: &M,
         entry: Entry<OutSender<B>>,
     ) -> Step
         requires ring { seat.old.ring ≡ ring.now }
@@ -155,10 +155,10 @@ impl<B: Bell> Slot<B> {
         ensures lives { CarriesOut (Waits entry.command) (entry.command.op ∷ []) self.old seat.old self.new seat.new }
         ensures takes { TakesStep result seat.old seat.new self.new.waiting }
     {
-        let window = ringers.window(entry.command().op());
+        let window = wakers.window(entry.command().op());
         match speak(ring, seat, &mut self.connection, entry, window) {
             Ok(ticket) => {
-                ringers.appended(ticket);
+                wakers.appended(ticket);
                 if let Some(taker) = self.opening.take() {
                     self.outbox = Some(taker);
                 }

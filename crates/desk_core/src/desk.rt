@@ -7,9 +7,9 @@ use crate::place::{
     NotAdmitted, Place, Seated, evict_at, give_up_at, lose_at, ping_at, take_place, turn_at, vacate,
 };
 use crate::places::{add_places, trim};
-use crate::ringers::Ringers;
 use crate::slot::Slot;
 use crate::turned::Turned;
+use crate::wakers::Wakers;
 use claim_core::{BrokerRing, BrokerSeat};
 use outbox_core::{Bell, OutSender};
 use std::alloc::Global;
@@ -111,12 +111,12 @@ impl<B: Bell, L: Link + Drop> Desk<B, L> {
 
     /// Lets the connection at that place go on by one turn, as `Slot::turn` says; `None` if there is none. Its session may have what the
     /// others leave of the desk's bytes. All other connections, with their links and what those sent, stay as they are.
-    pub fn turn<M: Ringers<B>>(
+    pub fn turn<M: Wakers<B>>(
         &mut self,
         alloc: Global,
         ring: &BrokerRing<OutSender<B>>,
         at: usize,
-        ringers: &M,
+        wakers: &M,
     ) -> Option<Turned>
         requires { self.old.seat.ring ≡ ring.now }
         ensures before { self.new.before ≡ self.old.before }
@@ -136,7 +136,7 @@ impl<B: Bell, L: Link + Drop> Desk<B, L> {
             ring,
             seat,
             place,
-            ringers,
+            wakers,
             &mut self.counted,
             self.limit,
         )

@@ -6,7 +6,7 @@ ghost use Rattle.desk_core.specs.Footprints.{charged, spent, total};
 
 use crate::connection::Connection;
 use crate::progress::Role;
-use crate::ringers::Ringers;
+use crate::wakers::Wakers;
 use command_core::{Command, Entry};
 use outbox_core::{Bell, BoxSize, OutSender, OutTaker, outbox};
 use std::alloc::{AllocError, Global};
@@ -17,9 +17,9 @@ pub(crate) type Boxed<B> = (Entry<OutSender<B>>, Option<OutTaker>);
 
 // Makes the entry of a command, with its box, and counts the command. If memory is refused for any of them, the command comes back and
 // nothing has changed.
-pub fn charge<B: Bell, M: Ringers<B>>(
+pub fn charge<B: Bell, M: Wakers<B>>(
     alloc: Global,
-    ringers: &M,
+    wakers: &M,
     connection: &mut Connection,
     command: Command,
 ) -> Result<Boxed<B>, Command>
@@ -28,7 +28,7 @@ pub fn charge<B: Bell, M: Ringers<B>>(
     ensures boxed { IfOk result (λ boxed. HasBox boxed.0 boxed.1) }
     ensures back { IfErr result (λ back. (back ≡ command) × (connection.new ≡ connection.old)) }
 {
-    let (entry, taker) = boxed(alloc, ringers, command)?;
+    let (entry, taker) = boxed(alloc, wakers, command)?;
     match connection.charge(alloc, entry.command().op()) {
         Ok(()) => Ok((entry, taker)),
         Err(_) => Err(command_of(entry)),
@@ -36,15 +36,15 @@ pub fn charge<B: Bell, M: Ringers<B>>(
 }
 
 // The entry of a command, with its box.
-fn boxed<B: Bell, M: Ringers<B>>(
+fn boxed<B: Bell, M: Wakers<B>>(
     alloc: Global,
-    ringers: &M,
+    wakers: &M,
     command: Command,
 ) -> Result<Boxed<B>, Command>
     ensures ok { IfOk result (λ boxed. (boxed.0.command ≡ command) × HasBox boxed.0 boxed.1) }
     ensures back { IfErr result (λ back. back ≡ command) }
 {
-    let Ok((sender, taker)) = box_for(alloc, ringers, Role::of(command.op())) else {
+    let Ok((sender, taker)) = box_for(alloc, wakers, Role::of(command.op())) else {
         return Err(command);
     };
     match Entry::new(alloc, command, sender) {
@@ -62,9 +62,9 @@ fn command_of<B: Bell>(entry: Entry<OutSender<B>>) -> Command
 }
 
 // The ends of a new outbox, for an Open alone.
-fn box_for<B: Bell, M: Ringers<B>>(
+fn box_for<B: Bell, M: Wakers<B>>(
     alloc: Global,
-    ringers: &M,
+    wakers: &M,
     role: Role,
 ) -> Result<(Option<OutSender<B>>, Option<OutTaker>), AllocError>
     ensures { IfOk result (λ ends. IsBoxFor role ends.0 ends.1) }
@@ -72,6 +72,6 @@ fn box_for<B: Bell, M: Ringers<B>>(
     if role != Role::Opens {
         return Ok((None, None));
     }
-    let (sender, taker) = outbox(alloc, ringers.bell()?, BoxSize::SERVER)?;
+    let (sender, taker) = outbox(alloc, wakers.bell()?, BoxSize::SERVER)?;
     Ok((Some(sender), Some(taker)))
 }

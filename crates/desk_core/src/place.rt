@@ -5,10 +5,10 @@ ghost use Rattle.desk_core.specs.Connections.{evicted, with_given_up, with_lost}
 ghost use Rattle.desk_core.specs.Continues.{Continues};
 ghost use Rattle.desk_core.specs.Places.{ChangedAt, KeepsWithin, PingedAt, Recounts, ServedAt, UnservedAt, counted_at, is_over_at, progress_at};
 
-use crate::ringers::Ringers;
 use crate::slot::Slot;
 use crate::stage::Stage;
 use crate::turned::Turned;
+use crate::wakers::Wakers;
 use claim_core::{BrokerRing, BrokerSeat};
 use outbox_core::{Bell, OutSender};
 use std::alloc::Global;
@@ -50,12 +50,12 @@ impl<B: Bell, L: Link> Seated<B, L> {
 
 // A turn of the connection that sits there, if one does. Its session may have what the others of the desk leave: so many bytes are counted
 // for all of them, which may have `limit`.
-pub fn turn_at<B: Bell, M: Ringers<B>, L: Link>(
+pub fn turn_at<B: Bell, M: Wakers<B>, L: Link>(
     alloc: Global,
     ring: &BrokerRing<OutSender<B>>,
     seat: &mut BrokerSeat<OutSender<B>>,
     place: &mut Place<B, L>,
-    ringers: &M,
+    wakers: &M,
     counted: &mut u64,
     limit: u64,
 ) -> Option<Turned>
@@ -74,7 +74,7 @@ pub fn turn_at<B: Bell, M: Ringers<B>, L: Link>(
             seated.slot.allow(limit - others);
             let turned = seated
                 .slot
-                .turn(alloc, ring, seat, &mut seated.link, ringers);
+                .turn(alloc, ring, seat, &mut seated.link, wakers);
             *counted = others + seated.slot.counted();
             Some(turned)
         }

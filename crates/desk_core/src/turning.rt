@@ -4,11 +4,11 @@ ghost use Rattle.std.specs.Prelude.{◌≡◌, ◌≢◌, false};
 ghost use Rattle.desk_core.specs.Answers.{IsPressing};
 
 use crate::ended::Ended;
-use crate::ringers::Ringers;
 use crate::slot::Slot;
 use crate::stage::Stage;
 use crate::step::Step;
 use crate::turned::{Next, Turned};
+use crate::wakers::Wakers;
 use claim_core::{BrokerRing, BrokerSeat};
 use outbox_core::{Bell, OutSender};
 use std::alloc::Global;
@@ -29,20 +29,20 @@ impl<B: Bell> Slot<B> {
     ///
     /// What is appended goes on with the connection's conversation, whatever others speak through the seat. The client is sent only
     /// what is its own: outputs of its session, and before it has one, once, the ERROR that its own bytes ask for.
-    pub fn turn<M: Ringers<B>, L: Link>(
+    pub fn turn<M: Wakers<B>, L: Link>(
         &mut self,
         alloc: Global,
         ring: &BrokerRing<OutSender<B>>,
         seat: &mut BrokerSeat<OutSender<B>>,
         link: &mut L,
-        ringers: &M,
+        wakers: &M,
     ) -> Turned
         requires { seat.old.ring ≡ ring.now }
         ensures goes { GoesOn L.sent L.received self.old seat.old link.old self.new seat.new link.new }
         ensures answers { Answers L.received result seat.old link.old self.new seat.new link.new }
     {
         let (heard, read) = self.read(alloc, link);
-        let (appended, acted) = self.execute(alloc, ring, seat, link, ringers);
+        let (appended, acted) = self.execute(alloc, ring, seat, link, wakers);
         let passed = self.pass_on(alloc, ring, seat, link);
         let is_short = self.finish(link);
         let lacks = is_short || matches!(passed, Step::Memory);

@@ -8,7 +8,7 @@ ghost use Rattle.engine_core.specs.Serving.{IsEndAt, Serves};
 use crate::ended::Ended;
 use crate::gate::Gate;
 use claim_core::{BrokerRing, BrokerSeat};
-use desk_core::{Next, Ringers, SESSION_BYTES, Slot, Turned};
+use desk_core::{Next, SESSION_BYTES, Slot, Turned, Wakers};
 use outbox_core::{Bell, OutSender};
 use std::alloc::Global;
 use ws_core::Link;
@@ -21,12 +21,12 @@ use ws_core::Link;
 /// another. The client is sent outputs of that session alone, and before it has one the ERROR that its bytes ask for, once.
 ///
 /// `Stopped` comes only if the ring takes nothing more. A growth that memory refuses is tried again in the next turn.
-pub fn worker<B: Bell, M: Ringers<B>, L: Link, G: Gate>(
+pub fn worker<B: Bell, M: Wakers<B>, L: Link, G: Gate>(
     alloc: Global,
     ring: &BrokerRing<OutSender<B>>,
     seat: &mut BrokerSeat<OutSender<B>>,
     link: &mut L,
-    ringers: &M,
+    wakers: &M,
     gate: &G,
     turns: u64,
 ) -> Ended
@@ -40,7 +40,7 @@ pub fn worker<B: Bell, M: Ringers<B>, L: Link, G: Gate>(
         turns,
     };
     let mut slot = Slot::new(alloc, SESSION_BYTES);
-    let ended = serve(alloc, ring, seat, link, ringers, &mut slot, &rounds);
+    let ended = serve(alloc, ring, seat, link, wakers, &mut slot, &rounds);
     drop(slot);
     ended
 }
@@ -54,12 +54,12 @@ struct Rounds<'a, G> {
 }
 
 // Gives a connection its turns, until it ends or there are no more.
-fn serve<B: Bell, M: Ringers<B>, L: Link, G: Gate>(
+fn serve<B: Bell, M: Wakers<B>, L: Link, G: Gate>(
     alloc: Global,
     ring: &BrokerRing<OutSender<B>>,
     seat: &mut BrokerSeat<OutSender<B>>,
     link: &mut L,
-    ringers: &M,
+    wakers: &M,
     slot: &mut Slot<B>,
     rounds: &Rounds<'_, G>,
 ) -> Ended
@@ -72,7 +72,7 @@ fn serve<B: Bell, M: Ringers<B>, L: Link, G: Gate>(
         if !rounds.gate.pass(rounds.worker, turn) {
             continue;
         }
-        let turned = slot.turn(alloc, ring, seat, link, ringers);
+        let turned = slot.turn(alloc, ring, seat, link, wakers);
         if let Next::Over(ended) = turned.next {
             return Ended::of(ended);
         }

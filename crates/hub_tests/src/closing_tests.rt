@@ -5,8 +5,8 @@ use crate::hubs::{HubFlusher, HubRing, HubSeat, Party, SMALL_AREA, close, new_pa
 use crate::paces::{Free, Shut};
 use command_core::{Command, Dest, Entry, Op, Sending};
 use disk_core::MemDisk;
-use frame_core::{Bytes, Headers};
 use engine_core::{Closed, flush_loop};
+use frame_core::{Bytes, Headers};
 use outbox_core::{OutSender, Silent};
 use std::alloc::Global;
 use std::test::Fail;

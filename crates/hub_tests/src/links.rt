@@ -1,7 +1,7 @@
 //! Links in memory that end as a test wants them to, and want of memory.
 
 use claim_core::Released;
-use desk_core::Ringers;
+use desk_core::Wakers;
 use outbox_core::Silent;
 use session_core::Notice;
 use std::alloc::{AllocError, Global};
@@ -46,7 +46,7 @@ pub struct Scarce {
     pub left: Cell<u64>,
 }
 
-impl Ringers<Silent> for Scarce {
+impl Wakers<Silent> for Scarce {
     fn bell(&self) -> Result<Silent, AllocError> {
         if is_refused(&self.left) {
             return Err(AllocError);

@@ -10,8 +10,8 @@ use crate::hubs::{
 use crate::paces::{Free, Noting};
 use crate::texts::{CONNECT, SEND_X, SEND_Y, SUBSCRIBE, SUBSCRIBER, THREE_MESSAGES};
 use disk_core::MemDisk;
-use flush_core::FlushFault;
 use engine_core::{Ended, flush_loop, worker};
+use flush_core::FlushFault;
 use outbox_core::Silent;
 use std::alloc::Global;
 use std::sync::Wait;

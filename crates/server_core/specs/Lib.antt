@@ -1,4 +1,3 @@
-pub mod Bells
 pub mod Endings
 pub mod Handing
 pub mod Keeping

@@ -15,7 +15,7 @@ use Rattle.engine_core.specs.Closings.{Closes}
 use Rattle.engine_core.specs.declared.closed.Closed.{Closed}
 use Rattle.engine_core.specs.declared.hub.SeatRoom.{SeatRoom}
 use Rattle.event_log.specs.declared.fault.ServeFault.TheVariants.{Output, Flushing}
-use Rattle.server_core.specs.declared.mailbox.ClientWaker.{ClientWaker}
+use Rattle.wakeups.specs.declared.mailbox.ClientWaker.{ClientWaker}
 use Rattle.server_core.specs.declared.service.Service.{Service}
 use Rattle.server_core.specs.declared.serving.ServeEnd.{ServeEnd}
 use Rattle.server_core.specs.declared.serving.ServeEnd.TheVariants.{Asked, Fault}

@@ -3,15 +3,13 @@
 ghost use Rattle.std.specs.Prelude.{◌≡◌, [], IfSome, IsNone};
 ghost use Rattle.server_core.specs.Handing.{IsFewest, vacancy};
 
-use crate::ending::Ending;
-use crate::log_thread::LogThread;
-use crate::mailbox::{Arrival, Mailbox};
 use claim_core::SEATS;
 use event_log::{Kind, ServeFault, Unopened};
 use std::net::{Ipv4Addr, Net, SocketAddr, SocketAddrV4, TcpListener, TcpStream};
 use std::sync::{Arc, Wait};
 use std::time::{Clock, Duration};
 use std::{io, thread};
+use wakeups::{Arrival, Ending, LogThread, Mailbox};
 use ws_core::Vacancy;
 
 /// For how many milliseconds nobody is accepted after accepting a client has failed.
@@ -56,13 +54,9 @@ impl<R> Acceptor<R> {
         self.most_clients
     }
 
-    /// How many clients there are.
-    pub(crate) fn clients(&self) -> u64 {
-        let mut total = 0u64;
-        for mailbox in &self.mailboxes {
-            total = total.saturating_add(mailbox.clients());
-        }
-        total
+    /// The mailboxes of the desks.
+    pub(crate) fn mailboxes(&self) -> &[Arc<Mailbox>] {
+        self.mailboxes.as_slice()
     }
 }
 

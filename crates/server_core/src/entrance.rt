@@ -6,8 +6,6 @@ ghost use Rattle.server_core.specs.Serving.{count_mailboxes};
 ghost use Rattle.server_core.specs.declared.serving.TheConstants.{MOST_CLIENTS, MOST_MEMORY};
 
 use crate::acceptor::listen;
-use crate::doorbell::Doorbell;
-use crate::mailbox::Mailbox;
 use crate::serving::{MOST_CLIENTS, MOST_MEMORY};
 use crate::worker_setup::{WorkerSetup, man};
 use claim_core::SEATS;
@@ -15,6 +13,7 @@ use event_log::ServeFault;
 use std::alloc::{AllocError, Global};
 use std::net::{Net, TcpListener, TcpStream};
 use std::sync::Arc;
+use wakeups::{Doorbell, Mailbox};
 
 /// Which clients a server takes, how many, how many threads serve them, and how much memory they may hold.
 #[derive(Drop)]

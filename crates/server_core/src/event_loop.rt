@@ -5,8 +5,6 @@ ghost use Rattle.atomic_table.specs.Seated.{TableId};
 ghost use Rattle.server_core.specs.Serving.{AreAt, AreBack, AreServed};
 ghost use Rattle.server_core.specs.Waits.{first_due, is_anybody_let_in, is_anybody_ready, is_mark_awaited, wait_of};
 
-use crate::doorbell::Doorbell;
-use crate::mailbox::Mailbox;
 use crate::service::{Service, client_of};
 use crate::shared::{ServerSeat, Shared};
 use crate::sweep::Sweep;
@@ -18,6 +16,7 @@ use std::marker::Model;
 use std::sync::{Arc, Wait};
 use std::thread;
 use std::time::{Clock, Duration};
+use wakeups::{Doorbell, Mailbox};
 
 /// For how many milliseconds a worker waits at most, once the server ends, for clients to take what is theirs and to close.
 const LONGEST_FAREWELL: u64 = 2_000;

@@ -2,25 +2,22 @@
 
 ghost use Rattle.std.specs.Prelude.{◌≡◌, ◌<◌, None, slice_index_or};
 ghost use Rattle.client_schedule.specs.Clients.{client_at};
-ghost use Rattle.memory_budget.specs.Sums.{counted};
-ghost use Rattle.memory_budget.specs.declared.held.TheConstants.{PLACES};
+ghost use Rattle.wakeups.specs.Sums.{counted};
+ghost use Rattle.client_schedule.specs.declared.limits.TheConstants.{CLIENTS};
 ghost use Rattle.server_core.specs.Keeping.{EvictsMost};
 
 use crate::service::Service;
-use client_schedule::CLIENTS;
 use event_log::Kind;
-use memory_budget::{Counted, PLACES};
 use std::sync::Wait;
 use std::time::Clock;
-
-const _: () = prove!(PLACES == CLIENTS);
+use wakeups::Counted;
 
 impl<'a, R: Wait + Clock + Drop> Service<'a, R> {
     /// Counts that a client holds so many bytes. If by this all clients hold more than they may, each worker looks whether it is one of its
     /// own that holds most.
     pub(crate) fn count(&mut self, number: usize, holds: u64)
         ensures account { self.new.account ≡ counted number holds self.old.account }
-        ensures its { number < PLACES → slice_index_or self.new.account number 0 ≡ holds }
+        ensures its { number < CLIENTS → slice_index_or self.new.account number 0 ≡ holds }
         ensures shared { self.new.shared ≡ self.old.shared }
         ensures desk { self.new.desk ≡ self.old.desk }
     {

@@ -3,19 +3,17 @@
 ghost use Rattle.std.specs.Prelude.{◌≡◌};
 ghost use Rattle.client_schedule.specs.Outlooks.{awaits_mark, due_at, is_ready, lets_in};
 
-use crate::calls::{BITS, Called, WORDS};
-use crate::mailbox::{Arrival, ClientWaker, ClientWakers, Mailbox};
 use crate::shared::{ServerRing, ServerSeat, Shared};
 use client_schedule::{CLIENTS, ClientState, Clients, Due, Flow, Progress, ReadBudget, Reported};
 use desk_core::{Cut, Desk, Next, Turned};
 use event_log::Kind;
-use memory_budget::Account;
 use mio::net::TcpStream;
 use mio::{Interest, Registry, Token};
 use std::alloc::Global;
 use std::io;
 use std::sync::{Arc, Wait};
 use std::time::Clock;
+use wakeups::{Account, Arrival, BITS, Called, ClientWaker, ClientWakers, Mailbox, WORDS};
 use ws_core::{Greeting, Outgoing, WsLink};
 
 /// How many turns a client has one after another at most.

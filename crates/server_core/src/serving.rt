@@ -8,24 +8,18 @@ ghost use Rattle.server_core.specs.Serving.{AreAt, IsReady, IsNewHub, IsOpened, 
 
 use crate::acceptor::Acceptor;
 use crate::descriptors::clients_allowed;
-use crate::ending::Ending;
 use crate::entrance::{Entrance, Reception, bells_of, mailboxes_again};
 use crate::last_rounds::LastRounds;
-use crate::log_thread::LogThread;
-use crate::mailbox::{ClientWaker, Mailbox};
-use crate::memory::Memory;
 use crate::reporter::Reporter;
 use crate::shared::{ServerRing, ServerSeat, Shared};
-use crate::wakeups::Wakeups;
 use crate::worker::WorkerThread;
 use crate::worker_setup::WorkerSetup;
 use claim_core::SEATS;
 use desk_core::SESSION_BYTES;
 use disk_core::FileDisk;
+use engine_core::{HELD_BYTES, Hub, HubFlusher, SeatRoom, compact_last, desk_bytes, flush_loop};
 use event_log::{Event, ServeFault, Start};
 use flush_core::FlushFault;
-use engine_core::{Hub, HubFlusher, SeatRoom, compact_last, flush_loop};
-use engine_core::{HELD_BYTES, desk_bytes};
 use std::alloc::Global;
 use std::fs::{File, Files};
 use std::io::Write;
@@ -33,6 +27,7 @@ use std::marker::Model;
 use std::net::{Net, TcpListener, TcpStream};
 use std::sync::{Arc, Wait};
 use std::time::Clock;
+use wakeups::{ClientWaker, Ending, LogThread, Mailbox, Memory, Wakeups};
 use work_share::Pace;
 
 pub(crate) type ServerHub = Hub<FileDisk, ClientWaker>;

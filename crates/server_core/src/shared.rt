@@ -1,12 +1,10 @@
 //! What the threads of a server share.
 
-use crate::mailbox::ClientWaker;
-use crate::memory::Memory;
-use crate::wakeups::Wakeups;
 use claim_core::{BrokerRing, BrokerSeat};
 use outbox_core::OutSender;
 use std::sync::Arc;
 use std::time::Clock;
+use wakeups::{ClientWaker, Memory, Wakeups};
 use work_share::Pace;
 
 pub(crate) type ServerRing = BrokerRing<OutSender<ClientWaker>>;

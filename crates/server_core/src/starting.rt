@@ -8,22 +8,21 @@ ghost use Rattle.event_log.specs.Faults.{IsNotStarted};
 ghost use Rattle.server_core.specs.Serving.{AreAllAt, AreAt, IsClosed, IsStaffed, count_mailboxes};
 
 use crate::acceptor::Acceptor;
-use crate::log_thread::LogThread;
-use crate::mailbox::ClientWaker;
 use crate::serving::{Server, ServerFlusher, ServerHub};
 use crate::shared::{ServerRing, ServerSeat, Shared};
 use crate::worker::{Worker, WorkerThread, start};
 use crate::worker_setup::WorkerSetup;
 use claim_core::SEATS;
 use disk_core::{Disk, FileDisk};
-use event_log::ServeFault;
 use engine_core::{Closed, Hub, SeatRoom};
+use event_log::ServeFault;
 use std::alloc::{AllocError, Global};
 use std::io::Write;
 use std::sync::{Arc, Wait};
 use std::thread;
 use std::thread::{Threads, join_promised};
 use std::time::Clock;
+use wakeups::{ClientWaker, LogThread};
 
 impl<R> Server<R>
 where
@@ -77,7 +76,9 @@ where
             return Err(ServeFault::Memory);
         };
         let mut writer = writer;
-        match thread::spawn(rt, move || log.run(alloc, &its, &acceptor, &mut writer)) {
+        match thread::spawn(rt, move || {
+            log.run(alloc, &its, acceptor.mailboxes(), &mut writer)
+        }) {
             Ok(_) => Ok(()),
             Err(_) => Err(ServeFault::Threads),
         }

@@ -4,8 +4,6 @@ ghost use Rattle.std.specs.Prelude.{◌≡◌, ◌+◌, ◌≤◌, ◌<◌, IfOk
 ghost use Rattle.claim_core.specs.declared.limits.TheConstants.{SEATS};
 ghost use Rattle.server_core.specs.Serving.{count_mailboxes};
 
-use crate::doorbell::Doorbell;
-use crate::mailbox::Mailbox;
 use claim_core::SEATS;
 use client_schedule::Clients;
 use event_log::ServeFault;
@@ -15,6 +13,7 @@ use std::io;
 use std::io::ErrorKind;
 use std::net::Net;
 use std::sync::Arc;
+use wakeups::{Doorbell, Mailbox};
 
 /// The token by which a worker's poll tells that its doorbell was rung. Tokens of sockets come from their desks' and clients' numbers.
 const BELL: Token = Token(usize::MAX);

@@ -1,0 +1,32 @@
+//! Where the bells of outboxes come from.
+
+ghost use Rattle.std.specs.Prelude.{◌≤◌};
+ghost use Rattle.claim_core.specs.declared.limits.TheConstants.{WINDOW};
+
+use claim_core::WINDOW;
+use command_core::Op;
+use outbox_core::{Bell, Silent};
+use std::alloc::AllocError;
+
+/// Makes the bell that the outbox of a worker's session rings. It is for a worker that waits within its link's `receive`,
+/// and is to hear of outputs there.
+pub trait Wakers<B: Bell> {
+    /// A bell. If memory is refused, the worker asks again in its next turn.
+    fn bell(&self) -> Result<B, AllocError>;
+
+    /// How many commands of the desk may be under way, with one of this operation that comes next: none while it has to wait for others.
+    fn window(&self, _op: &Op) -> usize
+        ensures { result ≤ WINDOW }
+    {
+        WINDOW
+    }
+
+    /// The command that was asked about last has got that ticket.
+    fn appended(&self, _ticket: u64) {}
+}
+
+impl Wakers<Silent> for Silent {
+    fn bell(&self) -> Result<Silent, AllocError> {
+        Ok(Silent)
+    }
+}

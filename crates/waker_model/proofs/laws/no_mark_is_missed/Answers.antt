@@ -1,9 +1,0 @@
-use Rattle.std.proofs.Common.{refl, arith}
-use Rattle.waker_model.proofs.Marking.{marked}
-use Rattle.waker_model.proofs.laws.no_mark_is_missed.Goals as goal
-
-pub returns : goal.returns
-returns c = record {
-  told = marked;
-  reached = (_, ((refl, (refl, (tt, (omega arith, refl)))), record { waits = refl; risen = refl; done = refl }));
-}

@@ -1,8 +1,0 @@
-use Rattle.waker_model.proofs.Keeping.{four_run, four_take}
-use Rattle.waker_model.proofs.laws.what_was_called_for_is_taken.Goals as goal
-
-pub returns : goal.returns
-returns c = record {
-  taken = λ steps m n told runs waits called no_one ran. four_take steps m told runs waits called no_one n ran;
-  possible = λ steps m told runs waits called no_one. four_run steps m told runs waits called no_one;
-}

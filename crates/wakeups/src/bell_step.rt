@@ -1,0 +1,45 @@
+//! The steps of a worker and of its callers.
+
+/// How far the worker has come.
+pub enum Sleeper {
+    /// It serves its clients.
+    Serves,
+    /// It has said that it sleeps, and next looks whether there was a ring.
+    FallsAsleep,
+    /// It waits in the poll, for sockets and for the system's wake.
+    Waits,
+    /// It has found a ring, and looks at the poll without waiting.
+    Hurries,
+    /// The poll has ended.
+    Returned,
+    /// It has said that it is awake, and next takes the ring back.
+    Awake,
+    /// It has taken a ring back, and next takes the calls.
+    TakesCalls,
+}
+
+/// One atomic step: the first five are a caller's, the others the worker's.
+pub enum BellStep {
+    /// A caller sets the bit of the client.
+    Note,
+    /// A caller that has set the bit says that there was a ring.
+    Ring,
+    /// A caller that calls for another client, or for none, says that there was a ring.
+    RingForOthers,
+    /// A caller that has rung looks whether the worker sleeps, and marks it as not asleep.
+    Look,
+    /// A caller that found the worker asleep asks the system to end its wait.
+    Wake,
+    /// The worker says that it sleeps.
+    SayAsleep,
+    /// It looks whether there was a ring.
+    Check,
+    /// Its poll ends: at any time, and at once if it does not wait. The poll may report the system's wake, which is then gone.
+    Return(bool),
+    /// It says that it is awake.
+    SayAwake,
+    /// It takes the ring back.
+    TakeRing,
+    /// It takes the bits of all clients.
+    TakeCalls,
+}

@@ -1,0 +1,82 @@
+//! Which clients were called for.
+
+ghost use Rattle.std.specs.Prelude.{◌≡◌, IsNone};
+
+use client_schedule::CLIENTS;
+use std::sync::atomic::{AtomicU64, Ordering};
+
+/// How many clients have their bits in one word.
+pub const BITS: usize = 64;
+
+/// In how many words the bits of all clients are.
+pub const WORDS: usize = 8;
+
+const _: () = prove!(BITS * WORDS == CLIENTS);
+
+/// Which clients of a desk were called for since it looked: a bit for each, by their numbers. So a look costs as much as there
+/// were calls, and a glance at each word.
+#[derive(Drop)]
+pub(crate) struct Calls {
+    words: [AtomicU64; WORDS],
+}
+
+impl Calls {
+    /// Nobody called.
+    pub(crate) fn new() -> Calls {
+        Calls {
+            words: [
+                AtomicU64::new(0),
+                AtomicU64::new(0),
+                AtomicU64::new(0),
+                AtomicU64::new(0),
+                AtomicU64::new(0),
+                AtomicU64::new(0),
+                AtomicU64::new(0),
+                AtomicU64::new(0),
+            ],
+        }
+    }
+
+    /// Calls for a client.
+    pub(crate) fn call(&self, client: usize) {
+        if client < CLIENTS {
+            self.words[client / BITS].fetch_or(1 << (client % BITS), Ordering::SeqCst);
+        }
+    }
+
+    /// Takes the calls of one word: they count no more.
+    pub(crate) fn take(&self, word: usize) -> Called {
+        let bits = if word < WORDS && self.words[word].load(Ordering::SeqCst) != 0 {
+            self.words[word].swap(0, Ordering::SeqCst)
+        } else {
+            0
+        };
+        Called {
+            first: word.saturating_mul(BITS),
+            bits,
+        }
+    }
+}
+
+/// The calls that were taken of one word.
+#[derive(Drop)]
+pub struct Called {
+    /// The client of the lowest bit.
+    pub first: usize,
+    /// A bit for each client that was called for.
+    pub bits: u64,
+}
+
+impl Called {
+    /// The next client that was called for.
+    pub fn next(&mut self) -> Option<usize>
+        ensures { IsNone result → self.old.bits ≡ 0 }
+    {
+        if self.bits == 0 {
+            return None;
+        }
+        let bit = self.bits.trailing_zeros() as usize;
+        self.bits &= self.bits - 1;
+        Some(self.first.saturating_add(bit))
+    }
+}

@@ -1,0 +1,258 @@
+//! What takes lines for the operator, and writes them in a thread of its own.
+
+use crate::counts::Counts;
+use crate::mailbox::{Mailbox, count_clients};
+use crossbeam_queue::ArrayQueue;
+use event_log::{Event, Figures, KINDS, Kind, Rhythm, write_line};
+use flush_core::{ERRORS, Tally};
+use std::alloc::{AllocError, Global};
+use std::io::Write;
+use std::sync::atomic::{AtomicU64, Ordering};
+use std::sync::{Arc, Wait};
+use std::thread::Parker;
+use std::time::{Clock, Duration};
+
+/// How many lines may wait to be written. If nobody reads what is written, later ones are left out, and counted.
+const UNTOLD: usize = 64;
+
+/// For how many milliseconds it waits at most: while something is counted that was not told yet, and while nothing is.
+const SHORT: u64 = 1_000;
+
+const LONG: u64 = 60_000;
+
+/// How often a server that ends looks whether its last lines are written, and for how many milliseconds it waits in between, unless one is
+/// written. Nobody may read them, and then it ends without.
+const LOOKS: u32 = 100;
+
+const LOOK: u64 = 5;
+
+/// How the server did when its flusher said so last.
+#[derive(Drop)]
+struct Gauges {
+    commands: AtomicU64,
+    frames: AtomicU64,
+    refused: AtomicU64,
+    memory: AtomicU64,
+    messages: AtomicU64,
+    held: AtomicU64,
+    dead: AtomicU64,
+    used: AtomicU64,
+    to_repeat: AtomicU64,
+}
+
+impl Gauges {
+    fn new() -> Gauges {
+        Gauges {
+            commands: AtomicU64::new(0),
+            frames: AtomicU64::new(0),
+            refused: AtomicU64::new(0),
+            memory: AtomicU64::new(0),
+            messages: AtomicU64::new(0),
+            held: AtomicU64::new(0),
+            dead: AtomicU64::new(0),
+            used: AtomicU64::new(0),
+            to_repeat: AtomicU64::new(0),
+        }
+    }
+
+    fn set(&self, figures: Figures) {
+        self.commands.store(figures.commands, Ordering::SeqCst);
+        self.frames.store(figures.frames, Ordering::SeqCst);
+        self.refused.store(figures.refused, Ordering::SeqCst);
+        self.memory.store(figures.memory, Ordering::SeqCst);
+        self.messages.store(figures.messages, Ordering::SeqCst);
+        self.held.store(figures.held, Ordering::SeqCst);
+        self.dead.store(figures.dead, Ordering::SeqCst);
+        self.used.store(figures.used, Ordering::SeqCst);
+        self.to_repeat.store(figures.to_repeat, Ordering::SeqCst);
+    }
+
+    // The same, with how many clients there are.
+    fn with(&self, connections: u64) -> Figures {
+        Figures {
+            connections,
+            commands: self.commands.load(Ordering::SeqCst),
+            frames: self.frames.load(Ordering::SeqCst),
+            refused: self.refused.load(Ordering::SeqCst),
+            memory: self.memory.load(Ordering::SeqCst),
+            messages: self.messages.load(Ordering::SeqCst),
+            held: self.held.load(Ordering::SeqCst),
+            dead: self.dead.load(Ordering::SeqCst),
+            used: self.used.load(Ordering::SeqCst),
+            to_repeat: self.to_repeat.load(Ordering::SeqCst),
+        }
+    }
+}
+
+/// Takes what happens from the other threads, which never wait for it, and tells it in a thread of its own. It tells events at once,
+/// counts once a second at most, and how the server does once a minute at most, if it did something.
+#[derive(Drop)]
+pub struct LogThread {
+    untold: ArrayQueue<Event>,
+    // How many events were taken to be told, and how many of them were told.
+    taken: AtomicU64,
+    told: AtomicU64,
+    kinds: Counts<KINDS>,
+    // ERRORs by code that were not told yet, and those of the broker that its flusher has counted.
+    errors: Counts<ERRORS>,
+    published: Counts<ERRORS>,
+    gauges: Gauges,
+    thread: Parker,
+    // The sleep of what ends the server, until all is told.
+    ender: Parker,
+}
+
+impl LogThread {
+    pub fn new(alloc: Global) -> Result<LogThread, AllocError> {
+        Ok(LogThread {
+            untold: ArrayQueue::new(alloc, UNTOLD)?,
+            taken: AtomicU64::new(0),
+            told: AtomicU64::new(0),
+            kinds: Counts::new(),
+            errors: Counts::new(),
+            published: Counts::new(),
+            gauges: Gauges::new(),
+            thread: Parker::new(),
+            ender: Parker::new(),
+        })
+    }
+
+    /// Has an event told, unless as many wait as may.
+    pub fn note<R: Wait>(&self, rt: &R, event: Event) {
+        match self.untold.push(rt, event) {
+            Ok(()) => {
+                self.taken.fetch_add(1, Ordering::SeqCst);
+                self.thread.unpark();
+            }
+            Err(_) => self.count(Kind::LeftOut),
+        }
+    }
+
+    /// Returns once each event that was noted is told, or after half a second.
+    pub fn await_told<R: Wait>(&self, rt: &R) {
+        for _look in 0..LOOKS {
+            if self.told.load(Ordering::SeqCst) >= self.taken.load(Ordering::SeqCst) {
+                return;
+            }
+            self.ender.park_timeout(rt, Duration::from_millis(LOOK));
+        }
+    }
+
+    /// Counts something.
+    pub fn count(&self, kind: Kind) {
+        if self.kinds.add(kind.place(), 1) {
+            self.thread.unpark();
+        }
+    }
+
+    /// Counts an ERROR of that code that a session has made.
+    pub fn count_error(&self, code: usize) {
+        self.count_errors(code, 1);
+    }
+
+    fn count_errors(&self, code: usize, more: u64) {
+        if self.errors.add(code, more) {
+            self.thread.unpark();
+        }
+    }
+
+    /// Says how the server does, and what was published so far.
+    pub fn figures(&self, figures: Figures, tally: &Tally) {
+        if self.gauges.refused.load(Ordering::SeqCst) != tally.refused {
+            for code in 0..ERRORS {
+                let more = self.published.raise(code, tally.errors[code]);
+                self.count_errors(code, more);
+            }
+        }
+        self.gauges.set(figures);
+    }
+
+    /// Tells what comes, and how many clients the desks of these mailboxes have. It does not return. A line that can't be written is left out.
+    pub fn run<R: Wait + Clock, W: Write>(
+        &self,
+        alloc: Global,
+        rt: &R,
+        mailboxes: &[Arc<Mailbox>],
+        writer: &mut W,
+    ) {
+        let mut rhythm = Rhythm::new(moment(rt));
+        let mut told = 0;
+        for _ in rt.forever() {
+            self.tell_events(alloc, rt, writer);
+            let now = moment(rt);
+            if self.has_counts() && rhythm.tells_counts(now) {
+                self.tell_counts(alloc, rt, writer);
+            }
+            if rhythm.tells_doing(now) {
+                told = self.tell_doing(alloc, rt, count_clients(mailboxes), told, writer);
+            }
+            let longest = if self.has_counts() { SHORT } else { LONG };
+            self.thread.park_timeout(rt, Duration::from_millis(longest));
+        }
+    }
+
+    fn tell_events<R: Wait + Clock, W: Write>(&self, alloc: Global, rt: &R, writer: &mut W) {
+        for _event in 0..UNTOLD {
+            match self.untold.pop(rt) {
+                Some(event) => {
+                    tell(alloc, rt, event, writer);
+                    self.told.fetch_add(1, Ordering::SeqCst);
+                    self.ender.unpark();
+                }
+                None => return,
+            }
+        }
+    }
+
+    fn has_counts(&self) -> bool {
+        self.kinds.are_any() || self.errors.are_any()
+    }
+
+    fn tell_counts<R: Clock, W: Write>(&self, alloc: Global, rt: &R, writer: &mut W) {
+        for place in 0..KINDS {
+            let count = self.kinds.take(place);
+            if count > 0
+                && let Some(kind) = Kind::at(place)
+            {
+                tell(alloc, rt, Event::Counted { kind, count }, writer);
+            }
+        }
+        for code in 0..ERRORS {
+            let count = self.errors.take(code);
+            if count > 0 {
+                let code = code as u64;
+                tell(alloc, rt, Event::Errors { code, count }, writer);
+            }
+        }
+    }
+
+    // Tells how the server does, if it has done commands since that was told last; answers how many it has done by now.
+    fn tell_doing<R: Clock, W: Write>(
+        &self,
+        alloc: Global,
+        rt: &R,
+        connections: u64,
+        told: u64,
+        writer: &mut W,
+    ) -> u64 {
+        let figures = self.gauges.with(connections);
+        if figures.commands != told {
+            tell(alloc, rt, Event::Doing(figures), writer);
+        }
+        figures.commands
+    }
+}
+
+// Tells an event that comes now.
+fn tell<R: Clock, W: Write>(alloc: Global, rt: &R, event: Event, writer: &mut W) {
+    let since_1970 = rt.since_1970().unwrap_or(Duration::from_secs(0));
+    drop(write_line(alloc, event, since_1970, writer));
+}
+
+// The moment, in milliseconds of the clock; 0 if it can't be read.
+fn moment<R: Clock>(rt: &R) -> u64 {
+    match rt.monotonic() {
+        Ok(time) => u64::try_from(time.as_millis()).unwrap_or(0),
+        Err(_) => 0,
+    }
+}

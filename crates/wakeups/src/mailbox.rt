@@ -1,0 +1,203 @@
+//! What others know of a worker's desk: where its clients come in, and which were called for.
+
+ghost use Rattle.std.specs.Prelude.{◌≡◌, ◌≤◌, IfOk};
+ghost use Rattle.std.specs.Arc.{arc_value};
+ghost use Rattle.claim_core.specs.declared.limits.TheConstants.{WINDOW};
+ghost use Rattle.wakeups.specs.Bells.{called_by, called_for};
+
+use crate::calls::{Called, Calls};
+use crate::choice::DeskHolds;
+use crate::doorbell::Doorbell;
+use command_core::Op;
+use crossbeam_queue::ArrayQueue;
+use desk_core::{Next, Turned, Wakers};
+use outbox_core::Bell;
+use std::alloc::{AllocError, Global};
+use std::net::TcpStream;
+use std::sync::atomic::{AtomicU64, Ordering};
+use std::sync::{Arc, Wait};
+use work_share::Pace;
+use ws_core::Vacancy;
+
+/// How many sockets wait at most to be looked at by one desk's worker.
+const ARRIVALS: usize = 512;
+
+/// A socket that was just accepted, and whether its client is to be told that the server is full.
+#[derive(Drop)]
+pub struct Arrival {
+    /// Its socket.
+    pub socket: TcpStream,
+    /// Whom the server has a place for.
+    pub vacancy: Vacancy,
+}
+
+/// What others know of a worker's desk.
+#[derive(Drop)]
+pub struct Mailbox {
+    // What wakes the worker, which has other desks too.
+    bell: Arc<Doorbell>,
+    // Which clients were called for since the worker looked.
+    calls: Calls,
+    arrivals: ArrayQueue<Arrival>,
+    // How many clients were handed to the desk and are still there.
+    clients: AtomicU64,
+    // The number of the desk among all, and the most bytes that one of its clients holds.
+    desk: usize,
+    most: AtomicU64,
+}
+
+impl Mailbox {
+    /// The mailbox of the desk of that number, whose worker this wakes.
+    pub fn new(alloc: Global, bell: Arc<Doorbell>, desk: usize) -> Result<Mailbox, AllocError> {
+        Ok(Mailbox {
+            bell,
+            calls: Calls::new(),
+            arrivals: ArrayQueue::new(alloc, ARRIVALS)?,
+            clients: AtomicU64::new(0),
+            desk,
+            most: AtomicU64::new(0),
+        })
+    }
+
+    /// Has the worker look once more before it sleeps.
+    pub fn ring(&self) {
+        self.bell.ring();
+    }
+
+    /// How many clients the desk has, counting those that its worker has not looked at yet.
+    pub fn clients(&self) -> u64 {
+        self.clients.load(Ordering::SeqCst)
+    }
+
+    /// The number of the desk among all.
+    pub fn desk(&self) -> usize {
+        self.desk
+    }
+
+    /// How many clients it has, and the most bytes that one of them holds.
+    pub(crate) fn holds(&self) -> DeskHolds {
+        DeskHolds {
+            clients: self.clients(),
+            most: self.most.load(Ordering::SeqCst),
+        }
+    }
+
+    /// Says the most bytes that one of its clients holds.
+    pub fn say_most(&self, bytes: u64) {
+        self.most.store(bytes, Ordering::SeqCst);
+    }
+
+    /// Hands the desk a client. If too many wait for its worker already, the socket is closed.
+    pub fn hand<R: Wait>(&self, rt: &R, arrival: Arrival) {
+        self.clients.fetch_add(1, Ordering::SeqCst);
+        match self.arrivals.push(rt, arrival) {
+            Ok(()) => self.bell.ring(),
+            Err(refused) => {
+                drop(refused);
+                self.leaves();
+            }
+        }
+    }
+
+    /// The next client that was handed to the desk.
+    pub fn next<R: Wait>(&self, rt: &R) -> Option<Arrival> {
+        self.arrivals.pop(rt)
+    }
+
+    /// Says that a client has left the desk.
+    pub fn leaves(&self) {
+        self.clients.fetch_sub(1, Ordering::SeqCst);
+    }
+
+    /// Takes the calls of one word of clients. There are `WORDS` of these words.
+    pub fn take_calls(&self, word: usize) -> Called {
+        self.calls.take(word)
+    }
+}
+
+/// How many clients the desks of these mailboxes have.
+pub(crate) fn count_clients(mailboxes: &[Arc<Mailbox>]) -> u64 {
+    let mut total = 0u64;
+    for mailbox in mailboxes {
+        total = total.saturating_add(mailbox.clients());
+    }
+    total
+}
+
+/// What calls a worker from afar for one of a desk's clients: the outbox of a session has one.
+#[derive(Drop)]
+pub struct ClientWaker {
+    mailbox: Arc<Mailbox>,
+    client: usize,
+}
+
+impl Bell for ClientWaker {
+    // The worker finds all clients of a batch by the first ring.
+    fn note(&self) {
+        self.mailbox.calls.call(self.client);
+    }
+
+    fn ring(&self) {
+        self.note();
+        self.mailbox.bell.ring();
+    }
+}
+
+/// Makes the wakers of one client of a desk.
+#[derive(Drop)]
+pub struct ClientWakers<'a> {
+    /// The desk's mailbox.
+    pub mailbox: &'a Arc<Mailbox>,
+    /// The client.
+    pub client: usize,
+    /// How many commands it may have under way.
+    pub pace: &'a Pace,
+    /// The mark when its turns began.
+    pub mark: u64,
+}
+
+impl ClientWakers<'_> {
+    /// What the turns came to. A client that waits for room does so over the mark when they began: others whose commands it waited for may
+    /// have had theirs published since. If it waits for others, it doesn't stand before its neighbours.
+    pub fn since(&self, turned: Turned) -> Turned {
+        let Turned {
+            appended,
+            heard,
+            next,
+        } = turned;
+        let next = match next {
+            Next::Room(mark) if self.pace.waits(self.mailbox.desk) => {
+                Next::Output(mark.min(self.mark))
+            }
+            Next::Room(mark) => Next::Room(mark.min(self.mark)),
+            other => other,
+        };
+        Turned {
+            appended,
+            heard,
+            next,
+        }
+    }
+}
+
+impl Wakers<ClientWaker> for ClientWakers<'_> {
+    fn bell(&self) -> Result<ClientWaker, AllocError>
+        ensures { IfOk result (λ waker. called_by waker ≡ called_for self.now) }
+    {
+        Ok(ClientWaker {
+            mailbox: self.mailbox.clone()?,
+            client: self.client,
+        })
+    }
+
+    fn window(&self, op: &Op) -> usize
+        ensures { result ≤ WINDOW }
+    {
+        let client = self.client as u64;
+        self.pace.window(self.mailbox.desk, client, op, self.mark)
+    }
+
+    fn appended(&self, ticket: u64) {
+        self.pace.appended(self.mailbox.desk, ticket, self.mark);
+    }
+}

@@ -1,0 +1,55 @@
+//! How much memory all clients hold together.
+
+use crate::choice::{DeskHolds, Holdings};
+use crate::mailbox::Mailbox;
+use crate::sum::is_over;
+use crate::total::Total;
+use claim_core::SEATS;
+use std::sync::Arc;
+
+/// How many bytes all clients may hold together, and what they hold. Each desk counts what its own clients hold. It tells the total by how
+/// much that changes, and its mailbox the most that one of them holds.
+#[derive(Drop)]
+pub struct Memory {
+    total: Total,
+    // The mailboxes of all desks.
+    mailboxes: Vec<Arc<Mailbox>>,
+}
+
+impl Memory {
+    /// The memory of clients at desks with these mailboxes, which hold nothing yet.
+    pub fn new(budget: u64, mailboxes: Vec<Arc<Mailbox>>) -> Memory {
+        Memory {
+            total: Total::new(budget),
+            mailboxes,
+        }
+    }
+
+    /// What all clients hold together.
+    pub fn total(&self) -> &Total {
+        &self.total
+    }
+
+    /// How many bytes all clients may hold together.
+    pub fn budget(&self) -> u64 {
+        self.total.budget()
+    }
+
+    /// Whether they hold more.
+    pub fn is_over(&self) -> bool {
+        is_over(self.budget(), self.total.bytes())
+    }
+
+    /// What is known of all clients by the desk of that number.
+    pub fn holdings(&self, desk: usize) -> Holdings {
+        let mut desks = [DeskHolds {
+            clients: 0,
+            most: 0,
+        }; SEATS];
+        for (mailbox, holds) in self.mailboxes.iter().zip(desks.iter_mut()) {
+            *holds = mailbox.holds();
+        }
+        // The total is read last: a desk that gives somebody up lowers it before it says that its most is less.
+        Holdings::known_at(desk, self.budget(), self.total.bytes(), &desks)
+    }
+}

@@ -1,0 +1,45 @@
+//! The sum of what all clients hold.
+
+ghost use Rattle.std.specs.Prelude.{◌≡◌, ◌≤◌, ◌<◌, ◌+◌, ◌↔◌, ℕ, IsTrue, true};
+ghost use Rattle.wakeups.specs.Sums.{Applies, changed, is_more};
+
+/// How the sum changes of what all clients hold.
+#[derive(Clone, Copy)]
+pub enum Change {
+    /// It stays.
+    Same,
+    /// It is so many bytes more.
+    More(u64),
+    /// It is so many bytes less.
+    Less(u64),
+}
+
+impl Change {
+    /// How a client that held so many bytes, and now holds so many, changes the sum.
+    pub fn of(held: u64, holds: u64) -> Change
+        ensures change { (total : ℕ) → held ≤ total → (changed result total + held ≡ total + holds) × Applies result total }
+        ensures more { is_more result ≡ true ↔ (held < holds) }
+    {
+        if holds < held {
+            Change::Less(held - holds)
+        } else if held < holds {
+            Change::More(holds - held)
+        } else {
+            Change::Same
+        }
+    }
+}
+
+/// Whether a sum that is so large is over the budget.
+pub fn is_over(budget: u64, sum: u64) -> bool
+    ensures { IsTrue result ↔ (budget < sum) }
+{
+    sum > budget
+}
+
+/// Whether a sum that was so large passes the budget by so many bytes more, and did not before.
+pub fn passes(budget: u64, before: u64, more: u64) -> bool
+    ensures { IsTrue result ↔ ((before ≤ budget) × (budget < before + more)) }
+{
+    before <= budget && more > budget - before
+}
