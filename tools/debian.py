@@ -75,12 +75,13 @@ def changelog(version, maintainer, moment):
     return f"stompd ({version}) stable; urgency=medium\n\n  * What came with this version is in CHANGELOG.md.\n\n -- {maintainer}  {when}\n"
 
 
-def files_of(program, serve, of_it, told, version, maintainer, moment):
+def files_of(program, serve, page, of_it, told, version, maintainer, moment):
     """Each file of the package: its name, its bytes and its mode."""
     yield "usr/lib/stompd/stompd", program, 0o755
     yield "usr/lib/stompd/serve", serve, 0o755
     name, data, mode = of_it
     yield f"usr/lib/stompd/{name}", data, mode
+    yield "usr/share/man/man1/stompd.1.gz", gzip.compress(page, mtime=0), 0o644
     for name in UNITS:
         yield f"lib/systemd/system/{name}", unit(name).encode(), 0o644
     yield "usr/lib/sysusers.d/stompd.conf", b'u stompd - "stompd, a message broker" /var/lib/stompd\n', 0o644
@@ -97,15 +98,15 @@ def write(path, data, mode):
     path.chmod(mode)
 
 
-def package_of(program, serve, of_it, told, oldest_libc, maintainer, moment):
-    """The name of the package, and its bytes; `of_it` is the file that says the program's version, which is the package's. The same files, maintainer
-    and moment give the same bytes."""
+def package_of(program, serve, page, of_it, told, oldest_libc, maintainer, moment):
+    """The name of the package, and its bytes; `page` is the manual page, and `of_it` is the file that says the program's version, which is the package's.
+    The same files, maintainer and moment give the same bytes."""
     with tempfile.TemporaryDirectory(prefix="stompd-package-") as room:
         tree = pathlib.Path(room) / "tree"
         tree.mkdir()
         # A package's version has no `-` but before its revision.
         version = of_it[1].decode().split()[1].rstrip(",").replace("-", ".")
-        files = list(files_of(program, serve, of_it, told, version, maintainer, moment))
+        files = list(files_of(program, serve, page, of_it, told, version, maintainer, moment))
         for name, data, mode in files:
             write(tree / name, data, mode)
         (tree / "usr" / "bin").mkdir()

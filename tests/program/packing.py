@@ -7,6 +7,7 @@ It builds nothing. The package is installed, removed and purged by `dpkg --root`
 looks at it if it is there. --package tries another package than that of bin/release, as one with an error that has to be found.
 """
 
+import gzip
 import hashlib
 import os
 import pathlib
@@ -48,6 +49,7 @@ def try_archive(archive, program, folder, checks):
     checks.same("the program is the one that was given", (base / "stompd").read_bytes(), program.read_bytes())
     checks.check("and FROM says so", "was given, and not built" in (base / "FROM").read_text())
     checks.check("VERSION has the program's number, the commit, and that it was given", VERSION.fullmatch((base / "VERSION").read_text()))
+    checks.check("the manual page is there", (base / "stompd.1").read_text().startswith(".TH stompd 1 ") if "stompd.1" in names else False, sorted(names))
     checks.check("both may be run", all(os.access(base / it, os.X_OK) for it in ("stompd", "serve")))
 
 
@@ -87,6 +89,8 @@ def try_package(package, program, root, checks):
     checks.check("its service runs what is installed, over that folder", os.access(f"{root}{starts[1]}", os.X_OK) and starts[2].startswith("/var/lib/stompd/"), starts[0])
     checks.check("as that user", "\nUser=stompd\n" in unit)
     checks.same("nothing is enabled", [str(it) for it in root.rglob("*.wants/*")], [])
+    page = root / "usr/share/man/man1/stompd.1.gz"
+    checks.check("the manual page is there", page.exists() and gzip.decompress(page.read_bytes()).startswith(b".TH stompd 1 "))
     checks.check("the recipes are there", (root / "usr/share/doc/stompd/deploy/nginx.conf").exists())
     journal = folder / "rooms.journal"
     serve_installed(root, journal, checks)

@@ -1,5 +1,5 @@
 -- Messages are done one after another.
-use Rattle.std.proofs.Common.{◌≡◌, ◌∙◌, ◌<◌, ◌≤◌, ◌+◌, ◌++◌, List, [], ◌∷◌, ℕ, Global, MatchOption, None, OnOk, Option, Result, Ok, Err, Some, Vec, ap, append_assoc, codes, drop, false, get_or, inl, inr, length, refl, subst, sym, take, true}
+use Rattle.std.proofs.Common.{◌≡◌, ◌∙◌, ◌<◌, ◌≤◌, ◌+◌, ◌++◌, ◌⊎◌, List, [], ◌∷◌, ℕ, Global, MatchOption, None, OnOk, Option, Result, Ok, Err, Some, Vec, ap, append_assoc, codes, drop, false, get_or, inl, inr, length, refl, subst, sym, take, true}
 use Rattle.std.proofs.lemmas.List.{length-take-le, take-append-drop, take_more}
 use Rattle.frame_core.specs.declared.frame.Frame.{Frame}
 use Rattle.frame_core.specs.declared.frame.Verb.TheVariants.{Message}
@@ -7,6 +7,7 @@ use Rattle.frame_core.specs.Writable.{first_of}
 use Rattle.frame_core.specs.Written.{written}
 use Rattle.client_core.specs.Requests.{ack_frame}
 use Rattle.client_core.specs.Deeds.{AreDone, IsDone, said_of, shown_text}
+use Rattle.client_core.specs.Listening.{AreLeft}
 use Rattle.client_core.specs.Talks.{Adds, Said, Shown, Spoken}
 use Rattle.client_core.specs.declared.plan.Plan.{Plan}
 use Rattle.client_core.proofs.Turns.{then}
@@ -44,10 +45,10 @@ shows (Ok u) plan frame text ack x y is shown m adds = (Shown text ∷ said_of a
 shows (Err e) plan frame text ack x y is shown m adds = tt
 
 -- the first of these frames, and the others
-pub split : (plan : Plan) (frames : List Frame) (i left rest : ℕ) (x y : Option (List Spoken)) → i ≤ length frames → rest + i ≡ left → Done plan (take i frames) x y
-    → (done : List Frame) × (others : List Frame) × (acts : List Spoken) × (frames ≡ done ++ others) × (rest + length done ≡ left) × AreDone plan done acts × Adds acts x y
-split plan frames i left rest x y within sum done =
-    (take i frames, drop i frames, done.0, sym (take-append-drop i frames), ap (λ k. rest + k) (length-take-le i frames within) ∙ sum, done.1, done.2)
+pub split : (plan : Plan) (frames : List Frame) (i left rest : ℕ) (x y : Option (List Spoken)) → i ≤ length frames → rest + i ≡ left → (rest ≡ 0) ⊎ (drop i frames ≡ []) → Done plan (take i frames) x y
+    → (messages : List Frame) × (others : List Frame) × (acts : List Spoken) × (frames ≡ messages ++ others) × AreLeft left rest messages others × AreDone plan messages acts × Adds acts x y
+split plan frames i left rest x y within sum over done =
+    (take i frames, drop i frames, done.0, sym (take-append-drop i frames), (ap (λ k. rest + k) (length-take-le i frames within) ∙ sum, over), done.1, done.2)
 
 pub one_more : (frames : List Frame) (i : ℕ) (frame : Frame) → i < length frames → frame ≡ get_or frames i frame → take (i + 1) frames ≡ take i frames ++ frame ∷ []
 one_more frames i frame within is = take_more frames i frame within ∙ ap (λ f. take i frames ++ f ∷ []) (sym is)

@@ -1,2 +1,4 @@
 mod Doing
+mod Leaving
+mod Showing
 mod Turns

@@ -4,7 +4,7 @@ use Rattle.frame_core.specs.declared.fault.FrameFault.{FrameFault}
 use Rattle.frame_core.specs.declared.frame.Frame.{Frame}
 use Rattle.frame_core.specs.Streams.{Frames}
 use Rattle.frame_core.proofs.Joins.{joined, joined_fault}
-use Rattle.client_core.specs.Answers.{Breaks, Gives, Hears, said, step_of}
+use Rattle.client_core.specs.Answers.{Breaks, Gives, Hears, said}
 use Rattle.client_core.specs.Talks.{Adds, Answers, BreaksOff, Converses, Heard, IsAnswered, IsOfPeer, IsUnanswered, Leads, Refuses, Said, Spoken, all_of, turn}
 use Rattle.client_core.specs.declared.fault.Cause.{Cause}
 use Rattle.client_core.specs.declared.fault.ClientFault.{ClientFault}
@@ -26,7 +26,7 @@ nothing_more : (bytes : List ℕ) → bytes ++ [] ≡ bytes
 nothing_more [] = refl
 nothing_more (b ∷ bytes) = ap (λ l. b ∷ l) (nothing_more bytes)
 
-all_more : (pieces : List (List ℕ)) (piece : List ℕ) → all_of (pieces ++ piece ∷ []) ≡ all_of pieces ++ piece
+pub all_more : (pieces : List (List ℕ)) (piece : List ℕ) → all_of (pieces ++ piece ∷ []) ≡ all_of pieces ++ piece
 all_more [] piece = nothing_more piece
 all_more (p ∷ pieces) piece = ap (λ l. p ++ l) (all_more pieces piece) ∙ sym (append_assoc p (all_of pieces) piece)
 
@@ -34,7 +34,7 @@ all_more (p ∷ pieces) piece = ap (λ l. p ++ l) (all_more pieces piece) ∙ sy
 abbrev pub SoFar : Option (List Spoken) → Option (List Spoken) → List ℕ → Type 0
 SoFar before after rest = (pieces : List (List ℕ)) × Adds (map Heard pieces) before after × Frames (all_of pieces) [] rest
 
-adds_more : (pieces : List (List ℕ)) (piece : List ℕ) (x y z : Option (List Spoken)) → Adds (map Heard pieces) x y → Adds (Heard piece ∷ []) y z → Adds (map Heard (pieces ++ piece ∷ [])) x z
+pub adds_more : (pieces : List (List ℕ)) (piece : List ℕ) (x y z : Option (List Spoken)) → Adds (map Heard pieces) x y → Adds (Heard piece ∷ []) y z → Adds (map Heard (pieces ++ piece ∷ [])) x z
 adds_more pieces piece x y z p q = subst (λ l. Adds l x z) (sym (map_more pieces piece)) (then (map Heard pieces) (Heard piece ∷ []) x y z p q)
 
 hears_more : (stage : Stage) (pieces : List (List ℕ)) (piece rest last : List ℕ) (is_answered : Bool) → Frames (all_of pieces) [] rest → Hears stage (rest ++ piece) last is_answered
@@ -104,9 +104,9 @@ pub converses : (x y z : Option (List Spoken)) → Led Disconnect x y → Answer
 converses x y z led a = (led.0, a.0, led.1, then led.0 (turn (said Disconnect) a.0) x y z led.2 a.1, a.2)
 
 -- which stays so, whatever a close comes to that says nothing
-pub closed : {A E : Type 0} (result : Result A E) (x y z : Option (List Spoken)) → z ≡ y → Converses x y → OnOk result (Converses x z)
-closed (Ok a) x y z same whole = subst (Converses x) (sym same) whole
-closed (Err e) x y z same whole = tt
+pub closed : {A E : Type 0} (P : Option (List Spoken) → Type 0) (result : Result A E) (y z : Option (List Spoken)) → z ≡ y → P y → OnOk result (P z)
+closed P (Ok a) y z same whole = subst P (sym same) whole
+closed P (Err e) y z same whole = tt
 
 -- why the first stage is not answered, and why a later one is not
 pub breaks_later : (stage : Stage) (fault : ClientFault) (x y z : Option (List Spoken)) → Led stage x y → IsUnanswered stage (said stage) fault y z → IsOfPeer fault.cause ⊎ BreaksOff fault x z

@@ -1,5 +1,5 @@
 -- The frames that a client says.
-use Rattle.std.specs.Prelude.{◌≡◌, ◌&&◌, List, [], ◌∷◌, ◌++◌, ℕ, Bool, Option, None, Some, true, false, codes, cond, decimal, length, map, nat_eq}
+use Rattle.std.specs.Prelude.{◌&&◌, List, [], ◌∷◌, ℕ, Bool, Option, None, Some, true, false, codes, cond, decimal, length, map, nat_eq}
 use Rattle.std.specs.Borrow.{Bor}
 use Rattle.std.specs.List.{starts_with}
 use Rattle.frame_core.specs.declared.frame.Frame.{Frame}

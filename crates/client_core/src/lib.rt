@@ -6,6 +6,7 @@ mod address;
 mod asking;
 mod conversation;
 mod deeds;
+mod farewell;
 mod fault;
 mod hearing;
 mod listening;

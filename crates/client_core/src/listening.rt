@@ -1,39 +1,54 @@
 //! The conversation of one who listens.
 
-ghost use Rattle.std.specs.Prelude.{◌≡◌, ◌≤◌, ◌+◌, ◌++◌, ◌∷◌, List, ℕ, IfOk, OnOk, length};
+ghost use Rattle.std.specs.Prelude.{◌≡◌, ◌++◌, ◌∷◌, [], List, ℕ, IfOk, None, OnOk};
 ghost use Rattle.frame_core.specs.declared.frame.Frame.{Frame};
+ghost use Rattle.frame_core.specs.Written.{written};
 ghost use Rattle.client_core.specs.Deeds.{AreDone, IsDone, acts_of};
-ghost use Rattle.client_core.specs.Talks.{Adds, Spoken, listening_step};
+ghost use Rattle.client_core.specs.Listening.{AllAreShown, AreLeft, EndsIn, Listens};
+ghost use Rattle.client_core.specs.Requests.{subscribe_frame};
+ghost use Rattle.client_core.specs.Talks.{Adds, Heard, Said, Spoken, listening_step};
 
-use crate::deeds::{Deed, deed_of, is_message};
+use crate::deeds::{Deed, deed_of};
+use crate::farewell::leave_after;
 use crate::fault::{Cause, ClientFault, Step};
-use crate::hearing::cause_by;
 use crate::peer::Listener;
 use crate::plan::Plan;
 use crate::requests::subscribe_text;
 use crate::sending::close;
-use crate::stage::Stage;
 use frame_core::{Fed, Frame, FrameReader};
 use std::alloc::Global;
 
 /// Subscribes in an open session, shows the messages that come, and settles each once it is shown if that is asked for. After
 /// the last it ends the session, and closes.
-pub fn listen<L: Listener>(
+pub fn listen<L: Listener>(alloc: Global, plan: &Plan<'_>, peer: &mut L) -> Result<(), ClientFault>
+    ensures { OnOk result ((talk : List Spoken) × Listens plan.now talk × Adds talk (L.Peer.talk peer.old) (L.Peer.talk peer.new)) }
+{
+    let mut reader = FrameReader::new(alloc);
+    let listened = hear_all(alloc, plan, &mut reader, peer);
+    drop(reader);
+    match listened {
+        Ok(()) => close(peer),
+        Err(fault) => Err(fault),
+    }
+}
+
+// All of it, up to the close.
+fn hear_all<L: Listener>(
     alloc: Global,
     plan: &Plan<'_>,
+    reader: &mut FrameReader,
     peer: &mut L,
-) -> Result<(), ClientFault> {
-    let mut reader = FrameReader::new(alloc);
-    let left = match hear_messages(alloc, plan, &mut reader, peer) {
-        Ok(()) => leave_after(alloc, &mut reader, peer),
+) -> Result<(), ClientFault>
+    requires { reader.old.rest ≡ [] }
+    ensures { OnOk result ((talk : List Spoken) × Listens plan.now talk × Adds talk (L.Peer.talk peer.old) (L.Peer.talk peer.new)) }
+{
+    match hear_messages(alloc, plan, reader, peer) {
+        Ok(()) => leave_after(alloc, reader, peer),
         Err(cause) => Err(ClientFault {
             step: step_by(&cause),
             cause,
         }),
-    };
-    drop(reader);
-    left?;
-    close(peer)
+    }
 }
 
 // The step that went wrong while it listened.
@@ -52,11 +67,36 @@ fn hear_messages<L: Listener>(
     plan: &Plan<'_>,
     reader: &mut FrameReader,
     peer: &mut L,
-) -> Result<(), Cause> {
+) -> Result<(), Cause>
+    requires { reader.old.rest ≡ [] }
+    ensures { OnOk result ((listening : List Spoken) × AllAreShown plan.now listening reader.new.rest
+        × Adds (Said (written (subscribe_frame plan.now)) ∷ listening) (L.Peer.talk peer.old) (L.Peer.talk peer.new)) }
+{
+    match subscribe(alloc, plan, peer) {
+        Ok(()) => hear_until_all(alloc, plan, reader, peer),
+        Err(cause) => Err(cause),
+    }
+}
+
+fn subscribe<L: Listener>(alloc: Global, plan: &Plan<'_>, peer: &mut L) -> Result<(), Cause>
+    ensures { OnOk result (Adds (Said (written (subscribe_frame plan.now)) ∷ []) (L.Peer.talk peer.old) (L.Peer.talk peer.new)) }
+{
     let text = subscribe_text(alloc, plan)?;
     let said = peer.say(text.as_slice());
     drop(text);
-    said?;
+    said
+}
+
+// Hears pieces until all messages have come.
+fn hear_until_all<L: Listener>(
+    alloc: Global,
+    plan: &Plan<'_>,
+    reader: &mut FrameReader,
+    peer: &mut L,
+) -> Result<(), Cause>
+    requires { reader.old.rest ≡ [] }
+    ensures { OnOk result ((listening : List Spoken) × AllAreShown plan.now listening reader.new.rest × Adds listening (L.Peer.talk peer.old) (L.Peer.talk peer.new)) }
+{
     let mut left = plan.count;
     for _piece in 0..u64::MAX {
         if left == 0 {
@@ -74,29 +114,60 @@ fn hear_some<L: Listener>(
     reader: &mut FrameReader,
     left: u64,
     peer: &mut L,
-) -> Result<u64, Cause> {
-    let piece = peer.wait()?;
-    let fed = fed_with(alloc, reader, piece.as_slice());
-    drop(piece);
-    match fed {
-        Ok(fed) => {
-            let left = show_all(alloc, plan, fed.frames.as_slice(), left, peer);
-            let is_stomp = fed.fault.is_none();
-            drop(fed);
-            match left {
-                Ok(left) if is_stomp => Ok(left),
-                Ok(_) => Err(Cause::NotStomp),
-                Err(cause) => Err(cause),
-            }
+) -> Result<u64, Cause>
+    ensures { IfOk result (λ after. (piece : List ℕ) × (messages : List Frame) × (others : List Frame) × (acts : List Spoken)
+        × EndsIn plan.now (reader.old.rest ++ piece) messages others acts reader.new.rest × AreLeft left after messages others
+        × Adds (Heard piece ∷ acts) (L.Peer.talk peer.old) (L.Peer.talk peer.new)) }
+{
+    match peer.wait() {
+        Ok(piece) => {
+            let after = show_piece(alloc, plan, reader, piece.as_slice(), left, peer);
+            drop(piece);
+            after
         }
         Err(cause) => Err(cause),
     }
 }
 
-fn fed_with(alloc: Global, reader: &mut FrameReader, piece: &[u8]) -> Result<Fed, Cause> {
+// Shows what ends in a piece.
+fn show_piece<L: Listener>(
+    alloc: Global,
+    plan: &Plan<'_>,
+    reader: &mut FrameReader,
+    piece: &[u8],
+    left: u64,
+    peer: &mut L,
+) -> Result<u64, Cause>
+    ensures { IfOk result (λ after. (messages : List Frame) × (others : List Frame) × (acts : List Spoken)
+        × EndsIn plan.now (reader.old.rest ++ piece.now) messages others acts reader.new.rest × AreLeft left after messages others
+        × Adds acts (L.Peer.talk peer.old) (L.Peer.talk peer.new)) }
+{
     match reader.feed(alloc, piece) {
-        Ok(fed) => Ok(fed),
+        Ok(fed) => {
+            let after = show_fed(alloc, plan, &fed, left, peer);
+            drop(fed);
+            after
+        }
         Err(_) => Err(Cause::Memory),
+    }
+}
+
+// Shows what was read, after which no fault may stand.
+fn show_fed<L: Listener>(
+    alloc: Global,
+    plan: &Plan<'_>,
+    fed: &Fed,
+    left: u64,
+    peer: &mut L,
+) -> Result<u64, Cause>
+    ensures sound { OnOk result (fed.now.fault ≡ None) }
+    ensures shown { IfOk result (λ after. (messages : List Frame) × (others : List Frame) × (acts : List Spoken) × (fed.now.frames.items ≡ messages ++ others)
+        × AreLeft left after messages others × AreDone plan.now messages acts × Adds acts (L.Peer.talk peer.old) (L.Peer.talk peer.new)) }
+{
+    let after = show_all(alloc, plan, fed.frames.as_slice(), left, peer)?;
+    match fed.fault {
+        Some(_) => Err(Cause::NotStomp),
+        None => Ok(after),
     }
 }
 
@@ -108,8 +179,8 @@ fn show_all<L: Listener>(
     left: u64,
     peer: &mut L,
 ) -> Result<u64, Cause>
-    ensures { IfOk result (λ rest. (done : List Frame) × (others : List Frame) × (acts : List Spoken) × (frames.now ≡ done ++ others)
-        × (rest + length done ≡ left) × AreDone plan.now done acts × Adds acts (L.Peer.talk peer.old) (L.Peer.talk peer.new)) }
+    ensures { IfOk result (λ after. (messages : List Frame) × (others : List Frame) × (acts : List Spoken) × (frames.now ≡ messages ++ others)
+        × AreLeft left after messages others × AreDone plan.now messages acts × Adds acts (L.Peer.talk peer.old) (L.Peer.talk peer.new)) }
 {
     let mut left = left;
     for frame in frames {
@@ -145,56 +216,5 @@ fn perform<L: Listener>(deed: &Deed, peer: &mut L) -> Result<(), Cause>
     match &deed.ack {
         Some(ack) => peer.say(ack.as_slice()),
         None => Ok(()),
-    }
-}
-
-// Says DISCONNECT, and hears its RECEIPT. Messages that come before that go back.
-fn leave_after<L: Listener>(
-    alloc: Global,
-    reader: &mut FrameReader,
-    peer: &mut L,
-) -> Result<(), ClientFault> {
-    match hear_farewell(alloc, reader, peer) {
-        Ok(()) => Ok(()),
-        Err(cause) => Err(ClientFault {
-            step: Step::Farewell,
-            cause,
-        }),
-    }
-}
-
-fn hear_farewell<L: Listener>(
-    alloc: Global,
-    reader: &mut FrameReader,
-    peer: &mut L,
-) -> Result<(), Cause> {
-    peer.say(Stage::Disconnect.text().as_bytes())?;
-    for _piece in 0..u64::MAX {
-        let piece = peer.hear()?;
-        let fed = fed_with(alloc, reader, piece.as_slice());
-        drop(piece);
-        let fed = fed?;
-        let is_over = is_farewell(alloc, &fed);
-        drop(fed);
-        if is_over? {
-            return Ok(());
-        }
-    }
-    Err(Cause::Late)
-}
-
-// Whether the RECEIPT of the DISCONNECT is among them, after messages alone.
-fn is_farewell(alloc: Global, fed: &Fed) -> Result<bool, Cause> {
-    for frame in fed.frames.as_slice() {
-        if Stage::Disconnect.is_answer(frame) {
-            return Ok(true);
-        }
-        if !is_message(frame.verb) {
-            return Err(cause_by(alloc, frame));
-        }
-    }
-    match fed.fault {
-        Some(_) => Err(Cause::NotStomp),
-        None => Ok(false),
     }
 }

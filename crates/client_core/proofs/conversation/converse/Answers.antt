@@ -1,4 +1,5 @@
 use Rattle.client_core.specs.declared.stage.Stage.TheVariants.{Disconnect, Send}
+use Rattle.client_core.specs.Talks.{Converses}
 use Rattle.client_core.proofs.Turns.{breaks_later, closed, converses, led_to_disconnect, led_to_send}
 use Rattle.client_core.proofs.conversation.converse.Goals as goal
 
@@ -24,5 +25,5 @@ returns-in-Ok-say-clause-ok g c =
     let y = talk c.say.new.peer in
     let z = talk c.ask_for_receipt.new.peer in
     let last = talk c.say-in-Ok-ask_for_receipt.new.peer in
-    closed c.close.result x last (talk c.close.new.peer) c.close.ensures.told
+    closed (Converses x) c.close.result last (talk c.close.new.peer) c.close.ensures.told
     (converses x z last (led_to_disconnect x y z c.in-Ok.ensures.ok c.in-Ok-ask_for_receipt.ensures.ok) c.in-Ok-say.ensures.ok)
