@@ -15,8 +15,9 @@ ghost use Rattle.broker_state.specs.Steps.{outs, outs_by, outs_v1, step, step_by
 use crate::committing::have_few_members;
 use crate::executing::execute;
 use crate::fault::BrokerFault;
-use broker_state::{are_sound, held_of};
-use broker_state::{DurableName, GivenName, Held, NackRule, Parts, Subscription};
+use broker_state::{
+    DurableName, GivenName, Held, NackRule, Parts, Subscription, are_sound, held_of,
+};
 use broker_tables::{Answers, SharedLines, Tables};
 use command_core::{Command, Dest, Out};
 use indexmap::map::Slice;

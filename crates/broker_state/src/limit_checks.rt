@@ -9,9 +9,7 @@ ghost use Rattle.broker_state.specs.Sound.{HasLimits};
 ghost use Rattle.broker_state.specs.States.{held_bytes, held_messages, weight_of, weight_of_subscription};
 ghost use Rattle.broker_state.specs.Waiting.{weight_of_lines};
 
-use crate::{
-    Held, LAST_DELIVERY, MOST_BYTES, MOST_MESSAGES, Parts, Subscription, has_waiting,
-};
+use crate::{Held, LAST_DELIVERY, MOST_BYTES, MOST_MESSAGES, Parts, Subscription, has_waiting};
 use line_core::{Flight, Line, Message, size};
 use std::collections::BTreeMap;
 

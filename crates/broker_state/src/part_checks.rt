@@ -4,12 +4,12 @@ ghost use Rattle.std.specs.Prelude.{◌↔◌, IfOk, IsTrue};
 ghost use Rattle.broker_state.specs.PartsOf.{state_of_parts};
 ghost use Rattle.broker_state.specs.Sound.{IsSound};
 
+use crate::Parts;
 use crate::limit_checks::has_limits;
 use crate::line_checks::has_lines;
 use crate::name_checks::has_names;
 use crate::number_checks::{has_numbers, is_in_order};
 use crate::subscription_checks::has_subscriptions;
-use crate::Parts;
 use std::alloc::{AllocError, Global};
 
 /// Whether these are the parts of a state that a broker can have.

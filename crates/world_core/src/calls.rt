@@ -9,7 +9,7 @@ ghost use Rattle.world_core.specs.declared.event.CallKind.TheVariants.{Write};
 ghost use Rattle.world_core.specs.declared.event.CallList.TheVariants.{Append, Open, Snapshot};
 
 use crate::parts::Parts;
-use crate::{CallKind, CallList, Life, LastCall};
+use crate::{CallKind, CallList, LastCall, Life};
 use std::alloc::{AllocError, Global};
 
 // A snapshot is written in pieces of this many bytes, the last of which may be shorter.
@@ -46,8 +46,14 @@ fn copy_writes(whole: u64, place: LastCall) -> Option<LastCall>
     ensures { result ≡ copy_writes whole place }
 {
     match place {
-        LastCall::Rest | LastCall::CopySynced => Some(LastCall::Copying(piece_end(0, whole), whole)),
-        LastCall::Copying(done, all) if done < all => Some(LastCall::Copying(piece_end(done, all), all)),
+        LastCall::Rest | LastCall::CopySynced => Some(LastCall::Copying(
+            piece_end(0, whole),
+            whole,
+        )),
+        LastCall::Copying(done, all) if done < all => Some(LastCall::Copying(
+            piece_end(done, all),
+            all,
+        )),
         _ => None,
     }
 }
@@ -83,8 +89,11 @@ fn open_syncs(place: LastCall) -> Option<LastCall>
     ensures { result ≡ open_syncs place }
 {
     match place {
-        LastCall::Rest | LastCall::Broken | LastCall::CopySynced | LastCall::OpenSynced | LastCall::OpenRead =>
-            Some(LastCall::OpenSynced),
+        LastCall::Rest
+        | LastCall::Broken
+        | LastCall::CopySynced
+        | LastCall::OpenSynced
+        | LastCall::OpenRead => Some(LastCall::OpenSynced),
         LastCall::Copying(done, all) if done < all => Some(LastCall::OpenSynced),
         LastCall::SnapshotWriting(done, all) if done < all => Some(LastCall::OpenSynced),
         LastCall::SnapshotWriting(_, _) => Some(LastCall::SnapshotSynced),

@@ -13,7 +13,7 @@ use crate::calls::{phase_after, place_after, stored_after};
 use crate::parts::Parts;
 use crate::recovering::restarted_broker;
 use crate::seat::renew;
-use crate::{Call, CallKind, Event, Life, LastCall};
+use crate::{Call, CallKind, Event, LastCall, Life};
 use broker_core::Broker;
 use disk_core::{overwrite, release};
 use std::alloc::{AllocError, Global};

@@ -3,7 +3,7 @@
 ghost use Rattle.std.specs.Prelude.{◌≡◌, ◌↔◌, ◌<◌, ◌^◌, IsTrue, Some, false, length, slice_get, true};
 ghost use Rattle.world_core.specs.Events.{AreThere};
 
-use crate::{Life, LastCall, Seat};
+use crate::{LastCall, Life, Seat};
 use broker_core::Broker;
 use command_core::Entry;
 use std::snapshot::Snapshot;

@@ -11,7 +11,7 @@ ghost use Rattle.world_core.specs.Parts.{value_of};
 ghost use Rattle.world_core.specs.Readings.{Reading};
 
 use crate::parts::{Parts, are_there, is_clear, is_running, is_set};
-use crate::{Event, Life, LastCall, Seat};
+use crate::{Event, LastCall, Life, Seat};
 use claim_core::WINDOW;
 use command_core::{Command, Entry};
 use disk_core::{is_image, release};

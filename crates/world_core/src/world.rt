@@ -13,7 +13,7 @@ use crate::formatting::{first_content, old_area, old_content};
 use crate::parts::Parts;
 use crate::recovering::broker_in;
 use crate::seat::seats;
-use crate::{Event, Life, LastCall, Seat};
+use crate::{Event, LastCall, Life, Seat};
 use broker_core::Broker;
 use claim_core::SEATS;
 use command_core::Command;
