@@ -26,7 +26,7 @@ LINE = re.compile(
 
 
 def do_something(port):
-    """Leaves two connections, five messages of which one is dead, and one ERROR; answers the clients, and the count of commands and of frames."""
+    """Leaves two connections, five messages of which one is dead, and two ERRORs, one before its session; answers the clients, and the count of commands and of frames."""
     one, other = Client(port).connect(), Client(port).connect()
     one.subscribe("q", "/queue/work", ack="client-individual")
     for at in range(5):
@@ -38,8 +38,12 @@ def do_something(port):
     wrong.send("UNSUBSCRIBE", [("id", "unknown")])
     assert "E10" in wrong.receive().headers["message"]
     wrong.close()
-    # CONNECTs, a SUBSCRIBE, SENDs, a NACK and a wrong UNSUBSCRIBE; and CONNECTED, RECEIPTs, MESSAGEs and an ERROR.
-    return (one, other), 3 + 1 + 5 + 1 + 1, 3 + 1 + 5 + 5 + 1 + 1
+    early = Client(port)
+    early.send("UNSUBSCRIBE", [("id", "unknown")])
+    assert "E7" in early.receive().headers["message"]
+    early.close()
+    # CONNECTs, a SUBSCRIBE, SENDs, a NACK and a wrong UNSUBSCRIBE; and CONNECTED, RECEIPTs, MESSAGEs and ERRORs.
+    return (one, other), 3 + 1 + 5 + 1 + 1, 3 + 1 + 5 + 5 + 1 + 2
 
 
 def line_of(process, found):
@@ -79,7 +83,7 @@ def compare(found, commands, frames, checks):
     # The session of a connection that has ended may end by one more command.
     checks.check("commands", commands <= counted <= commands + 1, (counted, commands))
     checks.same("frames", published, frames)
-    checks.same("ERRORs", refused, 1)
+    checks.same("ERRORs", refused, 2)
     checks.same("messages", messages, 5)
     checks.check("their bytes", 5 < held < 5_000, held)
     checks.same("dead letters", dead, 1)

@@ -3,8 +3,8 @@
 
     python3 tests/program/telling.py [PROGRAM]
 
-A server tells its start; what comes often is counted, and told at most once a second a kind; a server with few descriptors takes as many clients as
-they allow; and lawful clients whose names would fill its journal are closed, and told.
+A server tells its start; what comes often is counted, and told at most once a second a kind; so is a reader that is too slow; a server with few
+descriptors takes as many clients as they allow; and lawful clients whose names would fill its journal are closed, and told.
 """
 
 import contextlib
@@ -152,22 +152,47 @@ def names(program, checks):
         checks.check("and nothing is forged", not any("forged" in line for _, line in server.lines), server.lines)
 
 
+def in_use(client):
+    client.connect()
+    client.subscribe("twice", "/topic/t")
+    client.send("SUBSCRIBE", [("id", "twice"), ("destination", "/topic/t")])
+
+
+def too_soon(client):
+    # A session begins with CONNECT or STOMP.
+    client.send("SEND", [("destination", "/topic/t")])
+
+
 def errors(program, checks):
-    """ERRORs by their codes, at most a line a second for each"""
+    """ERRORs by their codes, at most a line a second for each: the broker's, and those before a session begins"""
+    for code, provoke in (("E9", in_use), ("E7", too_soon)):
+        with serving(program) as server:
+            start, sent = time.monotonic(), 0
+            while time.monotonic() - start < 3.5:
+                client = Client(server.port)
+                provoke(client)
+                answer = client.receive().headers["message"]
+                if sent == 0:
+                    checks.check(code, answer.startswith(f"{code} "), answer)
+                client.close()
+                sent += 1
+            time.sleep(1.5)
+            lines = server.told(f"({code})")
+            checks.same(f"{code}: all are counted", sum(int(re.fullmatch(rf"sent (\d+) ERRORs \({code}\)", line)[1]) for line in lines), sent)
+            checks.check(f"{code}: at most once a second", 2 <= len(lines) <= 6, lines)
+
+
+def slow(program, checks):
+    """a subscriber that stops reading, and whose outbox is full"""
     with serving(program) as server:
-        start, sent = time.monotonic(), 0
-        while time.monotonic() - start < 3.5:
-            client = Client(server.port).connect()
-            client.subscribe("twice", "/topic/t")
-            # An id of its session that is taken.
-            client.send("SUBSCRIBE", [("id", "twice"), ("destination", "/topic/t")])
-            checks.check("E9", "E9" in client.receive().headers["message"]) if sent == 0 else client.receive()
-            client.close()
-            sent += 1
-        time.sleep(1.5)
-        lines = server.told("(E9)")
-        checks.same("all are counted", sum(int(re.fullmatch(r"sent (\d+) ERRORs \(E9\)", line)[1]) for line in lines), sent)
-        checks.check("at most once a second", 2 <= len(lines) <= 6, lines)
+        reader = Client(server.port, receive_bytes=65_536).connect()
+        reader.subscribe("s", "/topic/t")
+        # More than the 33,554,432 bytes of an outbox, and than what two sockets and a link keep.
+        Client(server.port).connect().publish_all("/topic/t", ["x" * 64_000] * 700)
+        checks.same("nothing is told while it is there", server.told("outbox", 0), [])
+        _, code = reader.to_the_end()
+        checks.same("it reads what was kept for it, and 1001", code, 1001)
+        checks.same("the server tells it", server.told("outbox"), ["gave up 1 clients whose outbox was full"])
 
 
 def descriptors(program, checks):
@@ -212,7 +237,7 @@ def lawful(program, checks):
 def main():
     program = scenario.words_of(__doc__).parse_args().program
     checks = scenario.Checks()
-    for part in (starts, counts, names, errors, descriptors, lawful):
+    for part in (starts, counts, names, errors, slow, descriptors, lawful):
         try:
             part(program, checks)
         except Exception as error:

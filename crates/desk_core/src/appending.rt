@@ -86,7 +86,7 @@ impl<B: Bell> Slot<B> {
         }
         match self.connection.next() {
             Some(Act::Do(op, receipt)) => self.request(alloc, ring, seat, wakers, op, receipt),
-            Some(Act::Direct(notice)) => self.tell(alloc, link, notice),
+            Some(Act::Direct(notice)) => self.tell(alloc, link, wakers, notice),
             Some(Act::Close(code)) => {
                 self.connection.close(code);
                 Step::Done
@@ -193,7 +193,13 @@ impl<B: Bell> Slot<B> {
     }
 
     // Sends the client an ERROR that doesn't wait for the broker, as the last frame. Nothing is sent if its link is over.
-    fn tell<L: Link>(&mut self, alloc: Global, link: &mut L, notice: Notice) -> Step
+    fn tell<M: Wakers<B>, L: Link>(
+        &mut self,
+        alloc: Global,
+        link: &mut L,
+        wakers: &M,
+        notice: Notice,
+    ) -> Step
         requires first { self.old.connection.acts.again ≡ None }
         requires nothing { self.old.waiting ≡ None }
         ensures ends { StaysOrEnds self.old.connection.progress self.new.connection.progress }
@@ -208,6 +214,7 @@ impl<B: Bell> Slot<B> {
         let _form = notice.frame();
         match link.send_direct(alloc, &notice) {
             Ok(()) => {
+                wakers.answered(&notice);
                 drop(notice);
                 self.connection.told();
             }

@@ -11,6 +11,7 @@ use crate::relaying::relay;
 use crate::slot::Slot;
 use crate::stage::Stage;
 use crate::step::Step;
+use crate::wakers::Wakers;
 use claim_core::{BrokerRing, BrokerSeat};
 use outbox_core::{Bell, OutSender};
 use std::alloc::Global;
@@ -30,12 +31,13 @@ impl<B: Bell> Slot<B> {
 
     // Sends what may leave, until nothing more may or so much was sent. A link that has not taken all before gets nothing more. Answers
     // `Step::Rest` if nothing more may leave.
-    pub(crate) fn pass_on<L: Link>(
+    pub(crate) fn pass_on<M: Wakers<B>, L: Link>(
         &mut self,
         alloc: Global,
         ring: &BrokerRing<OutSender<B>>,
         seat: &mut BrokerSeat<OutSender<B>>,
         link: &mut L,
+        wakers: &M,
     ) -> Step
         requires { seat.old.ring ≡ ring.now }
         ensures goes { GoesOn L.sent L.received self.old seat.old link.old self.new seat.new link.new }
@@ -48,7 +50,7 @@ impl<B: Bell> Slot<B> {
             if bytes >= RELAYED_BYTES || link.waits() {
                 return Step::Done;
             }
-            match self.pass_one(alloc, ring, seat, link) {
+            match self.pass_one(alloc, ring, seat, link, wakers) {
                 Ok(Some(sent)) => bytes = bytes.saturating_add(sent),
                 Ok(None) => return Step::Rest,
                 Err(_) => return Step::Memory,
@@ -58,12 +60,13 @@ impl<B: Bell> Slot<B> {
     }
 
     // Sends one output, and answers how many bytes its body has; nothing if none may leave. Once the connection no longer runs, none may.
-    fn pass_one<L: Link>(
+    fn pass_one<M: Wakers<B>, L: Link>(
         &mut self,
         alloc: Global,
         ring: &BrokerRing<OutSender<B>>,
         seat: &mut BrokerSeat<OutSender<B>>,
         link: &mut L,
+        wakers: &M,
     ) -> Result<Option<usize>, LinkFault>
         requires { seat.old.ring ≡ ring.now }
         ensures ends { StaysOrEnds self.old.connection.progress self.new.connection.progress }
@@ -83,13 +86,23 @@ impl<B: Bell> Slot<B> {
             return Ok(None);
         };
         match relay(alloc, ring, seat, session, taker, &mut self.kept, link) {
-            Ok(relayed) => Ok(note(&mut self.connection, relayed)),
+            Ok(relayed) => {
+                report::<B, M>(wakers, relayed);
+                Ok(note(&mut self.connection, relayed))
+            }
             Err(LinkFault::Memory) => Err(LinkFault::Memory),
             Err(LinkFault::Gone) => {
                 self.connection.lose();
                 Ok(None)
             }
         }
+    }
+}
+
+// Reports an outbox that was cut.
+fn report<B: Bell, M: Wakers<B>>(wakers: &M, relayed: Relayed) {
+    if matches!(relayed, Relayed::Cut) {
+        wakers.cut();
     }
 }
 

@@ -43,7 +43,7 @@ impl<B: Bell> Slot<B> {
     {
         let (heard, read) = self.read(alloc, link);
         let (appended, acted) = self.execute(alloc, ring, seat, link, wakers);
-        let passed = self.pass_on(alloc, ring, seat, link);
+        let passed = self.pass_on(alloc, ring, seat, link, wakers);
         let is_short = self.finish(link);
         let lacks = is_short || matches!(passed, Step::Memory);
         // A client that was not read may have sent something of which nothing will tell again.

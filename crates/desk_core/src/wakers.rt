@@ -6,6 +6,7 @@ ghost use Rattle.claim_core.specs.declared.limits.TheConstants.{WINDOW};
 use claim_core::WINDOW;
 use command_core::Op;
 use outbox_core::{Bell, Silent};
+use session_core::Notice;
 use std::alloc::AllocError;
 
 /// Makes the bell that the outbox of a worker's session rings. It is for a worker that waits within its link's `receive`,
@@ -23,6 +24,12 @@ pub trait Wakers<B: Bell> {
 
     /// The command that was asked about last has got that ticket.
     fn appended(&self, _ticket: u64) {}
+
+    /// The client was sent this ERROR, which doesn't wait for the broker.
+    fn answered(&self, _notice: &Notice) {}
+
+    /// The client's outbox had no room for an output, and was cut: it is given up.
+    fn cut(&self) {}
 }
 
 impl Wakers<Silent> for Silent {

@@ -1,5 +1,5 @@
 -- What is reported to an operator.
-use Rattle.std.specs.Prelude.{ℕ, List, [], ◌∷◌, ◌++◌, codes, cond, nat_lt, string_bytes}
+use Rattle.std.specs.Prelude.{ℕ, List, [], ◌∷◌, ◌++◌, ◌+◌, ◌-◌, ◌^◌, codes, cond, min, nat_lt, string_bytes}
 use Rattle.std.specs.Fmt.{decimal}
 use Rattle.event_log.specs.declared.event.Crowd.{Crowd}
 use Rattle.event_log.specs.declared.event.Event.{Event}
@@ -7,7 +7,7 @@ use Rattle.event_log.specs.declared.event.Event.TheVariants as events
 use Rattle.event_log.specs.declared.event.Figures.{Figures}
 use Rattle.event_log.specs.declared.event.Start.{Start}
 use Rattle.event_log.specs.declared.kind.Kind.{Kind}
-use Rattle.event_log.specs.declared.kind.Kind.TheVariants.{Malformed, OtherProtocol, Foreign, Method, NoUpgrade, Version, TooLarge, Full, Silent, TakesNothing, Unopened, TookMost, LongNames, NotAccepted, LeftOut}
+use Rattle.event_log.specs.declared.kind.Kind.TheVariants.{Malformed, OtherProtocol, Foreign, Method, NoUpgrade, Version, TooLarge, Full, Silent, TakesNothing, Unopened, TookMost, LongNames, FullOutbox, NotAccepted, LeftOut}
 
 -- the place of a kind among all
 abbrev pub place_of : Kind → ℕ
@@ -24,8 +24,9 @@ place_of TakesNothing = 9
 place_of Unopened = 10
 place_of TookMost = 11
 place_of LongNames = 12
-place_of NotAccepted = 13
-place_of LeftOut = 14
+place_of FullOutbox = 13
+place_of NotAccepted = 14
+place_of LeftOut = 15
 
 -- the words before a count, and after it
 abbrev pub before_count : Kind → List ℕ
@@ -42,6 +43,7 @@ before_count TakesNothing = codes "gave up "
 before_count Unopened = codes "gave up "
 before_count TookMost = codes "gave up "
 before_count LongNames = codes "gave up "
+before_count FullOutbox = codes "gave up "
 before_count NotAccepted = codes "failed to accept "
 before_count LeftOut = codes "left out "
 
@@ -55,16 +57,21 @@ behind_count Version = codes " requests for another version of WebSocket (426)"
 behind_count TooLarge = codes " requests with too large a head (431)"
 behind_count Full = codes " clients over the most that are taken (503)"
 behind_count Silent = codes " clients that answered no ping or close"
-behind_count TakesNothing = codes " clients that took nothing for 10 s"
+behind_count TakesNothing = codes " clients that took nothing for 60 s"
 behind_count Unopened = codes " clients that opened no session in time"
 behind_count TookMost = codes " clients that took the most memory"
 behind_count LongNames = codes " clients whose names have no room beside the others'"
+behind_count FullOutbox = codes " clients whose outbox was full"
 behind_count NotAccepted = codes " clients: out of descriptors or memory"
 behind_count LeftOut = codes " lines that nobody read in time"
 
 -- with what a server starts
 abbrev pub start_text : Start → List ℕ
 start_text s = codes "started: journal of version 2, areas of " ++ (decimal s.area ++ (codes " bytes, " ++ (decimal s.messages ++ (codes " messages held, " ++ (decimal s.clients ++ (codes " clients allowed, " ++ (decimal s.memory ++ codes " bytes of memory for them")))))))
+
+-- how it does if so many ERRORs more were sent, each of which is a frame
+abbrev pub with_errors : ℕ → Figures → Figures
+with_errors more f = record f { frames = min (f.frames + more) (2 ^ 64 - 1); refused = min (f.refused + more) (2 ^ 64 - 1) }
 
 -- what clients do
 abbrev pub traffic_text : Figures → List ℕ

@@ -1,5 +1,8 @@
 //! What happens that is reported to an operator.
 
+ghost use Rattle.std.specs.Prelude.{◌≡◌};
+ghost use Rattle.event_log.specs.Events.{with_errors};
+
 use crate::kind::Kind;
 use std::fmt;
 
@@ -25,7 +28,7 @@ pub struct Figures {
     pub memory: u64,
     /// How many commands the journal counts.
     pub commands: u64,
-    /// How many frames were published since the server started.
+    /// How many frames there were for clients since the server started.
     pub frames: u64,
     /// How many of these are ERRORs.
     pub refused: u64,
@@ -39,6 +42,19 @@ pub struct Figures {
     pub used: u64,
     /// How many commands a start would repeat.
     pub to_repeat: u64,
+}
+
+impl Figures {
+    /// The same, if so many ERRORs more were sent, each of which is a frame.
+    pub fn with_errors(self, more: u64) -> Figures
+        ensures { result ≡ with_errors more self }
+    {
+        Figures {
+            frames: self.frames.saturating_add(more),
+            refused: self.refused.saturating_add(more),
+            ..self
+        }
+    }
 }
 
 /// That nine tenths of the messages or bytes are held that may be held.

@@ -5,7 +5,7 @@ ghost use Rattle.event_log.specs.Events.{before_count, behind_count, place_of};
 ghost use Rattle.event_log.specs.declared.kind.TheConstants.{KINDS};
 
 /// How many kinds there are.
-pub const KINDS: usize = 15;
+pub const KINDS: usize = 16;
 
 /// What may come many times in a second: it is counted, and reported with how often it came.
 #[derive(Clone, Copy)]
@@ -36,6 +36,8 @@ pub enum Kind {
     TookMost,
     /// A client was given up whose names, with those of the others at its desk, would have taken more of the journal than they may.
     LongNames,
+    /// A client was given up whose outbox had no room for its next frame.
+    FullOutbox,
     /// The system refused to accept a client: there are no descriptors or no memory for it.
     NotAccepted,
     /// A line was left out, since nobody read those before it.
@@ -70,8 +72,9 @@ impl Kind {
             10 => Some(Kind::Unopened),
             11 => Some(Kind::TookMost),
             12 => Some(Kind::LongNames),
-            13 => Some(Kind::NotAccepted),
-            14 => Some(Kind::LeftOut),
+            13 => Some(Kind::FullOutbox),
+            14 => Some(Kind::NotAccepted),
+            15 => Some(Kind::LeftOut),
             _ => None,
         }
     }
@@ -81,8 +84,12 @@ impl Kind {
         ensures { result.now ≡ before_count self }
     {
         match self {
-            Kind::Silent | Kind::TakesNothing | Kind::Unopened | Kind::TookMost | Kind::LongNames =>
-                "gave up ",
+            Kind::Silent
+            | Kind::TakesNothing
+            | Kind::Unopened
+            | Kind::TookMost
+            | Kind::LongNames
+            | Kind::FullOutbox => "gave up ",
             Kind::NotAccepted => "failed to accept ",
             Kind::LeftOut => "left out ",
             _ => "refused ",
@@ -102,10 +109,11 @@ impl Kind {
             Kind::TooLarge => " requests with too large a head (431)",
             Kind::Full => " clients over the most that are taken (503)",
             Kind::Silent => " clients that answered no ping or close",
-            Kind::TakesNothing => " clients that took nothing for 10 s",
+            Kind::TakesNothing => " clients that took nothing for 60 s",
             Kind::Unopened => " clients that opened no session in time",
             Kind::TookMost => " clients that took the most memory",
             Kind::LongNames => " clients whose names have no room beside the others'",
+            Kind::FullOutbox => " clients whose outbox was full",
             Kind::NotAccepted => " clients: out of descriptors or memory",
             Kind::LeftOut => " lines that nobody read in time",
         }

@@ -68,6 +68,12 @@ pub record IsReady {D : Type 0} (ring : TableId) (flusher : Flushed D) : Type 0 
   pub ring_is : flusher.seat.ring ≡ ring
   pub executed : flusher.broken ≡ false → flusher.executed ≡ flusher.stored
 
+-- the flusher has ended: it is at that ring still, which has as many seats and is stopped
+pub record HasEnded (ring : TableId) (old new : Flushed FileDisk) : Type 0 where
+  pub ready : IsReady ring new
+  pub seats : new.seat.seats ≡ old.seat.seats
+  pub stops : new.seat.stopped ≡ true
+
 -- all seats and the flusher are at the server's ring
 abbrev pub IsServer : ServerValue → Type 0
 IsServer s = IsReady s.ring s.flusher × AreAt s.ring s.seats

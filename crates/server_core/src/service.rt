@@ -397,6 +397,7 @@ impl<'a, R: Wait + Clock + Drop> Service<'a, R> {
             client: number,
             pace: &self.shared.pace,
             mark,
+            log: self.shared.wakeups.log(),
         };
         let desk = &mut self.desk;
         let Some(turned) = take_turns(self.alloc, &self.shared.ring, desk, &wakers) else {

@@ -4,7 +4,7 @@ ghost use Rattle.std.specs.Prelude.{◌≡◌, ◌≢◌, ◌+◌, [], true, len
 ghost use Rattle.std.specs.Arc.{arc_value};
 ghost use Rattle.std.specs.Io.KnownBytes.{Appends};
 ghost use Rattle.event_log.specs.Faults.{IsNotStarted};
-ghost use Rattle.server_core.specs.Serving.{AreAt, IsReady, IsNewHub, IsOpened, IsEnd, announced};
+ghost use Rattle.server_core.specs.Serving.{AreAt, HasEnded, IsReady, IsNewHub, IsOpened, IsEnd, announced};
 
 use crate::acceptor::Acceptor;
 use crate::descriptors::clients_allowed;
@@ -211,7 +211,9 @@ impl<R: Wait + Clock + Drop> Server<R> {
     }
 
     /// What asks the server to end, in good order. `Memory` if memory is refused.
-    pub fn ender(&self) -> Result<Ender, ServeFault> {
+    pub fn ender(&self) -> Result<Ender, ServeFault>
+        ensures { IfErr result (λ fault. fault ≡ ServeFault.Memory) }
+    {
         match self.shared.wakeups.ending() {
             Ok(ending) => Ok(Ender { ending }),
             Err(_) => Err(ServeFault::Memory),
@@ -374,9 +376,7 @@ fn flush<R: Wait + Clock + Drop>(
     flusher: &mut ServerFlusher,
 ) -> Result<(), FlushFault>
     requires { IsReady shared.now.ring flusher.old }
-    ensures ready { IsReady shared.now.ring flusher.new }
-    ensures seats { flusher.new.seat.seats ≡ flusher.old.seat.seats }
-    ensures stops { flusher.new.seat.stopped ≡ true }
+    ensures ends { HasEnded shared.now.ring flusher.old flusher.new }
     ensures fails { IfErr result (λ _. flusher.new.broken ≡ true) }
 {
     let mut last = LastRounds::new();
@@ -404,9 +404,7 @@ fn flush_last<R: Wait + Clock + Drop>(
     flusher: &mut ServerFlusher,
 ) -> Result<(), FlushFault>
     requires { IsReady shared.now.ring flusher.old }
-    ensures ready { IsReady shared.now.ring flusher.new }
-    ensures seats { flusher.new.seat.seats ≡ flusher.old.seat.seats }
-    ensures stops { flusher.new.seat.stopped ≡ true }
+    ensures ends { HasEnded shared.now.ring flusher.old flusher.new }
     ensures fails { IfErr result (λ _. flusher.new.broken ≡ true) }
 {
     shared.wakeups.log().note(&shared.rt, Event::Ending);

@@ -96,6 +96,8 @@ pub struct LogThread {
     // ERRORs by code that were not told yet, and those of the broker that its flusher has counted.
     errors: Counts<ERRORS>,
     published: Counts<ERRORS>,
+    // How many ERRORs were sent that no command asked for.
+    notices: AtomicU64,
     gauges: Gauges,
     thread: Parker,
     // The sleep of what ends the server, until all is told.
@@ -111,6 +113,7 @@ impl LogThread {
             kinds: Counts::new(),
             errors: Counts::new(),
             published: Counts::new(),
+            notices: AtomicU64::new(0),
             gauges: Gauges::new(),
             thread: Parker::new(),
             ender: Parker::new(),
@@ -145,8 +148,9 @@ impl LogThread {
         }
     }
 
-    /// Counts an ERROR of that code that a session has made.
-    pub fn count_error(&self, code: usize) {
+    /// Counts an ERROR of that code, which was sent and no command asked for.
+    pub fn count_notice(&self, code: usize) {
+        self.notices.fetch_add(1, Ordering::SeqCst);
         self.count_errors(code, 1);
     }
 
@@ -235,7 +239,8 @@ impl LogThread {
         told: u64,
         writer: &mut W,
     ) -> u64 {
-        let figures = self.gauges.with(connections);
+        let notices = self.notices.load(Ordering::SeqCst);
+        let figures = self.gauges.with(connections).with_errors(notices);
         if figures.commands != told {
             tell(alloc, rt, Event::Doing(figures), writer);
         }

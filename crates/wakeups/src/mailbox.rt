@@ -8,10 +8,15 @@ ghost use Rattle.wakeups.specs.Bells.{called_by, called_for};
 use crate::calls::{Called, Calls};
 use crate::choice::DeskHolds;
 use crate::doorbell::Doorbell;
+use crate::log_thread::LogThread;
 use command_core::Op;
 use crossbeam_queue::ArrayQueue;
 use desk_core::{Next, Turned, Wakers};
+use event_log::Kind;
+use flush_core::code_of;
+use frame_core::first;
 use outbox_core::Bell;
+use session_core::Notice;
 use std::alloc::{AllocError, Global};
 use std::net::TcpStream;
 use std::sync::atomic::{AtomicU64, Ordering};
@@ -154,6 +159,8 @@ pub struct ClientWakers<'a> {
     pub pace: &'a Pace,
     /// The mark when its turns began.
     pub mark: u64,
+    /// What counts ERRORs and clients that are given up.
+    pub log: &'a Arc<LogThread>,
 }
 
 impl ClientWakers<'_> {
@@ -199,5 +206,15 @@ impl Wakers<ClientWaker> for ClientWakers<'_> {
 
     fn appended(&self, ticket: u64) {
         self.pace.appended(self.mailbox.desk, ticket, self.mark);
+    }
+
+    fn answered(&self, notice: &Notice) {
+        if let Some(message) = first(notice.frame(), "message") {
+            self.log.count_notice(code_of(message));
+        }
+    }
+
+    fn cut(&self) {
+        self.log.count(Kind::FullOutbox);
     }
 }
