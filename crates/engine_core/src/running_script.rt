@@ -136,7 +136,11 @@ impl RunningScript {
 }
 
 /// Takes a connection out of the others; a new one if there is none of that number.
-fn take_connection(alloc: Global, connections: &mut BTreeMap<u8, ScriptConnection>, n: u8) -> ScriptConnection
+fn take_connection(
+    alloc: Global,
+    connections: &mut BTreeMap<u8, ScriptConnection>,
+    n: u8,
+) -> ScriptConnection
     ensures taken { result ≡ unwrap_or (lookup (is_at (nat_cmp n)) connections.old.entries) new_connection }
     ensures others { connections.new.entries ≡ remove_entry (is_at (nat_cmp n)) connections.old.entries }
 {

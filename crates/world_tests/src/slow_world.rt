@@ -2,7 +2,7 @@
 //! record has 11 bytes.
 use crate::schedules::AREA;
 use std::alloc::{AllocError, Global};
-use world_core::{Call, CallKind, CallList, Life, LastCall};
+use world_core::{Call, CallKind, CallList, LastCall, Life};
 
 /// The record of an Open without a client's name.
 const RECORD: [u8; 11] = [0, 0, 0, 0, 0, 0, 0, 0, 0, 1, 0];
@@ -371,7 +371,8 @@ impl SlowWorld {
                 self.write_selector();
                 self.place = LastCall::SwitchWritten;
             }
-            (CallList::Switch, CallKind::Sync, LastCall::SwitchWritten) => self.place = LastCall::Rest,
+            (CallList::Switch, CallKind::Sync, LastCall::SwitchWritten) => self.place =
+                LastCall::Rest,
             _ => return Ok(false),
         }
         Ok(true)
@@ -384,7 +385,9 @@ impl SlowWorld {
 
     fn append(&mut self, alloc: Global, kind: CallKind, ok: bool) -> Result<bool, AllocError> {
         match (kind, self.place) {
-            (CallKind::Write, LastCall::Rest | LastCall::CopySynced) => return self.write_block(alloc),
+            (CallKind::Write, LastCall::Rest | LastCall::CopySynced) => return self.write_block(
+                alloc,
+            ),
             (CallKind::Write, LastCall::BlockSynced(to)) => {
                 let (gate, _) = self.read();
                 self.write(gate, &[1]);
@@ -412,9 +415,11 @@ impl SlowWorld {
                 | LastCall::OpenSynced
                 | LastCall::OpenRead,
             ) => self.place = LastCall::OpenSynced,
-            (CallKind::Sync, LastCall::SnapshotWriting(_, _)) => self.place = LastCall::SnapshotSynced,
+            (CallKind::Sync, LastCall::SnapshotWriting(_, _)) => self.place =
+                LastCall::SnapshotSynced,
             (CallKind::Sync, LastCall::SelectorWritten) => self.place = LastCall::Opened,
-            (CallKind::Read, LastCall::OpenSynced | LastCall::OpenRead) => self.place = LastCall::OpenRead,
+            (CallKind::Read, LastCall::OpenSynced | LastCall::OpenRead) => self.place =
+                LastCall::OpenRead,
             (CallKind::Write, LastCall::OpenRead) => self.write_snapshot(),
             (CallKind::Write, LastCall::SnapshotSynced) => {
                 self.write_selector();

@@ -397,7 +397,11 @@ impl<S: Read + Write + Ending + Drop> WsLink<S> {
         if all && self.phase != LinkPhase::Shut {
             let _ = self.socket.get_ref().shut_down();
         }
-        self.phase = if all { LinkPhase::Shut } else { LinkPhase::Failed };
+        self.phase = if all {
+            LinkPhase::Shut
+        } else {
+            LinkPhase::Failed
+        };
         self.held_up = !all;
     }
 }
