@@ -105,6 +105,7 @@ pub struct LogThread {
 }
 
 impl LogThread {
+    /// Nothing has happened yet.
     pub fn new(alloc: Global) -> Result<LogThread, AllocError> {
         Ok(LogThread {
             untold: ArrayQueue::new(alloc, UNTOLD)?,
