@@ -1,7 +1,7 @@
 //! Conversations with the server at an address.
 
 ghost use Rattle.std.specs.Prelude.{◌≡◌, ◌⊎◌, IfErr, None};
-ghost use Rattle.client_core.specs.Talks.{BreaksOff, IsOfPeer};
+ghost use Rattle.client_core.specs.Talks.{BreaksOff, HasReason, IsOfPeer};
 
 use crate::listener::Shown;
 use crate::reaching::connect;
@@ -43,6 +43,7 @@ pub fn open<R>(
 ) -> Result<WebPeer<R>, ClientFault>
 where
     R: Net<Stream = TcpStream> + Clock + RandomSource + Clone + Drop,
+    ensures { IfErr result HasReason }
 {
     match connect(rt, alloc, address, "/") {
         Ok(peer) => {
@@ -68,6 +69,7 @@ pub fn send<R>(
 ) -> Result<(), ClientFault>
 where
     R: Net<Stream = TcpStream> + Clock + RandomSource + Clone + Drop,
+    ensures { IfErr result HasReason }
 {
     match connect(rt, alloc, address, "/") {
         Ok(peer) => {
@@ -90,6 +92,7 @@ pub fn forget<R>(
 ) -> Result<(), ClientFault>
 where
     R: Net<Stream = TcpStream> + Clock + RandomSource + Clone + Drop,
+    ensures { IfErr result HasReason }
 {
     match connect(rt, alloc, address, "/") {
         Ok(peer) => {
