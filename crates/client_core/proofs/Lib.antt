@@ -1,4 +1,4 @@
 mod Doing
 mod Leaving
 mod Showing
-mod Turns
+pub mod Turns

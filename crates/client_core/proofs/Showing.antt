@@ -1,5 +1,6 @@
 -- Messages are shown piece by piece.
 use Rattle.std.proofs.Common.{◌≡◌, ◌≢◌, ◌+◌, ◌++◌, ◌⊎◌, List, [], ◌∷◌, ℕ, Bool, IfOk, MatchOption, None, OnOk, Option, Result, Ok, Err, Some, arith, false, length, length-append, refl, subst, sym, true, inl, inr}
+use Rattle.std.specs.Borrow.{Bor}
 use Rattle.std.proofs.lemmas.List.{append-nil}
 use Rattle.frame_core.specs.declared.fault.FrameFault.{FrameFault}
 use Rattle.frame_core.specs.declared.frame.Frame.{Frame}
@@ -7,11 +8,11 @@ use Rattle.frame_core.specs.Streams.{Fails, Reads}
 use Rattle.frame_core.specs.Written.{written}
 use Rattle.client_core.specs.Answers.{said}
 use Rattle.client_core.specs.Deeds.{AreDone}
-use Rattle.client_core.specs.Listening.{AllAreShown, AreLeft, AreShown, EndsIn, EndsWell, Listens}
-use Rattle.client_core.specs.Requests.{subscribe_frame}
-use Rattle.client_core.specs.Talks.{Adds, Heard, Said, Spoken, all_of, turn}
+use Rattle.client_core.specs.Listening.{AllAreShown, AreLeft, AreShown, EndsIn, EndsWell, Listens, ListensIn}
+use Rattle.client_core.specs.Requests.{connect_frame, subscribe_frame}
+use Rattle.client_core.specs.Talks.{Adds, Answers, Heard, Said, Spoken, all_of, turn}
 use Rattle.client_core.specs.declared.plan.Plan.{Plan}
-use Rattle.client_core.specs.declared.stage.Stage.TheVariants.{Disconnect}
+use Rattle.client_core.specs.declared.stage.Stage.TheVariants.{Connect, Disconnect}
 use Rattle.client_core.proofs.Turns.{then}
 
 -- what was read is shown, if no fault stands after it
@@ -80,7 +81,7 @@ subscribed (Err e) plan text rest x y z said shown = tt
 pub listens : {E : Type 0} (r : Result (Unit {0}) E) (plan : Plan) (rest : List ℕ) (x y z : Option (List Spoken))
     → ((listening : List Spoken) × AllAreShown plan listening rest × Adds (Said (written (subscribe_frame plan)) ∷ listening) x y)
     → OnOk r ((last : List (List ℕ)) × Adds (turn (said Disconnect) last) y z × EndsWell (rest ++ all_of last))
-    → OnOk r ((talk : List Spoken) × Listens plan talk × Adds talk x z)
+    → OnOk r ((talk : List Spoken) × ListensIn plan talk × Adds talk x z)
 listens (Ok u) plan rest x y z shown left =
     let first = Said (written (subscribe_frame plan)) ∷ shown.0 in (
       first ++ turn (said Disconnect) left.0,
@@ -88,3 +89,9 @@ listens (Ok u) plan rest x y z shown left =
       then first (turn (said Disconnect) left.0) x y z shown.2 left.1,
     )
 listens (Err e) plan rest x y z shown left = tt
+
+-- in a session that is open
+pub opened : {E : Type 0} (r : Result (Unit {0}) E) (host : List ℕ) (client : Option (Bor (List ℕ))) (plan : Plan) (x y z : Option (List Spoken)) → Answers Connect (written (connect_frame host client)) x y
+    → OnOk r ((talk : List Spoken) × ListensIn plan talk × Adds talk y z) → OnOk r (Listens host client plan x z)
+opened (Ok u) host client plan x y z opens listens = (y, listens.0, opens, listens.1, listens.2)
+opened (Err e) host client plan x y z opens listens = tt

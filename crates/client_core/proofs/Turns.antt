@@ -5,7 +5,7 @@ use Rattle.frame_core.specs.declared.frame.Frame.{Frame}
 use Rattle.frame_core.specs.Streams.{Frames}
 use Rattle.frame_core.proofs.Joins.{joined, joined_fault}
 use Rattle.client_core.specs.Answers.{Breaks, Gives, Hears, said}
-use Rattle.client_core.specs.Talks.{Adds, Answers, BreaksOff, Converses, Heard, IsAnswered, IsOfPeer, IsUnanswered, Leads, Refuses, Said, Spoken, all_of, turn}
+use Rattle.client_core.specs.Talks.{Adds, Answers, AreAnswered, BreaksOff, Converses, HasReason, Heard, IsAnswered, IsOfPeer, IsUnanswered, Leads, Refuses, Said, Spoken, all_of, turn}
 use Rattle.client_core.specs.declared.fault.Cause.{Cause}
 use Rattle.client_core.specs.declared.fault.ClientFault.{ClientFault}
 use Rattle.client_core.specs.declared.stage.Stage.{Stage}
@@ -112,3 +112,17 @@ closed P (Err e) y z same whole = tt
 pub breaks_later : (stage : Stage) (fault : ClientFault) (x y z : Option (List Spoken)) → Led stage x y → IsUnanswered stage (said stage) fault y z → IsOfPeer fault.cause ⊎ BreaksOff fault x z
 breaks_later stage fault x y z led (inl own) = inl own
 breaks_later stage fault x y z led (inr at) = inr (stage, led.0, at.1.0, at.0, led.1, then led.0 (turn (said stage) at.1.0) x y z led.2 at.1.1, at.1.2)
+
+-- such a fault has a reason
+pub has_reason : (stage : Stage) (frame : List ℕ) (fault : ClientFault) (x y : Option (List Spoken)) → IsUnanswered stage frame fault x y → HasReason fault
+has_reason stage frame fault x y (inl own) = inl own
+has_reason stage frame fault x y (inr at) = inr (stage, all_of at.1.0, at.0, at.1.2)
+
+pub have_reason : (r : Result (Unit {0}) ClientFault) (stage : Stage) (frame : List ℕ) (x y : Option (List Spoken)) → IfErr r (λ fault. IsUnanswered stage frame fault x y) → IfErr r HasReason
+have_reason (Ok u) stage frame x y is = tt
+have_reason (Err fault) stage frame x y is = has_reason stage frame fault x y is
+
+pub three : {E : Type 0} (r : Result (Unit {0}) E) (one two last : Stage × List ℕ) (w x y z : Option (List Spoken)) → Answers one.0 one.1 w x → Answers two.0 two.1 x y → OnOk r (Answers last.0 last.1 y z)
+    → OnOk r (AreAnswered (one ∷ two ∷ last ∷ []) w z)
+three (Ok u) one two last w x y z a b c = (x, a, (y, b, (z, c, refl)))
+three (Err e) one two last w x y z a b c = tt

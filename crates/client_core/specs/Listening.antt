@@ -1,5 +1,6 @@
--- The conversation of one who listens in an open session: from its SUBSCRIBE to the RECEIPT of its DISCONNECT.
-use Rattle.std.specs.Prelude.{◌≡◌, ◌⊎◌, ◌+◌, List, [], ◌∷◌, ◌++◌, ℕ, Bool, true, false, length}
+-- The conversation of one who listens.
+use Rattle.std.specs.Prelude.{◌≡◌, ◌⊎◌, ◌+◌, List, [], ◌∷◌, ◌++◌, ℕ, Bool, Option, true, false, length}
+use Rattle.std.specs.Borrow.{Bor}
 use Rattle.std.specs.List.{AllByRecursion}
 use Rattle.frame_core.specs.declared.frame.Frame.{Frame}
 use Rattle.frame_core.specs.declared.frame.Verb.TheVariants.{Message}
@@ -7,10 +8,10 @@ use Rattle.frame_core.specs.Streams.{Frames, Reads}
 use Rattle.frame_core.specs.Written.{written}
 use Rattle.client_core.specs.Answers.{IsAnswer, said}
 use Rattle.client_core.specs.Deeds.{AreDone}
-use Rattle.client_core.specs.Requests.{subscribe_frame}
-use Rattle.client_core.specs.Talks.{Heard, Said, Spoken, all_of, turn}
+use Rattle.client_core.specs.Requests.{connect_frame, subscribe_frame}
+use Rattle.client_core.specs.Talks.{Adds, Answers, Heard, Said, Spoken, all_of, turn}
 use Rattle.client_core.specs.declared.plan.Plan.{Plan}
-use Rattle.client_core.specs.declared.stage.Stage.TheVariants.{Disconnect}
+use Rattle.client_core.specs.declared.stage.Stage.TheVariants.{Connect, Disconnect}
 
 -- The bytes are these messages, which are shown, and settled if the plan has it; then other frames, which are left; and the beginning
 -- of one more.
@@ -54,10 +55,15 @@ MayEnd bytes rest false = (late : List Frame) × AreMessages late × Frames byte
 
 -- SUBSCRIBE is said. Just as many messages as the plan has are shown as they come, in their order, and each is settled once it is shown
 -- if the plan has it. After the last DISCONNECT is said, and its RECEIPT heard (STOMP 1.2, "SUBSCRIBE", "MESSAGE", "ACK", "DISCONNECT").
-pub record Listens (plan : Plan) (talk : List Spoken) : Type 0 where
+pub record ListensIn (plan : Plan) (talk : List Spoken) : Type 0 where
   pub listening : List Spoken
   pub rest : List ℕ
   pub last : List (List ℕ)
   pub whole : talk ≡ Said (written (subscribe_frame plan)) ∷ (listening ++ turn (said Disconnect) last)
   pub shown : AllAreShown plan listening rest
   pub ends : EndsWell (rest ++ all_of last)
+
+-- the whole conversation: before that CONNECT is said, and CONNECTED heard (STOMP 1.2, "CONNECT or STOMP Frame", "CONNECTED Frame")
+abbrev pub Listens : List ℕ → Option (Bor (List ℕ)) → Plan → Option (List Spoken) → Option (List Spoken) → Type 0
+Listens host client plan before after =
+    (between : Option (List Spoken)) × (talk : List Spoken) × Answers Connect (written (connect_frame host client)) before between × ListensIn plan talk × Adds talk between after

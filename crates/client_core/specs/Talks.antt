@@ -53,6 +53,15 @@ Refuses stage frame cause before after = (pieces : List (List ℕ)) × Adds (tur
 abbrev pub IsUnanswered : Stage → List ℕ → ClientFault → Option (List Spoken) → Option (List Spoken) → Type 0
 IsUnanswered stage frame fault before after = IsOfPeer fault.cause ⊎ ((fault.step ≡ step_of stage) × Refuses stage frame fault.cause before after)
 
+-- the fault is the peer's, or its cause is that of bytes that do not answer at the stage of its step
+abbrev pub HasReason : ClientFault → Type 0
+HasReason fault = IsOfPeer fault.cause ⊎ ((stage : Stage) × (bytes : List ℕ) × (fault.step ≡ step_of stage) × Breaks stage bytes fault.cause)
+
+-- these frames are said, each once the one before is answered as its stage awaits
+abbrev pub AreAnswered : List (Stage × List ℕ) → Option (List Spoken) → Option (List Spoken) → Type 0
+AreAnswered [] before after = after ≡ before
+AreAnswered (one ∷ more) before after = (between : Option (List Spoken)) × Answers one.0 one.1 before between × AreAnswered more between after
+
 -- the talk that leads to a stage: what is said before it is answered
 abbrev pub Leads : Stage → List Spoken → Type 0
 Leads Connect talk = talk ≡ []

@@ -4,6 +4,7 @@
 
 mod address;
 mod asking;
+mod calls;
 mod conversation;
 mod deeds;
 mod farewell;
@@ -17,6 +18,7 @@ mod sending;
 mod stage;
 
 pub use address::Address;
+pub use calls::{forget_once, send_once};
 pub use conversation::converse;
 pub use deeds::{Deed, deed_of};
 pub use fault::{Cause, ClientFault, Step};
@@ -24,5 +26,5 @@ pub use hearing::hear;
 pub use listening::listen;
 pub use peer::{Listener, Peer};
 pub use plan::{Outgoing, Plan};
-pub use sending::{forget, leave, open, send};
+pub use sending::{leave, open, send};
 pub use stage::Stage;

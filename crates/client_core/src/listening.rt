@@ -4,7 +4,7 @@ ghost use Rattle.std.specs.Prelude.{◌≡◌, ◌++◌, ◌∷◌, [], List, �
 ghost use Rattle.frame_core.specs.declared.frame.Frame.{Frame};
 ghost use Rattle.frame_core.specs.Written.{written};
 ghost use Rattle.client_core.specs.Deeds.{AreDone, IsDone, acts_of};
-ghost use Rattle.client_core.specs.Listening.{AllAreShown, AreLeft, EndsIn, Listens};
+ghost use Rattle.client_core.specs.Listening.{AllAreShown, AreLeft, EndsIn, Listens, ListensIn};
 ghost use Rattle.client_core.specs.Requests.{subscribe_frame};
 ghost use Rattle.client_core.specs.Talks.{Adds, Heard, Said, Spoken, listening_step};
 
@@ -14,14 +14,30 @@ use crate::fault::{Cause, ClientFault, Step};
 use crate::peer::Listener;
 use crate::plan::Plan;
 use crate::requests::subscribe_text;
-use crate::sending::close;
+use crate::sending::{close, open};
 use frame_core::{Fed, Frame, FrameReader};
 use std::alloc::Global;
 
-/// Subscribes in an open session, shows the messages that come, and settles each once it is shown if that is asked for. After
-/// the last it ends the session, and closes.
-pub fn listen<L: Listener>(alloc: Global, plan: &Plan<'_>, peer: &mut L) -> Result<(), ClientFault>
-    ensures { OnOk result ((talk : List Spoken) × Listens plan.now talk × Adds talk (L.Peer.talk peer.old) (L.Peer.talk peer.new)) }
+/// Opens a session, perhaps with a `client-id`, and subscribes. Shows the messages that come, and settles each once it is shown if that
+/// is asked for. After the last it ends the session, and closes.
+pub fn listen<L: Listener>(
+    alloc: Global,
+    host: &str,
+    client: Option<&str>,
+    plan: &Plan<'_>,
+    peer: &mut L,
+) -> Result<(), ClientFault>
+    ensures { OnOk result (Listens host.now client.entry plan.now (L.Peer.talk peer.old) (L.Peer.talk peer.new)) }
+{
+    match open(alloc, host, client, peer) {
+        Ok(()) => listen_in(alloc, plan, peer),
+        Err(fault) => Err(fault),
+    }
+}
+
+// The same in an open session.
+fn listen_in<L: Listener>(alloc: Global, plan: &Plan<'_>, peer: &mut L) -> Result<(), ClientFault>
+    ensures { OnOk result ((talk : List Spoken) × ListensIn plan.now talk × Adds talk (L.Peer.talk peer.old) (L.Peer.talk peer.new)) }
 {
     let mut reader = FrameReader::new(alloc);
     let listened = hear_all(alloc, plan, &mut reader, peer);
@@ -40,7 +56,7 @@ fn hear_all<L: Listener>(
     peer: &mut L,
 ) -> Result<(), ClientFault>
     requires { reader.old.rest ≡ [] }
-    ensures { OnOk result ((talk : List Spoken) × Listens plan.now talk × Adds talk (L.Peer.talk peer.old) (L.Peer.talk peer.new)) }
+    ensures { OnOk result ((talk : List Spoken) × ListensIn plan.now talk × Adds talk (L.Peer.talk peer.old) (L.Peer.talk peer.new)) }
 {
     match hear_messages(alloc, plan, reader, peer) {
         Ok(()) => leave_after(alloc, reader, peer),
@@ -102,7 +118,8 @@ fn hear_until_all<L: Listener>(
         if left == 0 {
             return Ok(());
         }
-        left = hear_some(alloc, plan, reader, left, peer)?;
+        let after = hear_some(alloc, plan, reader, left, peer)?;
+        left = after;
     }
     Err(Cause::Silent)
 }

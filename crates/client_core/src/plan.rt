@@ -1,7 +1,7 @@
 //! What a client is to send, and to listen to.
 
 ghost use Rattle.std.specs.Prelude.{◌≡◌};
-ghost use Rattle.client_core.specs.Requests.{mode_of};
+ghost use Rattle.client_core.specs.Requests.{is_own, mode_of};
 
 /// A message that is to be sent.
 #[derive(Clone, Copy)]
@@ -27,11 +27,18 @@ pub struct Plan<'a> {
 }
 
 impl Plan<'_> {
-    /// The `ack` of its SUBSCRIBE. Without settling it takes only what is its own: the copies of a plain subscription of a topic.
+    /// Whether what it shows is its own: the copies of a plain subscription of a topic, which nobody else gets.
+    pub fn is_own(&self) -> bool
+        ensures { result ≡ is_own self.now }
+    {
+        !self.settles && self.name.is_none() && self.destination.starts_with("/topic/")
+    }
+
+    /// The `ack` of its SUBSCRIBE. Without settling it takes only what is its own.
     pub fn mode(&self) -> &'static str
         ensures { result.now ≡ mode_of self.now }
     {
-        if !self.settles && self.name.is_none() && self.destination.starts_with("/topic/") {
+        if self.is_own() {
             "auto"
         } else {
             "client-individual"

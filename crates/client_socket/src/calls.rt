@@ -1,12 +1,12 @@
 //! Conversations with the server at an address.
 
 ghost use Rattle.std.specs.Prelude.{◌≡◌, ◌⊎◌, IfErr, None};
-ghost use Rattle.client_core.specs.Talks.{BreaksOff, IsOfPeer};
+ghost use Rattle.client_core.specs.Talks.{BreaksOff, HasReason, IsOfPeer};
 
 use crate::listener::Shown;
 use crate::reaching::connect;
 use crate::web_peer::WebPeer;
-use client_core::{Address, ClientFault, Outgoing, Plan, converse};
+use client_core::{Address, ClientFault, Outgoing, Plan, converse, forget_once, send_once};
 use std::alloc::Global;
 use std::io::Write;
 use std::net::{Net, TcpStream};
@@ -43,14 +43,20 @@ pub fn open<R>(
 ) -> Result<WebPeer<R>, ClientFault>
 where
     R: Net<Stream = TcpStream> + Clock + RandomSource + Clone + Drop,
+    ensures { IfErr result HasReason }
 {
-    let mut peer = connect(rt, alloc, address, "/")?;
-    match client_core::open(alloc, HOST, client, &mut peer) {
-        Ok(()) => Ok(peer),
-        Err(fault) => {
-            drop(peer);
-            Err(fault)
+    match connect(rt, alloc, address, "/") {
+        Ok(peer) => {
+            let mut peer = peer;
+            match client_core::open(alloc, HOST, client, &mut peer) {
+                Ok(()) => Ok(peer),
+                Err(fault) => {
+                    drop(peer);
+                    Err(fault)
+                }
+            }
         }
+        Err(fault) => Err(fault),
     }
 }
 
@@ -63,15 +69,17 @@ pub fn send<R>(
 ) -> Result<(), ClientFault>
 where
     R: Net<Stream = TcpStream> + Clock + RandomSource + Clone + Drop,
+    ensures { IfErr result HasReason }
 {
-    let mut peer = open(rt, alloc, address, None)?;
-    let sent = client_core::send(alloc, message, &mut peer);
-    let left = match sent {
-        Ok(()) => client_core::leave(alloc, &mut peer),
+    match connect(rt, alloc, address, "/") {
+        Ok(peer) => {
+            let mut peer = peer;
+            let sent = send_once(alloc, HOST, message, &mut peer);
+            drop(peer);
+            sent
+        }
         Err(fault) => Err(fault),
-    };
-    drop(peer);
-    left
+    }
 }
 
 /// Gives up a durable name of a client at the server at that address.
@@ -84,15 +92,17 @@ pub fn forget<R>(
 ) -> Result<(), ClientFault>
 where
     R: Net<Stream = TcpStream> + Clock + RandomSource + Clone + Drop,
+    ensures { IfErr result HasReason }
 {
-    let mut peer = open(rt, alloc, address, Some(client))?;
-    let forgotten = client_core::forget(alloc, name, &mut peer);
-    let left = match forgotten {
-        Ok(()) => client_core::leave(alloc, &mut peer),
+    match connect(rt, alloc, address, "/") {
+        Ok(peer) => {
+            let mut peer = peer;
+            let forgotten = forget_once(alloc, HOST, client, name, &mut peer);
+            drop(peer);
+            forgotten
+        }
         Err(fault) => Err(fault),
-    };
-    drop(peer);
-    left
+    }
 }
 
 /// Listens at the server at that address as the plan has it, perhaps with a `client-id`, and writes what comes.
@@ -107,12 +117,12 @@ pub fn listen<R, W: Write>(
 where
     R: Net<Stream = TcpStream> + Clock + RandomSource + Clone + Drop,
 {
-    let mut peer = open(rt, alloc, address, client)?;
+    let mut peer = connect(rt, alloc, address, "/")?;
     let mut shown = Shown {
         peer: &mut peer,
         writer,
     };
-    let listened = client_core::listen(alloc, plan, &mut shown);
+    let listened = client_core::listen(alloc, HOST, client, plan, &mut shown);
     drop(peer);
     listened
 }

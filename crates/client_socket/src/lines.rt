@@ -1,5 +1,9 @@
 //! Messages from a stream.
 
+ghost use Rattle.std.specs.Prelude.{◌≡◌, ◌≢◌, ◌≤◌, [], IfErr, IfOk, IfSome, length};
+ghost use Rattle.client_core.specs.Talks.{HasReason};
+ghost use Rattle.client_socket.specs.Inputs.{IsLineFault, IsNoBody};
+
 use crate::calls::open;
 use crate::web_peer::WebPeer;
 use client_core::{Address, ClientFault, Outgoing};
@@ -32,7 +36,11 @@ pub enum InputFault {
 }
 
 /// All of a stream, as one body.
-pub fn body_of<I: Read + Drop>(alloc: Global, input: I) -> Result<Vec<u8>, InputFault> {
+pub fn body_of<I: Read + Drop>(alloc: Global, input: I) -> Result<Vec<u8>, InputFault>
+    ensures body { IfOk result (λ body. (body.items ≢ []) × (length body.items ≤ 65536)) }
+    ensures whole { IfOk result (λ body. IfSome (I.remaining input) (λ all. body.items ≡ all)) }
+    ensures refused { IfErr result (λ fault. IfSome (I.remaining input) (IsNoBody fault)) }
+{
     let mut body = Vec::new(alloc);
     match input.take(BODY_BYTES + 1).read_to_end(&mut body) {
         Ok(0) => Err(InputFault::NoBody),
@@ -57,6 +65,7 @@ pub fn send_lines<R, I>(way: &Way<'_, R>, input: I) -> (u64, Result<(), InputFau
 where
     R: Net<Stream = TcpStream> + Clock + RandomSource + Clone + Drop,
     I: Read + Drop,
+    ensures { IfErr result.1 IsLineFault }
 {
     let Ok(mut reader) = BufReader::new(way.alloc, input) else {
         return (0, Err(InputFault::Memory));
@@ -84,6 +93,7 @@ fn send_all<R, I>(
 where
     R: Net<Stream = TcpStream> + Clock + RandomSource + Clone + Drop,
     I: Read + Drop,
+    ensures { IfErr result IsLineFault }
 {
     for count in 1..u64::MAX {
         if !send_next(way, reader, peer)? {
@@ -103,6 +113,7 @@ fn send_next<R, I>(
 where
     R: Net<Stream = TcpStream> + Clock + RandomSource + Clone + Drop,
     I: Read + Drop,
+    ensures { IfErr result IsLineFault }
 {
     let began = Instant::now(way.rt);
     let Some(line) = next_line(way.alloc, reader)? else {
@@ -138,6 +149,7 @@ fn send_line<R>(
 ) -> Result<(), ClientFault>
 where
     R: Net<Stream = TcpStream> + Clock + RandomSource + Clone + Drop,
+    ensures { IfErr result HasReason }
 {
     if peer.is_none() {
         *peer = Some(open(way.rt, way.alloc, way.address, None)?);
@@ -157,6 +169,7 @@ where
 fn leave<R>(alloc: Global, peer: WebPeer<R>) -> Result<(), InputFault>
 where
     R: Clock + RandomSource + Drop,
+    ensures { IfErr result IsLineFault }
 {
     let mut peer = peer;
     let left = client_core::leave(alloc, &mut peer);
@@ -171,7 +184,10 @@ where
 fn next_line<I: Read + Drop>(
     alloc: Global,
     reader: &mut BufReader<I>,
-) -> Result<Option<Vec<u8>>, InputFault> {
+) -> Result<Option<Vec<u8>>, InputFault>
+    ensures line { IfOk result (λ line. IfSome line (λ line. length line.items ≤ 65536)) }
+    ensures refused { IfErr result IsLineFault }
+{
     let mut line = Vec::new(alloc);
     match reader.take(BODY_BYTES + 1).read_until(b'\n', &mut line) {
         Ok(0) => return Ok(None),

@@ -13,5 +13,5 @@ pub loop-piece-preserved : goal.loop-piece-preserved
 loop-piece-preserved g c =
     let talk = g.L.Peer.talk in
     let heard = c.hear_some.new in
-    goes_on c.args.plan.now c.loop-piece.left c.in_ok-left.left (talk c.args.peer.now) (talk c.loop-piece.peer) (talk heard.peer) c.loop-piece.reader.rest heard.reader.rest
-    c.if-left-eq0.false c.loop-piece.invariant c.in_ok-left.ensures
+    goes_on c.args.plan.now c.loop-piece.left c.in_ok-after.after (talk c.args.peer.now) (talk c.loop-piece.peer) (talk heard.peer) c.loop-piece.reader.rest heard.reader.rest
+    c.if-left-eq0.false c.loop-piece.invariant c.in_ok-after.ensures

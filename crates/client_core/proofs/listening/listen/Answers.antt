@@ -1,11 +1,7 @@
-use Rattle.std.proofs.Common.{List, Option}
-use Rattle.client_core.specs.Listening.{Listens}
-use Rattle.client_core.specs.Talks.{Adds, Spoken}
-use Rattle.client_core.proofs.Turns.{closed}
+use Rattle.client_core.proofs.Showing.{opened}
 use Rattle.client_core.proofs.listening.listen.Goals as goal
 
 pub returns-in-Ok : goal.returns-in-Ok
 returns-in-Ok g c =
     let talk = g.L.Peer.talk in
-    let whole = λ (z : Option (List Spoken)). (all : List Spoken) × Listens c.args.plan.now all × Adds all (talk c.args.peer.now) z in
-    closed whole c.close.result (talk c.hear_all-listened.new.peer) (talk c.close.new.peer) c.close.ensures.told c.in-Ok.ensures
+    opened c.listen_in.result c.args.host.now c.args.client c.args.plan.now (talk c.args.peer.now) (talk c.open.new.peer) (talk c.listen_in.new.peer) c.in-Ok.ensures.ok c.listen_in.ensures
