@@ -18,7 +18,7 @@ use Rattle.world_core.specs.declared.event.CallList.{CallList}
 use Rattle.world_core.specs.declared.event.CallList.TheVariants.{Append, Snapshot, Switch, Open}
 use Rattle.world_core.specs.declared.event.Event.TheVariants.{Device, Open as Opens}
 use Rattle.world_core.specs.declared.patches.Patch.{Patch as Patched}
-use Rattle.world_core.specs.declared.place.Life.TheVariants.{Running, Crashed}
+use Rattle.world_core.specs.declared.place.Period.TheVariants.{Running, Crashed}
 use Rattle.world_core.specs.declared.place.LastCall.{LastCall}
 use Rattle.world_core.specs.declared.place.LastCall.TheVariants.{Rest, Broken, BlockWritten, BlockSynced, GateWritten, Copying, CopySynced, SwitchWritten, OpenSynced, OpenRead, SnapshotWriting, SnapshotSynced, SelectorWritten, Opened}
 use Rattle.world_core.specs.declared.seat.Seat.{Seat}

@@ -24,8 +24,8 @@ use Rattle.world_core.specs.declared.event.CallKind.TheVariants.{Read, Write, Sy
 use Rattle.world_core.specs.declared.event.CallList.{CallList}
 use Rattle.world_core.specs.declared.event.CallList.TheVariants.{Append, Snapshot, Switch, Open}
 use Rattle.world_core.specs.declared.event.Event.TheVariants.{Device, Crash, Open as Opens}
-use Rattle.world_core.specs.declared.place.Life.{Life}
-use Rattle.world_core.specs.declared.place.Life.TheVariants.{Running, Reopening, Crashed}
+use Rattle.world_core.specs.declared.place.Period.{Period}
+use Rattle.world_core.specs.declared.place.Period.TheVariants.{Running, Reopening, Crashed}
 use Rattle.world_core.specs.declared.place.LastCall.{LastCall}
 use Rattle.world_core.specs.declared.place.LastCall.TheVariants.{Rest, Broken, BlockWritten, BlockSynced, GateWritten, Copying, CopySynced, SwitchWritten, OpenSynced, OpenRead, SnapshotWriting, SnapshotSynced, SelectorWritten, Opened}
 use Rattle.world_core.specs.declared.seat.Seat.{Seat}
@@ -47,7 +47,7 @@ le_where a b is = ltb-false a b is
 pub is_content : (content : List ℕ) (held : List (Option ℕ)) → IsImage content held content
 is_content content held = record { size = refl; stable = λ i stable. refl }
 
-not_running : (phase : Life) → phase_after Open phase ≢ Running
+not_running : (phase : Period) → phase_after Open phase ≢ Running
 not_running Running r = absurd (cc)
 not_running Reopening r = absurd (cc)
 not_running Crashed r = absurd (cc)
@@ -88,7 +88,7 @@ module _ (w : WorldValue) (k : IsKept w) (r : Reading) (x : IsRead w.disk.size w
   here = k.images d.content (is_content d.content d.held)
 
   -- all that device calls change
-  device_keeps : (stored : ℕ) (phase : Life) (place : LastCall) (disk : DiskValue)
+  device_keeps : (stored : ℕ) (phase : Period) (place : LastCall) (disk : DiskValue)
       → let new : WorldValue = record w { stored = stored; phase = phase; place = place; disk = disk } in
       disk.size ≡ w.disk.size → length disk.content ≡ length w.disk.content → length disk.held ≡ length disk.content → w.stored ≤ stored → stored ≤ w.taken
       → ((c : List ℕ) → IsImage disk.content disk.held c → HasPrefix (log_of new) disk.size c) → IsAt (log_of new) disk place → IsKept new
@@ -113,7 +113,7 @@ module _ (w : WorldValue) (k : IsKept w) (r : Reading) (x : IsRead w.disk.size w
   }
 
   -- a call that fails, and a read
-  idle_keeps : (phase : Life) (place : LastCall) → (phase ≡ Running → w.phase ≡ Running)
+  idle_keeps : (phase : Period) (place : LastCall) → (phase ≡ Running → w.phase ≡ Running)
       → IsAt (log_of (record w { phase = phase; place = place })) d place → IsKept (record w { phase = phase; place = place })
   idle_keeps phase place running at =
       let new : WorldValue = record w { phase = phase; place = place } in
@@ -127,7 +127,7 @@ module _ (w : WorldValue) (k : IsKept w) (r : Reading) (x : IsRead w.disk.size w
   length-none = length-replicate (length d.content) None
 
   -- a sync
-  sync_keeps : (phase : Life) (place : LastCall) → (phase ≡ Running → w.phase ≡ Running)
+  sync_keeps : (phase : Period) (place : LastCall) → (phase ≡ Running → w.phase ≡ Running)
       → let new : WorldValue = record w { phase = phase; place = place; disk = synced d } in
       IsAt (log_of new) (synced d) place → IsKept new
   sync_keeps phase place running at =
@@ -137,7 +137,7 @@ module _ (w : WorldValue) (k : IsKept w) (r : Reading) (x : IsRead w.disk.size w
       (subst (λ (l : List ℕ). HasPrefix (log_of w) d.size l) (sym (only_there c image)) here)) at
 
   -- a write, where nothing was unsynced
-  write_keeps : (phase : Life) (place : LastCall) (p : Patch) → (phase ≡ Running → w.phase ≡ Running) → IsStill d → p.at + length p.bytes ≤ length d.content
+  write_keeps : (phase : Period) (place : LastCall) (p : Patch) → (phase ≡ Running → w.phase ≡ Running) → IsStill d → p.at + length p.bytes ≤ length d.content
       → let new : WorldValue = record w { phase = phase; place = place; disk = wrote d p } in
       ((c : List ℕ) → Torn p.at (length p.bytes) d.content c → HasPrefix (log_of w) d.size c) → IsAt (log_of new) (wrote d p) place → IsKept new
   write_keeps phase place p running still fits torn at =
@@ -292,7 +292,7 @@ module _ (w : WorldValue) (k : IsKept w) (r : Reading) (x : IsRead w.disk.size w
 
   -- Open
 
-  abbrev ended : Life
+  abbrev ended : Period
   ended = phase_after Open w.phase
 
   state_here : r.state ≡ here.reading.state
@@ -351,7 +351,7 @@ module _ (w : WorldValue) (k : IsKept w) (r : Reading) (x : IsRead w.disk.size w
     same_idle : idle_of (wrote d p) ≡ idle_of d
     same_idle = ap (λ (n : ℕ). start d.size (other (is_odd n))) still_reads.reads.journal.selects
 
-    piece_keeps : (phase : Life) (place : LastCall) → (phase ≡ Running → w.phase ≡ Running)
+    piece_keeps : (phase : Period) (place : LastCall) → (phase ≡ Running → w.phase ≡ Running)
         → let new : WorldValue = record w { phase = phase; place = place; disk = wrote d p } in
         IsAt (log_of new) (wrote d p) place → IsKept new
     piece_keeps phase place running at =

@@ -14,8 +14,8 @@ use Rattle.world_core.specs.declared.event.CallKind.{CallKind}
 use Rattle.world_core.specs.declared.event.CallKind.TheVariants.{Read, Write, Sync}
 use Rattle.world_core.specs.declared.event.CallList.{CallList}
 use Rattle.world_core.specs.declared.event.CallList.TheVariants.{Append, Snapshot, Switch, Open}
-use Rattle.world_core.specs.declared.place.Life.{Life}
-use Rattle.world_core.specs.declared.place.Life.TheVariants.{Running, Reopening}
+use Rattle.world_core.specs.declared.place.Period.{Period}
+use Rattle.world_core.specs.declared.place.Period.TheVariants.{Running, Reopening}
 use Rattle.world_core.specs.declared.place.LastCall.{LastCall}
 use Rattle.world_core.specs.declared.place.LastCall.TheVariants.{Rest, Broken, BlockWritten, BlockSynced, GateWritten, Copying, CopySynced, SwitchWritten, OpenSynced, OpenRead, SnapshotWriting, SnapshotSynced, SelectorWritten, Opened}
 use Rattle.world_core.specs.Limits.{most_counted}
@@ -215,7 +215,7 @@ stored_after stored (GateWritten to) true = to
 stored_after stored at ok = stored
 
 -- the beginning of a list of Open ends the running life
-abbrev pub phase_after : CallList → Life → Life
+abbrev pub phase_after : CallList → Period → Period
 phase_after Open Running = Reopening
 phase_after list phase = phase
 

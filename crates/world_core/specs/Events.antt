@@ -7,8 +7,8 @@ use Rattle.area_core.specs.Areas.{HasRecord}
 use Rattle.broker_core.specs.States.{State}
 use Rattle.world_core.specs.declared.event.Event.{Event}
 use Rattle.world_core.specs.declared.event.Event.TheVariants.{Look, Claim, Ready, Take, Device, Raise, Release, Stop, Crash, Open}
-use Rattle.world_core.specs.declared.place.Life.{Life}
-use Rattle.world_core.specs.declared.place.Life.TheVariants.{Running, Reopening, Crashed}
+use Rattle.world_core.specs.declared.place.Period.{Period}
+use Rattle.world_core.specs.declared.place.Period.TheVariants.{Running, Reopening, Crashed}
 use Rattle.world_core.specs.declared.place.LastCall.TheVariants.{Rest, Broken, Opened}
 use Rattle.world_core.specs.declared.seat.Seat.{Seat}
 use Rattle.world_core.specs.Calls.{MayLead, called, leads}
@@ -17,7 +17,7 @@ use Rattle.world_core.specs.Readings.{Reading}
 use Rattle.world_core.specs.Worlds.{DiskValue, WorldValue, claimed}
 
 -- the sessions are there, to look and to release
-abbrev pub AreThere : Life → Type 0
+abbrev pub AreThere : Period → Type 0
 AreThere Running = Unit {0}
 AreThere Reopening = Unit {0}
 AreThere Crashed = ⊥

@@ -10,8 +10,8 @@ use Rattle.area_core.specs.Journals.{is_odd, start}
 use Rattle.broker_core.specs.Operations.{restarted}
 use Rattle.broker_core.specs.States.{State}
 use Rattle.snapshot_core.specs.Snapshots.{snapshot_of}
-use Rattle.world_core.specs.declared.place.Life.{Life}
-use Rattle.world_core.specs.declared.place.Life.TheVariants.{Running}
+use Rattle.world_core.specs.declared.place.Period.{Period}
+use Rattle.world_core.specs.declared.place.Period.TheVariants.{Running}
 use Rattle.world_core.specs.declared.place.LastCall.{LastCall}
 use Rattle.world_core.specs.declared.place.LastCall.TheVariants.{Rest, Broken, BlockWritten, BlockSynced, GateWritten, Copying, CopySynced, SwitchWritten, OpenSynced, OpenRead, SnapshotWriting, SnapshotSynced, SelectorWritten, Opened}
 use Rattle.world_core.specs.declared.seat.Seat.{Seat}
@@ -27,7 +27,7 @@ pub record Log : Type 0 where
   pub history : List CommandValue
   pub stored : ℕ
   pub taken : ℕ
-  pub phase : Life
+  pub phase : Period
 
 abbrev pub log_of : WorldValue → Log
 log_of w = record { base = w.base; opening = w.opening; history = w.history; stored = w.stored; taken = w.taken; phase = w.phase }

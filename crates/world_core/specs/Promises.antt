@@ -4,8 +4,8 @@ use Rattle.command_core.specs.Commands.{CommandValue}
 use Rattle.broker_core.specs.Operations.{restarted}
 use Rattle.broker_core.specs.States.{State}
 use Rattle.recover_core.specs.Standing.{Stands}
-use Rattle.world_core.specs.declared.place.Life.{Life}
-use Rattle.world_core.specs.declared.place.Life.TheVariants.{Running}
+use Rattle.world_core.specs.declared.place.Period.{Period}
+use Rattle.world_core.specs.declared.place.Period.TheVariants.{Running}
 use Rattle.world_core.specs.Worlds.{state_under}
 
 -- A life, as far as the promises speak of it: its first number, its opening state, and the claimed commands. Then the number under which
@@ -16,7 +16,7 @@ pub record Life : Type 0 where
   pub history : List CommandValue
   pub taken : ℕ
   pub mark : ℕ
-  pub phase : Life
+  pub phase : Period
   pub released : List ℕ
   pub earlier : List ℕ
 

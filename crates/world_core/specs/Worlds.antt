@@ -5,7 +5,7 @@ use Rattle.broker_core.specs.States.{State}
 use Rattle.broker_core.specs.Steps.{state_after}
 use Rattle.world_core.specs.declared.seat.Seat.{Seat}
 use Rattle.world_core.specs.declared.place.LastCall.{LastCall}
-use Rattle.world_core.specs.declared.place.Life.{Life}
+use Rattle.world_core.specs.declared.place.Period.{Period}
 
 -- A disk: the bytes of each of its two areas, what a read gives, and what each byte that was written since the last
 -- sync held then.
@@ -31,7 +31,7 @@ pub record WorldValue : Type 0 where
   -- the released numbers of this life, and of the lives before it
   pub released : List ℕ
   pub earlier : List ℕ
-  pub phase : Life
+  pub phase : Period
   pub place : LastCall
   pub disk : DiskValue
 

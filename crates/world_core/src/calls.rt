@@ -9,7 +9,7 @@ ghost use Rattle.world_core.specs.declared.event.CallKind.TheVariants.{Write};
 ghost use Rattle.world_core.specs.declared.event.CallList.TheVariants.{Append, Open, Snapshot};
 
 use crate::parts::Parts;
-use crate::{CallKind, CallList, LastCall, Life};
+use crate::{CallKind, CallList, LastCall, Period};
 use std::alloc::{AllocError, Global};
 
 // A snapshot is written in pieces of this many bytes, the last of which may be shorter.
@@ -217,11 +217,11 @@ impl Parts {
     }
 }
 
-pub(crate) fn phase_after(list: CallList, phase: Life) -> Life
+pub(crate) fn phase_after(list: CallList, phase: Period) -> Period
     ensures { result ≡ phase_after list phase }
 {
     match (list, phase) {
-        (CallList::Open, Life::Running) => Life::Reopening,
+        (CallList::Open, Period::Running) => Period::Reopening,
         _ => phase,
     }
 }

@@ -13,7 +13,7 @@ use crate::calls::{phase_after, place_after, stored_after};
 use crate::parts::Parts;
 use crate::recovering::restarted_broker;
 use crate::seat::renew;
-use crate::{Call, CallKind, Event, LastCall, Life};
+use crate::{Call, CallKind, Event, LastCall, Period};
 use broker_core::Broker;
 use disk_core::{overwrite, release};
 use std::alloc::{AllocError, Global};
@@ -103,7 +103,7 @@ impl Parts {
         renew(&mut self.seats, count);
         self.stopped = false;
         self.released.clear();
-        self.phase = Life::Running;
+        self.phase = Period::Running;
         self.place = LastCall::Rest;
     }
 

@@ -18,6 +18,6 @@ mod world;
 
 pub use event::{Call, CallKind, CallList, Event};
 pub use laws::{every_schedule, shown_worlds_hold, unsynced_bytes_may_read_as_any};
-pub use place::{LastCall, Life};
+pub use place::{LastCall, Period};
 pub use seat::{Seat, Tickets};
 pub use world::World;

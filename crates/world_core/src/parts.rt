@@ -3,7 +3,7 @@
 ghost use Rattle.std.specs.Prelude.{◌≡◌, ◌↔◌, ◌<◌, ◌^◌, IsTrue, Some, false, length, slice_get, true};
 ghost use Rattle.world_core.specs.Events.{AreThere};
 
-use crate::{LastCall, Life, Seat};
+use crate::{LastCall, Period, Seat};
 use broker_core::Broker;
 use command_core::Entry;
 use std::snapshot::Snapshot;
@@ -23,7 +23,7 @@ pub(crate) struct Parts {
     pub(crate) stopped: bool,
     pub(crate) released: Vec<u64>,
     pub(crate) earlier: Vec<u64>,
-    pub(crate) phase: Life,
+    pub(crate) phase: Period,
     pub(crate) place: LastCall,
     // How many bytes each of the two areas has.
     pub(crate) size: u64,
@@ -32,21 +32,21 @@ pub(crate) struct Parts {
     pub(crate) held: Vec<Option<u8>>,
 }
 
-pub(crate) fn is_running(phase: Life) -> bool
-    ensures { IsTrue result ↔ phase ≡ Life.Running }
+pub(crate) fn is_running(phase: Period) -> bool
+    ensures { IsTrue result ↔ phase ≡ Period.Running }
 {
     match phase {
-        Life::Running => true,
-        Life::Reopening | Life::Crashed => false,
+        Period::Running => true,
+        Period::Reopening | Period::Crashed => false,
     }
 }
 
-pub(crate) fn are_there(phase: Life) -> bool
+pub(crate) fn are_there(phase: Period) -> bool
     ensures { IsTrue result ↔ AreThere phase }
 {
     match phase {
-        Life::Running | Life::Reopening => true,
-        Life::Crashed => false,
+        Period::Running | Period::Reopening => true,
+        Period::Crashed => false,
     }
 }
 

@@ -36,7 +36,7 @@ pub enum LastCall {
 
 /// Which part of its life a world is in.
 #[derive(Clone, Copy, PartialEq, Eq)]
-pub enum Life {
+pub enum Period {
     /// Sessions and the flusher run.
     Running,
     /// The journal is opened again, without a crash before.

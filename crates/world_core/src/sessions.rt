@@ -11,7 +11,7 @@ ghost use Rattle.world_core.specs.Parts.{value_of};
 ghost use Rattle.world_core.specs.Readings.{Reading};
 
 use crate::parts::{Parts, are_there, is_clear, is_running, is_set};
-use crate::{Event, LastCall, Life, Seat};
+use crate::{Event, LastCall, Period, Seat};
 use claim_core::WINDOW;
 use command_core::{Command, Entry};
 use disk_core::{is_image, release};
@@ -251,7 +251,7 @@ impl Parts {
         }
         self.content.copy_from_slice(image.as_slice());
         release(&mut self.held);
-        self.phase = Life::Crashed;
+        self.phase = Period::Crashed;
         self.place = LastCall::Broken;
         true
     }

@@ -13,7 +13,7 @@ use crate::formatting::{first_content, old_area, old_content};
 use crate::parts::Parts;
 use crate::recovering::broker_in;
 use crate::seat::seats;
-use crate::{Event, LastCall, Life, Seat};
+use crate::{Event, LastCall, Period, Seat};
 use broker_core::Broker;
 use claim_core::SEATS;
 use command_core::Command;
@@ -78,7 +78,7 @@ fn first_parts(
         stopped: false,
         released: Vec::new(alloc),
         earlier: Vec::new(alloc),
-        phase: Life::Running,
+        phase: Period::Running,
         place: LastCall::Rest,
         size,
         content,
@@ -114,7 +114,7 @@ fn crashed_parts(
         stopped: false,
         released: Vec::new(alloc),
         earlier: Vec::new(alloc),
-        phase: Life::Crashed,
+        phase: Period::Crashed,
         place: LastCall::Broken,
         size,
         content,

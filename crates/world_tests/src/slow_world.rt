@@ -2,7 +2,7 @@
 //! record has 11 bytes.
 use crate::schedules::AREA;
 use std::alloc::{AllocError, Global};
-use world_core::{Call, CallKind, CallList, LastCall, Life};
+use world_core::{Call, CallKind, CallList, LastCall, Period};
 
 /// The record of an Open without a client's name.
 const RECORD: [u8; 11] = [0, 0, 0, 0, 0, 0, 0, 0, 0, 1, 0];
@@ -21,7 +21,7 @@ pub(crate) struct SlowWorld {
     pub(crate) stored: u64,
     pub(crate) mark: u64,
     seats: Vec<SlowSeat>,
-    phase: Life,
+    phase: Period,
     place: LastCall,
     pub(crate) content: Vec<u8>,
     // The range that is unsynced, from one place up to another.
@@ -114,7 +114,7 @@ impl SlowWorld {
             stored: 0,
             mark: 0,
             seats,
-            phase: Life::Running,
+            phase: Period::Running,
             place: LastCall::Rest,
             content,
             unsynced: (0, 0),
@@ -135,7 +135,7 @@ impl SlowWorld {
         for seat in world.seats.iter_mut() {
             seat.seen = count;
         }
-        world.phase = Life::Crashed;
+        world.phase = Period::Crashed;
         world.place = LastCall::Broken;
         Ok(world)
     }
@@ -145,7 +145,7 @@ impl SlowWorld {
     }
 
     pub(crate) fn is_running(&self) -> bool {
-        self.phase == Life::Running
+        self.phase == Period::Running
     }
 
     fn flag(&self, number: u64) -> Option<bool> {
@@ -158,7 +158,7 @@ impl SlowWorld {
     }
 
     pub(crate) fn look(&mut self, j: usize) -> bool {
-        if self.phase == Life::Crashed || j >= self.seats.len() {
+        if self.phase == Period::Crashed || j >= self.seats.len() {
             return false;
         }
         self.seats[j].seen = self.mark;
@@ -235,7 +235,7 @@ impl SlowWorld {
     }
 
     pub(crate) fn release(&self, j: usize, n: u64) -> bool {
-        self.phase != Life::Crashed && j < self.seats.len() && n < self.seats[j].seen
+        self.phase != Period::Crashed && j < self.seats.len() && n < self.seats[j].seen
     }
 
     pub(crate) fn stop(&self) -> bool {
@@ -255,7 +255,7 @@ impl SlowWorld {
             self.content[at] = byte;
         }
         self.unsynced = (0, 0);
-        self.phase = Life::Crashed;
+        self.phase = Period::Crashed;
         self.place = LastCall::Broken;
         true
     }
@@ -440,7 +440,7 @@ impl SlowWorld {
             return Ok(false);
         }
         if call.list == CallList::Open && self.is_running() {
-            self.phase = Life::Reopening;
+            self.phase = Period::Reopening;
         }
         if !call.ok {
             self.place = LastCall::Broken;
@@ -464,7 +464,7 @@ impl SlowWorld {
             seat.own.clear();
             seat.seen = count;
         }
-        self.phase = Life::Running;
+        self.phase = Period::Running;
         self.place = LastCall::Rest;
         true
     }
