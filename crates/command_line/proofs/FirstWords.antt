@@ -1,6 +1,7 @@
 -- The first words of a command line.
-use Rattle.std.proofs.Common.{◌≡◌, ◌≤◌, ◌-◌, List, [], ◌∷◌, ℕ, ap, arith, drop, length, map, slice_index_or, sym, take}
+use Rattle.std.proofs.Common.{◌≡◌, ◌<◌, ◌≤◌, ◌-◌, List, [], ◌∷◌, ℕ, ap, arith, drop, false, length, map, refl, slice_index_or, sym, take}
 use Rattle.std.proofs.lemmas.List.{take_all}
+use Rattle.command_line.specs.Calls.{names_call}
 
 module _ {A : Type 0} (text : A → List ℕ) where
   -- a program's name, and a word
@@ -15,3 +16,9 @@ module _ {A : Type 0} (text : A → List ℕ) where
   named [] a some second = absurd (omega (arith, some))
   named (x ∷ []) a some second = absurd (omega (arith, some))
   named (x ∷ y ∷ words) a some second = (text x, λ i. text x ∷ text (sym second i) ∷ map text (sym (take_all (length (x ∷ y ∷ words) - 2) words (omega arith)) i))
+
+  -- fewer name no call
+  pub no_call : (words : List A) → length words < 2 → false ≡ names_call (map text words)
+  no_call [] few = refl
+  no_call (x ∷ []) few = refl
+  no_call (x ∷ y ∷ words) few = absurd (omega (arith, few))

@@ -1,3 +1,4 @@
+pub mod Calls
 pub mod CommandLines
 pub mod Failures
 pub mod Origins

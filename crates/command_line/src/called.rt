@@ -1,5 +1,11 @@
 //! How the program ends by what a client did.
 
+ghost use Rattle.std.specs.Prelude.{◌≡◌, IfErr, OnOk};
+ghost use Rattle.std.specs.Io.KnownBytes.{Appends};
+ghost use Rattle.client_core.specs.Texts.{ping_status};
+ghost use Rattle.command_line.specs.Calls.{call_text, taken_text};
+ghost use Rattle.command_line.specs.Failures.{line_of};
+
 use crate::program::{DONE, Ended, FAILED, FULL, Failure};
 use crate::telling::end_by;
 use client_core::ClientFault;
@@ -7,25 +13,28 @@ use std::io;
 use std::io::Write;
 
 /// Tells what a conversation came to, and how the program ends by it. If a SEND may have been taken, and may not, that is told too.
-pub fn end_call<E: Write>(called: Result<(), ClientFault>, errors: &mut E) -> Ended {
+pub fn end_call<E: Write>(called: Result<(), ClientFault>, errors: &mut E) -> Ended
+    ensures done { OnOk called ((result.status ≡ 0) × (errors.new ≡ errors.old)) }
+    ensures failed { IfErr called (λ fault. (result.status ≡ ping_status fault)
+        × OnOk result.told (Appends (E.contents errors.old) (E.contents errors.new) (line_of (call_text fault)))) }
+{
     match called {
         Ok(()) => Ended {
             status: DONE,
             told: Ok(()),
         },
         Err(fault) => {
-            let status = if fault.is_of_full_server() {
-                FULL
-            } else {
-                FAILED
-            };
+            let is_full = fault.is_of_full_server();
+            let status = if is_full { FULL } else { FAILED };
             let told = tell_fault(fault, errors);
             Ended { status, told }
         }
     }
 }
 
-fn tell_fault<E: Write>(fault: ClientFault, errors: &mut E) -> io::Result<()> {
+fn tell_fault<E: Write>(fault: ClientFault, errors: &mut E) -> io::Result<()>
+    ensures { OnOk result (Appends (E.contents errors.old) (E.contents errors.new) (line_of (call_text fault))) }
+{
     if fault.is_unknown() {
         let told = writeln!(
             errors,
@@ -38,6 +47,8 @@ fn tell_fault<E: Write>(fault: ClientFault, errors: &mut E) -> io::Result<()> {
 }
 
 /// Tells how many lines were taken before one that was not.
-pub fn tell_taken<E: Write>(taken: u64, errors: &mut E) -> io::Result<()> {
+pub fn tell_taken<E: Write>(taken: u64, errors: &mut E) -> io::Result<()>
+    ensures { OnOk result (Appends (E.contents errors.old) (E.contents errors.new) (line_of (taken_text taken))) }
+{
     writeln!(errors, "stompd: {taken} lines before it were taken")
 }

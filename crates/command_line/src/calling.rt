@@ -1,7 +1,13 @@
 //! What the words ask of a client.
 
+ghost use Rattle.std.specs.Prelude.{◌≡◌, ◌≢◌, [], IfErr, IfOk, IfNone, IfSome, map};
+ghost use Rattle.std.specs.List.{AllByRecursion};
+ghost use Rattle.command_line.specs.Calls.{CanBeDone, CanCome, IsNoneOf, IsRefused, is_call_name, most_of, names_call};
+ghost use Rattle.command_line.specs.declared.words.WordKind.TheVariants as kinds;
+
 use crate::addresses::address_of;
 use crate::numbers::number_of;
+use crate::parsing::named;
 use crate::usage::matches_of;
 use crate::words::WordKind;
 use clap::{ArgMatches, Error};
@@ -47,15 +53,26 @@ pub enum Uncalled<'a> {
 }
 
 /// Whether the words name what a client does.
-pub fn is_call<S: AsStr>(words: &[S]) -> bool {
-    match words {
-        [_, name, ..] => matches!(name.as_str(), "send" | "listen" | "forget"),
-        _ => false,
+pub fn is_call<S: AsStr>(words: &[S]) -> bool
+    ensures { result ≡ names_call (map S.text words.now) }
+{
+    match named(words) {
+        Some((name, _)) => is_call_name(name),
+        None => false,
     }
 }
 
+fn is_call_name(name: &str) -> bool
+    ensures { result ≡ is_call_name name.now }
+{
+    matches!(name, "send" | "listen" | "forget")
+}
+
 /// What the words ask of a client, of which the first is the program's name, and the second names what a client does.
-pub fn call_of<'a, S: AsStr>(alloc: Global, words: &'a [S]) -> Result<Call<'a>, Uncalled<'a>> {
+pub fn call_of<'a, S: AsStr>(alloc: Global, words: &'a [S]) -> Result<Call<'a>, Uncalled<'a>>
+    ensures ok { IfOk result CanBeDone }
+    ensures refused { IfErr result IsRefused }
+{
     match matches_of(alloc, words) {
         Ok(matches) => {
             let call = call_in(alloc, &matches);
@@ -66,7 +83,10 @@ pub fn call_of<'a, S: AsStr>(alloc: Global, words: &'a [S]) -> Result<Call<'a>, 
     }
 }
 
-fn call_in<'a>(alloc: Global, matches: &ArgMatches<'a>) -> Result<Call<'a>, Uncalled<'a>> {
+fn call_in<'a>(alloc: Global, matches: &ArgMatches<'a>) -> Result<Call<'a>, Uncalled<'a>>
+    ensures ok { IfOk result CanBeDone }
+    ensures refused { IfErr result IsRefused }
+{
     match matches.subcommand() {
         Some(("send", given)) => send_in(alloc, given),
         Some(("listen", given)) => listen_in(given),
@@ -75,7 +95,10 @@ fn call_in<'a>(alloc: Global, matches: &ArgMatches<'a>) -> Result<Call<'a>, Unca
     }
 }
 
-fn send_in<'a>(alloc: Global, given: &ArgMatches<'a>) -> Result<Call<'a>, Uncalled<'a>> {
+fn send_in<'a>(alloc: Global, given: &ArgMatches<'a>) -> Result<Call<'a>, Uncalled<'a>>
+    ensures ok { IfOk result CanBeDone }
+    ensures refused { IfErr result IsRefused }
+{
     let address = address_in(given)?;
     let body = given.get_str("BODY");
     let by_lines = given.get_flag("lines");
@@ -92,7 +115,10 @@ fn send_in<'a>(alloc: Global, given: &ArgMatches<'a>) -> Result<Call<'a>, Uncall
     })
 }
 
-fn listen_in<'a>(given: &ArgMatches<'a>) -> Result<Call<'a>, Uncalled<'a>> {
+fn listen_in<'a>(given: &ArgMatches<'a>) -> Result<Call<'a>, Uncalled<'a>>
+    ensures ok { IfOk result CanBeDone }
+    ensures refused { IfErr result IsRefused }
+{
     let address = address_in(given)?;
     let destination = word_in(given, "DESTINATION");
     let (client, name) = match given.get_strs("durable") {
@@ -118,12 +144,11 @@ fn listen_in<'a>(given: &ArgMatches<'a>) -> Result<Call<'a>, Uncalled<'a>> {
 }
 
 // After how many messages it ends: of what is not its own and not settled it gets 16 at most.
-fn count_in<'a>(given: &ArgMatches<'a>, plan: &Plan<'_>) -> Result<u64, Uncalled<'a>> {
-    let most = if plan.settles || plan.mode() == "auto" {
-        u64::MAX
-    } else {
-        MOST_UNSETTLED
-    };
+fn count_in<'a>(given: &ArgMatches<'a>, plan: &Plan<'_>) -> Result<u64, Uncalled<'a>>
+    ensures ok { IfOk result (CanCome plan.now) }
+    ensures refused { IfErr result IsRefused }
+{
+    let most = most_of(plan);
     let Some(text) = given.get_str("N") else {
         return Ok(most);
     };
@@ -134,7 +159,20 @@ fn count_in<'a>(given: &ArgMatches<'a>, plan: &Plan<'_>) -> Result<u64, Uncalled
     }
 }
 
-fn forget_in<'a>(given: &ArgMatches<'a>) -> Result<Call<'a>, Uncalled<'a>> {
+// How many messages it may wait for.
+fn most_of(plan: &Plan<'_>) -> u64
+    ensures { result ≡ most_of plan.now }
+{
+    if plan.settles || plan.is_own() {
+        return u64::MAX;
+    }
+    MOST_UNSETTLED
+}
+
+fn forget_in<'a>(given: &ArgMatches<'a>) -> Result<Call<'a>, Uncalled<'a>>
+    ensures ok { IfOk result CanBeDone }
+    ensures refused { IfErr result IsRefused }
+{
     let address = address_in(given)?;
     Ok(Call::Forget {
         address,
@@ -143,7 +181,9 @@ fn forget_in<'a>(given: &ArgMatches<'a>) -> Result<Call<'a>, Uncalled<'a>> {
     })
 }
 
-fn address_in<'a>(given: &ArgMatches<'a>) -> Result<Address<'a>, Uncalled<'a>> {
+fn address_in<'a>(given: &ArgMatches<'a>) -> Result<Address<'a>, Uncalled<'a>>
+    ensures refused { IfErr result IsRefused }
+{
     let text = word_in(given, "PORT");
     match address_of(text) {
         Some(address) => Ok(address),
@@ -160,19 +200,33 @@ fn word_in<'a>(given: &ArgMatches<'a>, name: &str) -> &'a str {
 fn headers_in<'a>(
     alloc: Global,
     given: &ArgMatches<'a>,
-) -> Result<Vec<(&'a str, &'a str)>, Uncalled<'a>> {
+) -> Result<Vec<(&'a str, &'a str)>, Uncalled<'a>>
+    ensures ok { IfOk result (λ headers. AllByRecursion (λ header. header.0.now ≢ []) headers.items) }
+    ensures refused { IfErr result IsRefused }
+{
     let mut headers = Vec::new(alloc);
     let Some(texts) = given.get_strs("header") else {
         return Ok(headers);
     };
     for text in texts {
-        match text.split_once(':') {
-            Some((name, value)) if !name.is_empty() => match headers.push((name, value)) {
-                Ok(()) => {}
-                Err(refused) => return Err(Uncalled::Words(Error::from(refused))),
-            },
-            _ => return Err(Uncalled::Word(WordKind::Header, text)),
+        let Some(header) = header_of(text) else {
+            return Err(Uncalled::Word(WordKind::Header, text));
+        };
+        match headers.push(header) {
+            Ok(()) => {}
+            Err(refused) => return Err(Uncalled::Words(Error::from(refused))),
         }
     }
     Ok(headers)
+}
+
+// A header, cut at the first colon. It has to have a name.
+fn header_of(text: &str) -> Option<(&str, &str)>
+    ensures some { IfSome result (λ header. header.0.now ≢ []) }
+    ensures none { IfNone result (IsNoneOf kinds.Header text.now) }
+{
+    match text.split_once(':') {
+        Some((name, value)) if !name.is_empty() => Some((name, value)),
+        _ => None,
+    }
 }

@@ -145,7 +145,7 @@ fn asked_of<'a, S: AsStr>(alloc: Global, words: &'a [S]) -> Result<Subcommand<'a
 }
 
 /// The word after the program's name, and the words after that.
-fn named<'a, S: AsStr>(words: &'a [S]) -> Option<(&'a str, &'a [S])>
+pub(crate) fn named<'a, S: AsStr>(words: &'a [S]) -> Option<(&'a str, &'a [S])>
     ensures some { IfSome result (λ it. (program : List ℕ) × (map S.text words.now ≡ program ∷ it.0.now ∷ map S.text it.1.now)) }
     ensures none { IfNone result (length words.now < 2) }
 {

@@ -1,0 +1,74 @@
+-- What a client does by the words of a command line, and what is told of that.
+use Rattle.std.specs.Prelude.{◌≡◌, ◌≢◌, ◌<◌, ◌≤◌, ◌^◌, ◌⊎◌, List, [], ◌∷◌, ◌++◌, ◌==◌, ◌||◌, ◌&&◌, ℕ, Bool, None, Option, true, false, ⊤, bytes_eq, codes, cond, length, nat_eq, not}
+use Rattle.std.specs.Borrow.{Bor}
+use Rattle.std.specs.List.{AllByRecursion, before_first, position_or_len, starts_with}
+use Rattle.std.specs.Fmt.{decimal}
+use Rattle.client_core.specs.Requests.{is_own, is_unnamed}
+use Rattle.client_core.specs.Texts.{client_text, is_unknown}
+use Rattle.client_core.specs.declared.address.Address.{Address}
+use Rattle.client_core.specs.declared.fault.ClientFault.{ClientFault}
+use Rattle.client_core.specs.declared.plan.Plan.{Plan}
+use Rattle.command_line.specs.Addresses.{IsAddress}
+use Rattle.command_line.specs.Numbers.{IsNumber}
+use Rattle.command_line.specs.declared.calling.Call.{Call}
+use Rattle.command_line.specs.declared.calling.Call.TheVariants.{Send, Listen, Forget}
+use Rattle.command_line.specs.declared.calling.Uncalled.{Uncalled}
+use Rattle.command_line.specs.declared.calling.Uncalled.TheVariants.{Words, Word}
+use Rattle.command_line.specs.declared.words.WordKind.{WordKind}
+use Rattle.command_line.specs.declared.words.WordKind.TheVariants as kinds
+
+-- the words that name what a client does
+abbrev pub is_call_name : List ℕ → Bool
+is_call_name name = bytes_eq name (codes "send") || bytes_eq name (codes "listen") || bytes_eq name (codes "forget")
+
+-- the word after the program's name is one
+abbrev pub names_call : List (List ℕ) → Bool
+names_call [] = false
+names_call (program ∷ []) = false
+names_call (program ∷ name ∷ words) = is_call_name name
+
+-- what is told of a conversation that was not finished, also if a message may have been taken
+abbrev pub call_text : ClientFault → List ℕ
+call_text fault = cond (is_unknown fault.step fault.cause) (client_text fault ++ codes "; the server may have taken it, or not") (client_text fault)
+
+-- what is told of the lines before one that was not sent
+abbrev pub taken_text : ℕ → List ℕ
+taken_text taken = decimal taken ++ codes " lines before it were taken"
+
+-- Others may get what is shown, and it is not taken: the messages of a queue or a durable name, if none is settled.
+abbrev pub is_lent : Plan → Bool
+is_lent plan = cond plan.settles false (not (is_own plan))
+
+-- how many messages can be waited for: 16 of those that others may get (docs/PROTOCOL.md, "Limits")
+abbrev pub most_of : Plan → ℕ
+most_of plan = cond (is_lent plan) 16 18446744073709551615
+
+-- so many can come
+abbrev pub CanCome : Plan → ℕ → Type 0
+CanCome plan count = (0 < count) × (count ≤ most_of plan)
+
+-- a queue has no durable names
+abbrev pub names_queue : Plan → Bool
+names_queue plan = cond (is_unnamed plan.name) false (starts_with nat_eq plan.destination.now (codes "/queue/"))
+
+-- What is asked of a client can be done. Each header has a name, and lines of standard input come with no other body. A durable name has
+-- its client.
+abbrev pub CanBeDone : Call → Type 0
+CanBeDone (Send address destination headers body by_lines) = AllByRecursion (λ header. header.0.now ≢ []) headers.items × (by_lines ≡ true → body ≡ None)
+CanBeDone (Listen address client plan) = CanCome plan plan.count × (names_queue plan ≡ false) × (is_unnamed client ≡ is_unnamed plan.name)
+CanBeDone (Forget address client name) = ⊤
+
+-- the word is not of that kind: no address, no number from 1 on, a number over 16, or no header, since it has no colon or no name before it
+abbrev pub IsNoneOf : WordKind → List ℕ → Type 0
+IsNoneOf kinds.Address word = (address : Address) → IsAddress word address → ⊥
+IsNoneOf kinds.Count word = (n : ℕ) → IsNumber word n → 0 < n → 2 ^ 64 ≤ n
+IsNoneOf kinds.UnsettledCount word = (n : ℕ) × IsNumber word n × (16 < n)
+IsNoneOf kinds.Header word = (position_or_len (λ b. b == 58) word ≡ length word) ⊎ (before_first (λ b. b == 58) word ≡ [])
+IsNoneOf kinds.BodyOfLines word = ⊤
+IsNoneOf kinds.DurableQueue word = ⊤
+IsNoneOf _ word = ⊥
+
+-- why nothing is asked of a client is true of the word that is named
+abbrev pub IsRefused : Uncalled → Type 0
+IsRefused (Words error) = ⊤
+IsRefused (Word kind word) = IsNoneOf kind word.now
