@@ -22,7 +22,7 @@ use Rattle.engine_core.specs.Desks.{DesksKeepWithin, operations_of}
 use Rattle.engine_core.specs.Rooms.{HasRoom}
 use Rattle.engine_core.specs.Sessions.{bytes_of_opening, bytes_of_session, bytes_of_sessions, bytes_of_subscription}
 use Rattle.engine_core.proofs.Histories.{takes_as_said}
-use Rattle.engine_core.proofs.Sizes.{room_for}
+use Rattle.engine_core.proofs.SnapshotSizes.{room_for}
 
 abbrev Session : Type 0
 Session = ℕ × Option (List ℕ)

@@ -3,7 +3,7 @@ pub mod Taken
 pub mod Steps
 pub mod Histories
 pub mod Desks
-pub mod Sizes
+pub mod SnapshotSizes
 pub mod Beginning
 pub mod Serving
 pub mod Shown

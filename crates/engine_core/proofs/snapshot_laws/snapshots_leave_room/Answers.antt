@@ -1,4 +1,4 @@
-use Rattle.engine_core.proofs.Sizes.{room_for, snapshot_most}
+use Rattle.engine_core.proofs.SnapshotSizes.{room_for, snapshot_most}
 use Rattle.engine_core.proofs.snapshot_laws.snapshots_leave_room.Goals as goal
 
 pub returns : goal.returns
