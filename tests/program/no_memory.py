@@ -48,7 +48,7 @@ TESTS = {
         ("decode_state", "a_snapshot_for_which_memory_is_refused_is_not_called_damaged"),
         ("encode_state", "a_state_for_whose_snapshot_memory_is_refused_is_whole"),
     ),
-    "recovery_tests": (("open", "a_journal_for_which_memory_is_refused_is_opened_the_next_time"),),
+    "journal_tests": (("open", "a_journal_for_which_memory_is_refused_is_opened_the_next_time"),),
     "flush_tests": (("Flusher::compact", "a_compaction_for_which_memory_is_refused_leaves_the_state"),),
     "hub_tests": (
         ("flush_loop", "a_flusher_that_is_refused_memory_stops_and_loses_nothing"),

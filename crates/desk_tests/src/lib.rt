@@ -1,5 +1,5 @@
-//! Tests of desks with many clients, by their public face: on one thread, where each turn comes when a test gives it, and in threads.
-//! They are a crate of their own, since a crate that has tests is proved twice.
+//! Tests of WebSocket links, and of desks with many clients, by their public faces: on one thread, where each turn comes when a test gives
+//! it, and in threads. Those of links are rows of data over one driver, since each function that holds a link has a long proof.
 
 #![tactic(auto)]
 
@@ -10,10 +10,24 @@ mod clients;
 #[cfg(test)]
 mod crowd_tests;
 #[cfg(test)]
+mod driver;
+#[cfg(test)]
+mod failing_tests;
+#[cfg(test)]
 mod foreign_tests;
+#[cfg(test)]
+mod frames;
+#[cfg(test)]
+mod handshake_tests;
 #[cfg(test)]
 mod place_tests;
 #[cfg(test)]
+mod receiving_tests;
+#[cfg(test)]
 mod rooms;
 #[cfg(test)]
+mod sending_tests;
+#[cfg(test)]
 mod texts;
+#[cfg(test)]
+mod wire;

@@ -1,5 +1,4 @@
-//! Tests of the flusher by its public face, on one thread. They are a crate of their own, since a crate that has tests is proved
-//! twice.
+//! Tests of the flusher and of the model of interleavings and crashes, by their public faces, on one thread.
 
 #![tactic(auto)]
 
@@ -10,10 +9,22 @@ mod failing_tests;
 #[cfg(test)]
 mod pace_tests;
 #[cfg(test)]
+mod random_tests;
+#[cfg(test)]
 mod refusal_tests;
 #[cfg(test)]
 mod room_tests;
 #[cfg(test)]
+mod schedule_tests;
+#[cfg(test)]
+mod schedules;
+#[cfg(test)]
 mod setups;
 #[cfg(test)]
+mod slow_world;
+#[cfg(test)]
 mod step_tests;
+#[cfg(test)]
+mod stop_tests;
+#[cfg(test)]
+mod version_tests;

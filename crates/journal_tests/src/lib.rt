@@ -1,13 +1,35 @@
-//! Tests of the disk and the journal by their public faces. They are in a crate of their own, since a crate with tests is proved twice:
+//! Tests of disks, areas and recovery by their public faces. They are in a crate of their own, since a crate with tests is proved twice:
 //! without them and with them.
 
 #![tactic(auto)]
 
 #[cfg(test)]
+mod any_bytes_tests;
+#[cfg(test)]
 mod area_tests;
 #[cfg(test)]
 mod call_tests;
 #[cfg(test)]
+mod count_tests;
+#[cfg(test)]
+mod damage_tests;
+#[cfg(test)]
 mod disk_tests;
 #[cfg(test)]
 mod fail_once_tests;
+#[cfg(test)]
+mod failing_tests;
+#[cfg(test)]
+mod journals;
+#[cfg(test)]
+mod old_journal_tests;
+#[cfg(test)]
+mod opening_tests;
+#[cfg(test)]
+mod refusal_tests;
+#[cfg(test)]
+mod script_tests;
+#[cfg(test)]
+mod stop_tests;
+#[cfg(test)]
+mod version_tests;

@@ -161,7 +161,7 @@ fn append_two(alloc: Global, store: &mut Store<FileDisk>) -> Result<(), Fail> {
 // No contract knows what a file holds.
 #[test]
 fn a_store_over_a_file_is_opened_again(rt: HostRuntime) -> Result<(), Fail> {
-    let path = "recovery_tests_file";
+    let path = "journal_tests_stopped_file";
     let _ = fs::remove_file(&rt, path);
     let mut disk = FileDisk::create(&rt, path, SIZE)?;
     match format(rt.alloc(), &mut disk, 4_096) {

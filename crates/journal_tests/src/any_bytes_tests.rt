@@ -10,7 +10,7 @@ use std::test::Fail;
 
 // What is reported of a disk: how many commands were carried out and how many messages are held, or why it is refused.
 #[derive(Clone, Copy, PartialEq, Eq)]
-pub(crate) enum Told {
+pub(crate) enum Reported {
     Holds(u64, u64),
     NotAJournal,
     UnknownVersion,
@@ -21,25 +21,25 @@ pub(crate) enum Told {
     Other,
 }
 
-fn told_of(fault: &OpenFault) -> Told {
+fn told_of(fault: &OpenFault) -> Reported {
     match fault {
-        OpenFault::Read(ReadFault::NotAJournal) => Told::NotAJournal,
-        OpenFault::Read(ReadFault::UnknownVersion) => Told::UnknownVersion,
-        OpenFault::Read(ReadFault::TooSmall) => Told::TooSmall,
-        OpenFault::Read(ReadFault::Damaged(place)) => Told::Damaged(*place),
-        OpenFault::CountTooLarge => Told::TooMany,
-        _ => Told::Other,
+        OpenFault::Read(ReadFault::NotAJournal) => Reported::NotAJournal,
+        OpenFault::Read(ReadFault::UnknownVersion) => Reported::UnknownVersion,
+        OpenFault::Read(ReadFault::TooSmall) => Reported::TooSmall,
+        OpenFault::Read(ReadFault::Damaged(place)) => Reported::Damaged(*place),
+        OpenFault::CountTooLarge => Reported::TooMany,
+        _ => Reported::Other,
     }
 }
 
-fn told_by_read(alloc: Global, disk: &mut MemDisk) -> Told {
+fn told_by_read(alloc: Global, disk: &mut MemDisk) -> Reported {
     match read(alloc, disk) {
-        Ok(seen) => Told::Holds(seen.count, seen.held.messages),
+        Ok(seen) => Reported::Holds(seen.count, seen.held.messages),
         Err(fault) => told_of(&fault),
     }
 }
 
-fn told_by_open(alloc: Global, disk: MemDisk) -> Told {
+fn told_by_open(alloc: Global, disk: MemDisk) -> Reported {
     match open(alloc, disk) {
         Ok(mut store) => {
             let told = told_of_store(&mut store);
@@ -55,14 +55,14 @@ fn told_by_open(alloc: Global, disk: MemDisk) -> Told {
     }
 }
 
-fn told_of_store(store: &mut Store<MemDisk>) -> Told {
+fn told_of_store(store: &mut Store<MemDisk>) -> Reported {
     match store.broker() {
         Some(broker) => {
-            let told = Told::Holds(broker.count(), broker.held().messages);
+            let told = Reported::Holds(broker.count(), broker.held().messages);
             drop(broker);
             told
         }
-        None => Told::Other,
+        None => Reported::Other,
     }
 }
 
@@ -139,7 +139,7 @@ pub(crate) fn tells(
     alloc: Global,
     image: &[u8],
     place: usize,
-    wanted: Told,
+    wanted: Reported,
 ) -> Result<bool, Fail> {
     let mut disk = disk_of(rt, alloc, image, place)?;
     let is_read = told_by_read(alloc, &mut disk) == wanted;
@@ -147,7 +147,7 @@ pub(crate) fn tells(
 }
 
 // What the journal holds as it is: four commands, of which the last three each leave a message.
-const ALL: Told = Told::Holds(4, 3);
+const ALL: Reported = Reported::Holds(4, 3);
 
 // A number of eight bytes that are zero but for this byte, which is this many places after the first.
 fn number_of(place: u64, byte: u8) -> u64 {
@@ -159,91 +159,91 @@ fn number_of(place: u64, byte: u8) -> u64 {
 }
 
 // A byte of the header.
-fn told_in_header(at: u64, byte: u8) -> Told {
+fn told_in_header(at: u64, byte: u8) -> Reported {
     match at {
-        0..=5 => Told::NotAJournal,
-        6 | 7 => Told::UnknownVersion,
+        0..=5 => Reported::NotAJournal,
+        6 | 7 => Reported::UnknownVersion,
         // Areas that are too short or do not fit.
-        8..=15 => Told::TooSmall,
+        8..=15 => Reported::TooSmall,
         // The area that is not live, as it was formatted.
-        16 if byte % 2 == 0 => Told::Holds(0, 0),
+        16 if byte % 2 == 0 => Reported::Holds(0, 0),
         _ => ALL,
     }
 }
 
 // A byte of the live area's front, from its version to the gate after its snapshot. After another count, the session that opens is not the
 // one that sends.
-fn told_in_front(at: u64, byte: u8) -> Told {
+fn told_in_front(at: u64, byte: u8) -> Reported {
     match at {
         4_128 if byte == 0 || byte == 2 => ALL,
         // A snapshot of up to 288 bytes spells no state, and a longer one does not fit.
-        4_135 => Told::Damaged(4_136),
-        4_134 if byte == 1 => Told::Damaged(4_136),
-        4_128..=4_134 => Told::Damaged(4_128),
+        4_135 => Reported::Damaged(4_136),
+        4_134 if byte == 1 => Reported::Damaged(4_136),
+        4_128..=4_134 => Reported::Damaged(4_128),
         4_136..=4_143 => {
             let count = number_of(at.saturating_sub(4_136), byte).saturating_add(4);
             if count > 1 << 61 {
-                Told::TooMany
+                Reported::TooMany
             } else {
-                Told::Holds(count, 0)
+                Reported::Holds(count, 0)
             }
         }
         // The next delivery is 2^63 at most.
-        4_144 if byte >= 0x80 => Told::Damaged(4_136),
+        4_144 if byte >= 0x80 => Reported::Damaged(4_136),
         4_144..=4_151 => ALL,
         // One of the four lists counts something, but there are no bytes for it.
-        4_152..=4_167 => Told::Damaged(4_136),
-        _ => Told::Holds(0, 0),
+        4_152..=4_167 => Reported::Damaged(4_136),
+        _ => Reported::Holds(0, 0),
     }
 }
 
 // A byte of a block's length. In its last place it gives no byte, or one byte, which is no record. Or it gives more than the block has, so
 // that the gate after it is read as a record. A length greater than the area is reported at the length.
-fn told_in_length(at: u64, byte: u8, length: u64, gate: u64) -> Told {
+fn told_in_length(at: u64, byte: u8, length: u64, gate: u64) -> Reported {
     match (length.saturating_add(7).saturating_sub(at), byte) {
-        (0, 0) => Told::Damaged(length),
-        (0, 1) => Told::Damaged(length.saturating_add(8)),
-        (0, _) | (1, 1) => Told::Damaged(gate),
-        _ => Told::Damaged(length),
+        (0, 0) => Reported::Damaged(length),
+        (0, 1) => Reported::Damaged(length.saturating_add(8)),
+        (0, _) | (1, 1) => Reported::Damaged(gate),
+        _ => Reported::Damaged(length),
     }
 }
 
 // A byte of the record of a SEND that begins at that place.
-fn told_in_send(at: u64, byte: u8, record: u64) -> Told {
+fn told_in_send(at: u64, byte: u8, record: u64) -> Reported {
     match (at.saturating_sub(record), byte) {
         // The session is another, which is not open: the message is not taken.
-        (0..=7, _) => Told::Holds(4, 2),
+        (0..=7, _) => Reported::Holds(4, 2),
         // An Open, which has eleven bytes, and no record after it.
-        (9, 1) => Told::Damaged(record.saturating_add(11)),
+        (9, 1) => Reported::Damaged(record.saturating_add(11)),
         // No body, and after the record a byte that is no record.
-        (27, 0) => Told::Damaged(record.saturating_add(28)),
+        (27, 0) => Reported::Damaged(record.saturating_add(28)),
         // A body of another byte.
         (28, _) => ALL,
-        _ => Told::Damaged(record),
+        _ => Reported::Damaged(record),
     }
 }
 
 // A byte of the blocks, from the first one's length on. What stands behind the last gate is not read if the gate is closed.
-fn told_in_blocks(at: u64, byte: u8) -> Told {
+fn told_in_blocks(at: u64, byte: u8) -> Reported {
     match at {
         4_169..=4_176 => told_in_length(at, byte, 4_169, 4_217),
         // The Open, whose session is 0, and which has no receipt and no client's name.
-        4_177..=4_187 => Told::Damaged(4_177),
+        4_177..=4_187 => Reported::Damaged(4_177),
         4_188..=4_216 => told_in_send(at, byte, 4_188),
-        4_217 => Told::Holds(2, 1),
+        4_217 => Reported::Holds(2, 1),
         4_218..=4_225 => told_in_length(at, byte, 4_218, 4_255),
         4_226..=4_254 => told_in_send(at, byte, 4_226),
-        4_255 => Told::Holds(3, 2),
+        4_255 => Reported::Holds(3, 2),
         4_256..=4_263 => told_in_length(at, byte, 4_256, 4_293),
         4_264..=4_292 => told_in_send(at, byte, 4_264),
         // A block of no bytes.
-        4_293 if byte == 1 => Told::Damaged(4_294),
+        4_293 if byte == 1 => Reported::Damaged(4_294),
         _ => ALL,
     }
 }
 
 // What is reported once the byte at this place is this one, which was not there before. The area that is not live is not read.
-fn told_at(at: u64, byte: u8) -> Told {
+fn told_at(at: u64, byte: u8) -> Reported {
     match at {
         0..=31 => told_in_header(at, byte),
         32..=4_127 => ALL,
@@ -315,9 +315,9 @@ fn each_byte_of_an_older_journal_may_be_any(rt: HostRuntime) -> Result<(), Fail>
 fn first_wrong_size(rt: &impl Abort, alloc: Global, image: &Image) -> Result<Option<usize>, Fail> {
     for size in 0..SIZE as usize {
         let wanted = if size < 32 {
-            Told::NotAJournal
+            Reported::NotAJournal
         } else {
-            Told::TooSmall
+            Reported::TooSmall
         };
         if !tells(rt, alloc, &image[..size], 0, wanted)? {
             return Ok(Some(size));

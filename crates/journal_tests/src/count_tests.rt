@@ -1,5 +1,5 @@
 //! A count that promises far more than there are bytes is reported as damage, and takes no memory.
-use crate::any_bytes_tests::{Told, tells};
+use crate::any_bytes_tests::{Reported, tells};
 use crate::journals::SIZE;
 use std::alloc::{AllocError, Global};
 use std::fs;
@@ -145,7 +145,12 @@ fn push_image(image: &mut Vec<u8>, damage: Damage) -> Result<(), AllocError> {
     image.resize(SIZE as usize, 0)
 }
 
-fn tells_of(rt: &impl Abort, alloc: Global, damage: Damage, wanted: Told) -> Result<bool, Fail> {
+fn tells_of(
+    rt: &impl Abort,
+    alloc: Global,
+    damage: Damage,
+    wanted: Reported,
+) -> Result<bool, Fail> {
     let mut image = Vec::new(alloc);
     push_image(&mut image, damage)?;
     tells(rt, alloc, image.as_slice(), 0, wanted)
@@ -155,13 +160,13 @@ fn tells_of(rt: &impl Abort, alloc: Global, damage: Damage, wanted: Told) -> Res
 fn first_wrong(rt: &impl Abort, alloc: Global) -> Result<Option<usize>, Fail> {
     let record = length_of(&SNAPSHOT).saturating_add(4_145);
     for (number, (_, is_count)) in SNAPSHOT.iter().enumerate() {
-        let told = Told::Damaged(4_136);
+        let told = Reported::Damaged(4_136);
         if *is_count && !tells_of(rt, alloc, Damage::Snapshot(number), told)? {
             return Ok(Some(number));
         }
     }
     for (number, (_, is_count)) in RECORD.iter().enumerate() {
-        let told = Told::Damaged(record);
+        let told = Reported::Damaged(record);
         if *is_count && !tells_of(rt, alloc, Damage::Record(number), told)? {
             return Ok(Some(number.saturating_add(SNAPSHOT.len())));
         }
@@ -182,7 +187,7 @@ fn peak_in(status: &str) -> Option<u64> {
 // A list, a text or a body of 2^32 - 1 bytes or more would take 4 GB. Less than a hundredth of that is taken.
 #[test]
 fn a_count_takes_no_more_memory_than_the_bytes_there(rt: HostRuntime) -> Result<(), Fail> {
-    let is_whole = tells_of(&rt, rt.alloc(), Damage::None, Told::Holds(6, 4))?;
+    let is_whole = tells_of(&rt, rt.alloc(), Damage::None, Reported::Holds(6, 4))?;
     let status = fs::read_to_string(&rt, "/proc/self/status")?;
     let before = peak_in(status.as_str());
     drop(status);
