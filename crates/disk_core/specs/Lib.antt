@@ -9,6 +9,7 @@ pub mod Kept
 pub mod Lasting
 pub mod Memory
 pub mod Moments
+pub mod Naming
 pub mod Pairs
 pub mod Publish
 pub mod Spans

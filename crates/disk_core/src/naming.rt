@@ -2,6 +2,8 @@
 //!
 //! A look at the file itself makes the next sync dear: since Linux 6.13 a file whose times were read gets new ones with its next write,
 //! and the sync writes them too.
+ghost use Rattle.std.specs.Prelude.{◌≡◌, ◌-◌, ◌↔◌, IsTrue, MatchBool};
+ghost use Rattle.disk_core.specs.Naming.{Holds, IsBefore, IsOf};
 
 use std::fs::{File, Metadata, symlink_metadata};
 use std::io;
@@ -25,13 +27,57 @@ impl Noted {
         }
     }
 
-    fn is_same(self, other: Noted) -> bool {
+    fn is_same(self, other: Noted) -> bool
+        ensures { IsTrue result ↔ self ≡ other }
+    {
         self.seconds == other.seconds && self.nanoseconds == other.nanoseconds
     }
 
-    fn is_before(self, other: Noted) -> bool {
+    fn is_before(self, other: Noted) -> bool
+        ensures { IsTrue result ↔ IsBefore self other }
+    {
         self.seconds < other.seconds
             || self.seconds == other.seconds && self.nanoseconds < other.nanoseconds
+    }
+}
+
+// The last look at a file, as far as it still tells that the file has a name.
+#[derive(Drop)]
+struct Look {
+    // The folder's last change, if the file was seen to have a name after it.
+    seen: Option<Noted>,
+    // How many more calls it may stand for.
+    left: u8,
+}
+
+// How many calls in turn do without a look at the file.
+const MOST: u8 = 63;
+
+impl Look {
+    // Whether it stands for one more call, in which the folder had last changed at that time.
+    fn holds(&mut self, changed: Noted) -> bool
+        ensures holds { IsTrue result ↔ Holds self.old changed }
+        ensures left { MatchBool result (self.new.left ≡ self.old.left - 1) (self.new.left ≡ self.old.left) }
+        ensures seen { self.new.seen ≡ self.old.seen }
+    {
+        let holds = self.left > 0 && self.seen.is_some_and(|seen| seen.is_same(changed));
+        if holds {
+            self.left -= 1;
+        }
+        holds
+    }
+
+    // A look at a file that was written at that time and has so many names, after the folder had last changed. A change in the moment
+    // of the writing may be followed by another with the same time.
+    fn of(changed: Noted, written: Noted, names: u64) -> Look
+        ensures { IsOf changed written names result }
+    {
+        let seen = if names > 0 && changed.is_before(written) {
+            Some(changed)
+        } else {
+            None
+        };
+        Look { seen, left: MOST }
     }
 }
 
@@ -41,33 +87,22 @@ impl Noted {
 pub struct Naming {
     // The folder, unless it can't be read, or the file is elsewhere and a link leads there.
     folder: Option<File>,
-    // The folder's last change, if the file was looked at after it.
-    seen: Option<Noted>,
-    // How many more calls may do without a look at the file.
-    left: u8,
+    last: Option<Look>,
 }
-
-// How many calls in turn do without a look at the file.
-const MOST: u8 = 63;
 
 impl Naming {
     /// Each call looks at the file.
     pub fn dear() -> Naming {
         Naming {
             folder: None,
-            seen: None,
-            left: 0,
+            last: None,
         }
     }
 
     /// The naming of the file at `path`.
     pub fn of<R: Files<File = File>>(rt: &R, path: &str) -> Naming {
         match own_folder(rt, path) {
-            Ok(folder) => Naming {
-                folder,
-                seen: None,
-                left: 0,
-            },
+            Ok(folder) => Naming { folder, last: None },
             Err(_refused) => Naming::dear(),
         }
     }
@@ -78,18 +113,15 @@ impl Naming {
             return Ok(file.metadata()?.nlink() > 0);
         };
         let changed = Noted::of(&folder.metadata()?);
-        if self.left > 0 && self.seen.is_some_and(|seen| seen.is_same(changed)) {
-            self.left -= 1;
+        if let Some(last) = &mut self.last
+            && last.holds(changed)
+        {
             return Ok(true);
         }
         let there = file.metadata()?;
-        // A change in the moment of the file's last write may be followed by another with the same time.
-        self.seen = match changed.is_before(Noted::of(&there)) {
-            true => Some(changed),
-            false => None,
-        };
-        self.left = MOST;
-        Ok(there.nlink() > 0)
+        let names = there.nlink();
+        self.last = Some(Look::of(changed, Noted::of(&there), names));
+        Ok(names > 0)
     }
 }
 

@@ -411,6 +411,31 @@ fn a_file_that_is_cut_short_fails(rt: HostRuntime) -> Result<(), Fail> {
     Ok(())
 }
 
+const NAMELESS_FOLDER: &str = "journal_tests_disk_nameless";
+
+const NAMELESS: &str = "journal_tests_disk_nameless/disk";
+
+// No sync of a file that was removed succeeds, also not one after another.
+#[test]
+fn a_file_without_a_name_is_synced_no_more(rt: HostRuntime) -> Result<(), Fail> {
+    let _ = fs::remove_dir_all(&rt, NAMELESS_FOLDER);
+    fs::create_dir(&rt, NAMELESS_FOLDER)?;
+    drop(FileDisk::create(&rt, NAMELESS, 6)?);
+    let mut disk = FileDisk::open_locked(&rt, NAMELESS)?;
+    let named = write_some(&rt, &mut disk);
+    let removed = fs::remove_file(&rt, NAMELESS);
+    let first = write_some(&rt, &mut disk);
+    let second = write_some(&rt, &mut disk);
+    drop(disk);
+    removed?;
+    assert_eq!(rt;
+        (named, first, second),
+        (Ok(()), Err(DeviceFault), Err(DeviceFault))
+    );
+    fs::remove_dir_all(&rt, NAMELESS_FOLDER)?;
+    Ok(())
+}
+
 const PLACES: [u64; 6] = [0, 4_095, 5_000, 8_191, 11_990, 5_000];
 
 // Ten bytes in each place, each the number of the turn.
