@@ -1,6 +1,6 @@
-// Makes each fsync take SLOW_SYNC microseconds more (0 without it), to measure what a slow disk would do, and counts the
+// Makes each fsync and fdatasync take SLOW_SYNC microseconds more (0 without it), to measure what a slow disk would do, and counts the
 // syncs and the nanoseconds that they took in the file SYNCS_SEEN, two words of 64 bits each. It is put before the C
-// library's fsync by LD_PRELOAD; bench/serve.py and bench/beside_rabbitmq.py build it and say where.
+// library's by LD_PRELOAD; bench/serve.py and bench/beside_rabbitmq.py build it and say where.
 
 #define _GNU_SOURCE
 #include <dlfcn.h>
@@ -11,7 +11,7 @@
 #include <time.h>
 #include <unistd.h>
 
-static int (*below)(int);
+static int (*below)(int), (*below_data)(int);
 static long microseconds;
 static uint64_t *seen;
 static uint64_t unseen[2];
@@ -28,6 +28,7 @@ static void begin(void) {
             close(file);
         }
     }
+    below_data = (int (*)(int))dlsym(RTLD_NEXT, "fdatasync");
     below = (int (*)(int))dlsym(RTLD_NEXT, "fsync");
 }
 
@@ -37,7 +38,7 @@ static int64_t nanoseconds(void) {
     return now.tv_sec * 1000000000 + now.tv_nsec;
 }
 
-int fsync(int file) {
+static int slowly(int (**sync)(int), int file) {
     if (below == NULL) {
         begin();
     }
@@ -46,8 +47,16 @@ int fsync(int file) {
     if (microseconds > 0) {
         nanosleep(&pause, NULL);
     }
-    int done = below(file);
+    int done = (*sync)(file);
     __atomic_fetch_add(&seen[0], 1, __ATOMIC_RELAXED);
     __atomic_fetch_add(&seen[1], nanoseconds() - begun, __ATOMIC_RELAXED);
     return done;
+}
+
+int fsync(int file) {
+    return slowly(&below, file);
+}
+
+int fdatasync(int file) {
+    return slowly(&below_data, file);
 }

@@ -117,7 +117,7 @@ class Watched(scenario.Broker):
         self.aim, self.is_hit = None, threading.Event()
         self.watch = threading.Thread(target=self.read, args=(pipe,))
         self.watch.start()
-        calls = ["strace", "-f", "--seccomp-bpf", "-qq", "-s", "0", "-o", pipe, "-e", "trace=pwrite64,fsync"]
+        calls = ["strace", "-f", "--seccomp-bpf", "-qq", "-s", "0", "-o", pipe, "-e", "trace=pwrite64,fdatasync"]
         words = [*calls, self.program, "serve", self.journal, str(self.port)]
         self.process = subprocess.Popen(words, stdout=subprocess.PIPE, stderr=subprocess.PIPE)
         # What nobody reads is soon as much as the pipe holds.
@@ -153,7 +153,7 @@ class Watched(scenario.Broker):
                 self.runs, self.is_selected = True, False
                 self.shoot()
             self.is_selected = self.is_selected or (place == SELECTOR and size == 1)
-        elif "fsync" in line and " = 0" in line and self.runs and self.is_selected:
+        elif "fdatasync" in line and " = 0" in line and self.runs and self.is_selected:
             self.runs, self.is_selected = False, False
             self.count += 1
 

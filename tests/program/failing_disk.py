@@ -77,7 +77,7 @@ def formatting(checks):
     """A new file is sized, synced, and synced with its folder; its zeros are written, unless it is to be sparse; then front and header are
     written, and all is synced."""
     cases = [("ftruncate", 1, CANNOT_OPEN), ("fsync", 1, CANNOT_OPEN), ("fsync", 2, CANNOT_OPEN)]
-    cases += [("pwrite64", 1, DEVICE_FAILED), ("pwrite64", 2, DEVICE_FAILED), ("fsync", 3, DEVICE_FAILED)]
+    cases += [("pwrite64", 1, DEVICE_FAILED), ("pwrite64", 2, DEVICE_FAILED), ("fdatasync", 1, DEVICE_FAILED)]
     for option, further in (((), [("pwrite64", 3, DEVICE_FAILED)]), (("--sparse",), [])):
         for call, number, text in cases + further:
             what, path = f"format {option} without {call} {number}", checks.path("made")
@@ -203,7 +203,7 @@ def locking(checks):
 
 def opening(checks):
     """Recovery writes the header back and syncs, writes the snapshot and syncs, and writes the selector and syncs."""
-    for call, numbers in (("fsync", (1, 2, 3)), ("pwrite64", (1, 2, 3))):
+    for call, numbers in (("fdatasync", (1, 2, 3)), ("pwrite64", (1, 2, 3))):
         for number in numbers:
             what, path = f"serve without {call} {number}", make(checks, f"opened-{call}-{number}")
             words = checks.words(call, number, "serve", path, str(free_port()))
@@ -251,7 +251,7 @@ def serving(words, port):
 
 def asleep(checks):
     what, path, port = "a sync that fails late", make(checks, "late"), free_port()
-    words = checks.words("fsync", 6, "serve", path, str(port), late=":delay_enter=500000")
+    words = checks.words("fdatasync", 6, "serve", path, str(port), late=":delay_enter=500000")
     with serving(words, port) as server:
         client = Client(port).connect()
         for number in range(32):
@@ -266,7 +266,7 @@ def asleep(checks):
 def storing(checks):
     """The CONNECT is the first block, and what is sent the second: a write, a sync, the gate's write, and a sync. A gate that
     is written stands in the file, be it synced or not."""
-    for call, number, count in (("pwrite64", 6, 1), ("fsync", 6, 1), ("pwrite64", 7, 1), ("fsync", 7, 2)):
+    for call, number, count in (("pwrite64", 6, 1), ("fdatasync", 6, 1), ("pwrite64", 7, 1), ("fdatasync", 7, 2)):
         what, path, port = f"a block without {call} {number}", make(checks, f"stored-{call}-{number}"), free_port()
         words = checks.words(call, number, "serve", path, str(port))
         with serving(words, port) as server:

@@ -31,7 +31,7 @@ QUEUE, BEFORE, KEPT, PASSING, BODY = "/queue/kept", 1, 2, 14, "x" * 4_000
 MOST_SYNCS = 200
 
 WRITE = re.compile(r'pwrite64\(\d+, "((?:\\x[0-9a-f]{2})*)", \d+, (\d+)\)')
-SYNC = re.compile(r"fsync\(\d+\) += (0|-1)")
+SYNC = re.compile(r"fdatasync\(\d+\) += (0|-1)")
 
 
 class Device:
@@ -79,9 +79,9 @@ class Life:
 
     def __init__(self, program, folder, failing=None):
         self.trace, self.port = f"{folder}/trace", free_port()
-        words = ["strace", "-f", "-o", self.trace, "-xx", "-s", "1000000", "-e", "trace=pwrite64,fsync"]
+        words = ["strace", "-f", "-o", self.trace, "-xx", "-s", "1000000", "-e", "trace=pwrite64,fdatasync"]
         if failing:
-            words += ["-e", f"inject=fsync:error=EIO:when={failing}"]
+            words += ["-e", f"inject=fdatasync:error=EIO:when={failing}"]
         self.process = subprocess.Popen([*words, program, "serve", f"{folder}/journal", str(self.port)], stdout=subprocess.PIPE, stderr=subprocess.DEVNULL)
         # Whether it listens, and whether no sync has failed since.
         self.serves = self.is_whole = self.process.stdout.readline() == b"listening %d\n" % self.port

@@ -81,7 +81,7 @@ class Slow(scenario.Broker):
     """A server with the least budget, under strace, which holds each sync up."""
 
     def serve(self):
-        delay = ["strace", "-f", "--seccomp-bpf", "-qq", "-o", "/dev/null", "-e", "trace=fsync", "-e", f"inject=fsync:delay_enter={SYNC}"]
+        delay = ["strace", "-f", "--seccomp-bpf", "-qq", "-o", "/dev/null", "-e", "trace=fdatasync", "-e", f"inject=fdatasync:delay_enter={SYNC}"]
         words = [*delay, self.program, "serve", self.journal, str(self.port), "--memory", str(LEAST_BUDGET)]
         self.process = subprocess.Popen(words, stdout=subprocess.PIPE, stderr=subprocess.PIPE)
         self.process.stdout.readline()

@@ -193,7 +193,7 @@ class Journal:
 
     def sync(self, what):
         call = self.next(what)
-        check(call.name == "fsync", f"{what}: {call.name} in place of a sync")
+        check(call.name == "fdatasync", f"{what}: {call.name} in place of a sync")
         return call
 
     def write(self, what):

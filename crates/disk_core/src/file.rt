@@ -50,9 +50,9 @@ impl From<io::Error> for OpenError {
 /// A disk in a file of the operating system.
 ///
 /// It claims nothing of its content and images, since no contract knows what a file holds: it is never honest. A sync
-/// asks the system to have the bytes and the size on the device (`fsync`). The first one after opening also writes the
-/// first bytes back as they read: after an `fsync` that failed under an earlier process they may be on the way to the
-/// device no more. Nothing keeps another process from writing the file: a lock binds only those that ask for it. A read
+/// asks the system to have the bytes on the device (`fdatasync`); the size is there since the file was made. The first
+/// one after opening also writes the first bytes back as they read: after a sync that failed under an earlier process
+/// they may be on the way to the device no more. Nothing keeps another process from writing the file: a lock binds only those that ask for it. A read
 /// fails if the file no longer has the range, and a sync if the file was cut or has no name any more.
 #[derive(Drop)]
 pub struct FileDisk {
@@ -152,7 +152,7 @@ impl FileDisk {
         ensures failures { self.new.failures ≡ self.old.failures }
     {
         self.write_header_back()?;
-        self.file.sync_all()?;
+        self.file.sync_data()?;
         let end = self.file.seek(SeekFrom::End(0))?;
         if end < self.size || !self.naming.has_name(&self.file)? {
             return Err(io::Error::from(io::ErrorKind::NotFound));
