@@ -6,14 +6,14 @@ use Rattle.std.proofs.lemmas.Option.{none-some, same_Some}
 use Rattle.broker_state.specs.Operations.{is_of}
 use Rattle.broker_state.proofs.Weights.{all_at}
 use Rattle.waiting_order.specs.declared.key.Key.{Key}
-use Rattle.waiting_order.specs.declared.standing.Standing.{Standing}
+use Rattle.waiting_order.specs.declared.waiter.Waiter.{Waiter}
 use Rattle.waiting_order.specs.Tickets.{IsRising}
 use Rattle.waiting_order.specs.Waiting.{subs_of}
 use Rattle.broker_core.specs.declared.precheck.PrecheckFlight.{PrecheckFlight}
 use Rattle.broker_core.specs.Prechecks.{flight_of, flights_of}
 
 abbrev pub W : Type 0
-W = Key × Standing
+W = Key × Waiter
 
 abbrev ticket : W → ℕ
 ticket w = w.1.ticket

@@ -24,7 +24,7 @@ use indexmap::map::Slice;
 use std::alloc::{AllocError, Global};
 use std::collections::BTreeMap;
 use std::marker::Model;
-use waiting_order::{Key, Standing};
+use waiting_order::{Key, Waiter};
 
 /// The broker: it carries out commands one after another, numbered from 0, and answers each. Contracts see its state and
 /// whether it is broken. It breaks if memory is refused within a command, and stays so for good. It holds nothing then.
@@ -232,7 +232,7 @@ impl Broker {
     }
 
     /// The subscriptions in any order, each with its key.
-    pub fn subscriptions_by_key(&self) -> Slice<'_, Key, Standing>
+    pub fn subscriptions_by_key(&self) -> Slice<'_, Key, Waiter>
         ensures { (f : Subscription → ℕ) → sum_by f (subs_of result) ≡ sum_by f self.now.state.subscriptions }
     {
         self.tables.order().as_slice()

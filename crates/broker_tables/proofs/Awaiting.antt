@@ -11,7 +11,7 @@ use Rattle.broker_state.specs.Lists.{changed, is_none}
 use Rattle.broker_state.specs.Waiting.{left_shared, line_for}
 use Rattle.broker_state.proofs.Weights.{all_at}
 use Rattle.waiting_order.specs.declared.places.Place.{Place}
-use Rattle.waiting_order.specs.declared.standing.Standing.{Standing}
+use Rattle.waiting_order.specs.declared.waiter.Waiter.{Waiter}
 use Rattle.waiting_order.specs.Waiting.{IsOrdered, subs_of}
 use Rattle.waiting_order.proofs.Rising.{rising_at}
 use Rattle.broker_tables.specs.declared.cursors.Cursor.{Cursor}
@@ -28,12 +28,12 @@ use Rattle.broker_tables.proofs.Nexts.{none_taken}
 use Rattle.broker_tables.proofs.Waiters.{W, all_subs, length_subs, sub_at, waiter_of}
 
 -- who has the same session and the same group is in the same scopes
-pub same_scopes : (a b : Standing) → a.sub.session ≡ b.sub.session → a.group ≡ b.group → (scope : Scope) → is_within scope a ≡ is_within scope b
+pub same_scopes : (a b : Waiter) → a.sub.session ≡ b.sub.session → a.group ≡ b.group → (scope : Scope) → is_within scope a ≡ is_within scope b
 same_scopes a b session group (Session q) = ap (λ n. q == n) session
 same_scopes a b session group (Group g) = ap (λ n. n == g) group
 
 -- Who is awaited is so at a later ticket.
-ahead_later : (a b : Standing) → a.ticket ≤ b.ticket → ((scope : Scope) → is_within scope b ≡ is_within scope a) → (c : Cursor) → is_ahead a c ≡ true → is_ahead b c ≡ true
+ahead_later : (a b : Waiter) → a.ticket ≤ b.ticket → ((scope : Scope) → is_within scope b ≡ is_within scope a) → (c : Cursor) → is_ahead a c ≡ true → is_ahead b c ≡ true
 ahead_later a b le same c is =
     let both = and_parts (nat_le c.from a.ticket) (is_within c.scope a) is in
     let before = both.0 in
@@ -48,11 +48,11 @@ any_weaker {X} p q so (x ∷ xs) is = by (p x) refl is (λ rest. any_weaker p q 
     by true passes is rest = or_left (q x) (list_any q xs) (so x passes)
     by false fails is rest = or_right (q x) (list_any q xs) (rest is)
 
-pub awaited_later : (cursors : List Cursor) (a b : Standing) → a.ticket ≤ b.ticket → ((scope : Scope) → is_within scope b ≡ is_within scope a) → is_awaited cursors a ≡ true → is_awaited cursors b ≡ true
+pub awaited_later : (cursors : List Cursor) (a b : Waiter) → a.ticket ≤ b.ticket → ((scope : Scope) → is_within scope b ≡ is_within scope a) → is_awaited cursors a ≡ true → is_awaited cursors b ≡ true
 awaited_later cursors a b le same is = any_weaker (is_ahead a) (is_ahead b) (ahead_later a b le same) cursors is
 
 -- None is awaited before all cursors.
-pub none_awaited : (cursors : List Cursor) (bound : ℕ) (s : Standing) → AllByRecursion (λ (c : Cursor). bound ≤ c.from) cursors → s.ticket < bound → is_awaited cursors s ≡ false
+pub none_awaited : (cursors : List Cursor) (bound : ℕ) (s : Waiter) → AllByRecursion (λ (c : Cursor). bound ≤ c.from) cursors → s.ticket < bound → is_awaited cursors s ≡ false
 none_awaited [] bound s all less = refl
 none_awaited (c ∷ cs) bound s all less =
     let over : bound ≤ c.from = all.0 in
@@ -60,11 +60,11 @@ none_awaited (c ∷ cs) bound s all less =
     rw fails (none_awaited cs bound s all.1 less)
 
 -- A cursor alone had somebody ahead of it, who has a ticket under its new one.
-abbrev pub IsPassed : Cursor → ℕ → Standing → Type 0
+abbrev pub IsPassed : Cursor → ℕ → Waiter → Type 0
 IsPassed c ticket s = (c.from ≤ s.ticket) × (s.ticket < ticket) × (is_within c.scope s ≡ true)
 
 -- Where a cursor moves on, who was awaited is so still, or that one has passed him.
-pub moved_on : (cursors : List Cursor) (at : ℕ) (c : Cursor) (ticket : ℕ) (s : Standing) → slice_get cursors at ≡ Some c → is_awaited cursors s ≡ true
+pub moved_on : (cursors : List Cursor) (at : ℕ) (c : Cursor) (ticket : ℕ) (s : Waiter) → slice_get cursors at ≡ Some c → is_awaited cursors s ≡ true
     → (is_awaited (changed at (at_ticket ticket) cursors) s ≡ true) ⊎ IsPassed c ticket s
 moved_on [] at c ticket s there is = absurd (none-some c there)
 moved_on (x ∷ xs) zero c ticket s there is =
@@ -148,11 +148,11 @@ module _ (stock : Stock) where
       unless (can_take (stocked stock) w.1.sub) (is_awaited cursors w.1) (all_at (IsAwaitedIn cursors) stock.order.all i w is all) (none_awaited cursors bound w.1 from less)
 
   -- the one at the least ticket of all cursors is the first that can be served, if it can
-  pub ready_at : (cursors : List Cursor) (place : Place) (at : ℕ) (s : Standing) → IsOrdered stock.order → AreAwaited cursors stock → AllByRecursion (λ (c : Cursor). place.ticket ≤ c.from) cursors
+  pub ready_at : (cursors : List Cursor) (place : Place) (at : ℕ) (s : Waiter) → IsOrdered stock.order → AreAwaited cursors stock → AllByRecursion (λ (c : Cursor). place.ticket ≤ c.from) cursors
       → slice_get stock.order.all at ≡ Some (place.key, s) → s.ticket ≡ place.ticket → can_take (stocked stock) s.sub ≡ true → IsReady stock place.key
   ready_at cursors place at s ordered all from there ticket can = record {
     at = at;
-    standing = s;
+    waiter = s;
     there = there;
     first = record {
       within = omega (arith, slice_get_within stock.order.all at (place.key, s) there, length_subs stock.order.all);

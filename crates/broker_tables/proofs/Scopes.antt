@@ -9,7 +9,7 @@ use Rattle.broker_state.specs.Lists.{is_none}
 use Rattle.broker_state.specs.Names.{Name, text_cmp}
 use Rattle.broker_state.specs.Waiting.{Shared, is_own, line_at, line_for, line_from}
 use Rattle.waiting_order.specs.declared.places.Place.{Place}
-use Rattle.waiting_order.specs.declared.standing.Standing.{Standing}
+use Rattle.waiting_order.specs.declared.waiter.Waiter.{Waiter}
 use Rattle.waiting_order.specs.Directories.{AreAlike, IsNext, behind_in, is_behind, is_in}
 use Rattle.waiting_order.specs.Waiting.{IsOrdered, Waiting}
 use Rattle.waiting_order.proofs.Rising.{rising_before}
@@ -23,18 +23,18 @@ use Rattle.broker_tables.proofs.Dues.{clash, or_left, or_right}
 use Rattle.broker_tables.proofs.Waiters.{W}
 
 -- Those who pass are those of a scope. Nothing waits before the next of them.
-pub waits_is : (scope : Scope) (passes : Standing → Bool) → ((s : Standing) → passes s ≡ is_within scope s) → (shared : Shared) (o : Waiting) (from : ℕ) → IsOrdered o → (next : Option Place) → IsNext passes o.all from next
+pub waits_is : (scope : Scope) (passes : Waiter → Bool) → ((s : Waiter) → passes s ≡ is_within scope s) → (shared : Shared) (o : Waiting) (from : ℕ) → IsOrdered o → (next : Option Place) → IsNext passes o.all from next
     → MatchOption next ((until : ℕ) → IdleUntil scope shared o.all from until) (WaitsUntil scope shared o.all from)
 waits_is scope passes same shared o from ordered None none =
     λ until i w is after before within. absurd (clash (passes w.1) (same w.1 ∙ within) (none i w is after))
 waits_is scope passes same shared o from ordered (Some place) next = record {
   at = next.at;
-  standing = next.standing;
+  waiter = next.waiter;
   there = next.there;
   ticket = next.ticket;
   after = next.after;
   idle = λ i w is after before within.
-      let first = rising_before (λ (v : W). v.1.ticket) o.all i next.at w (place.key, next.standing) ordered.rising is next.there (omega (arith, before, next.ticket)) in
+      let first = rising_before (λ (v : W). v.1.ticket) o.all i next.at w (place.key, next.waiter) ordered.rising is next.there (omega (arith, before, next.ticket)) in
       absurd (clash (passes w.1) (same w.1 ∙ within) (next.before i w is after first));
 }
 
@@ -75,7 +75,7 @@ none_waits false true is idle = refl
 none_waits false false is idle = absurd cc
 
 -- two of one group are of the same group
-pub same_group : (group : ℕ) (a b : Standing) → is_in group a ≡ true → is_in group b ≡ true → a.group ≡ b.group
+pub same_group : (group : ℕ) (a b : Waiter) → is_in group a ≡ true → is_in group b ≡ true → a.group ≡ b.group
 same_group group a b first second = grind (arith, nat_tests)
 
 abbrev one : Bool → ℕ
@@ -119,7 +119,7 @@ any_upto p (y ∷ xs) (suc k) x there is = by (p y) is (λ rest. any_upto p xs k
     by false is rest = rest is
 
 -- a cursor more awaits whom the others do
-any_more : (s : Standing) (cursors : List Cursor) (c : Cursor) → is_awaited cursors s ≡ true → is_awaited (cursors ++ c ∷ []) s ≡ true
+any_more : (s : Waiter) (cursors : List Cursor) (c : Cursor) → is_awaited cursors s ≡ true → is_awaited (cursors ++ c ∷ []) s ≡ true
 any_more s [] c is = absurd cc
 any_more s (x ∷ cursors) c is = by (is_ahead s x) is (λ rest. any_more s cursors c rest)
   where
@@ -127,7 +127,7 @@ any_more s (x ∷ cursors) c is = by (is_ahead s x) is (λ rest. any_more s curs
     by true is rest = refl
     by false is rest = rest is
 
-any_last : (s : Standing) (cursors : List Cursor) (c : Cursor) → is_ahead s c ≡ true → is_awaited (cursors ++ c ∷ []) s ≡ true
+any_last : (s : Waiter) (cursors : List Cursor) (c : Cursor) → is_ahead s c ≡ true → is_awaited (cursors ++ c ∷ []) s ≡ true
 any_last s [] c is = or_left (is_ahead s c) false is
 any_last s (x ∷ cursors) c is = or_right (is_ahead s x) (is_awaited (cursors ++ c ∷ []) s) (any_last s cursors c is)
 

@@ -31,10 +31,10 @@ module _ (number : ℕ) (old new : Stock) (key : Key) (out : OutValue) (served :
   subs = subs_of old.order.all
 
   abbrev before : Subscription
-  before = served.standing.sub
+  before = served.waiter.sub
 
   there : slice_get subs served.at ≡ Some before
-  there = sub_at old.order.all served.at (key, served.standing) served.there
+  there = sub_at old.order.all served.at (key, served.waiter) served.there
 
   within : served.at < length subs
   within = slice_get_within subs served.at before there
@@ -50,7 +50,7 @@ module _ (number : ℕ) (old new : Stock) (key : Key) (out : OutValue) (served :
 
   subs_after : subs_of new.order.all ≡ remove subs served.at ++ delivered served.handed.left old.next_delivery message ∷ []
   subs_after =
-      ap (λ (o : Waiting). subs_of o.all) served.order ∙ subs_pushed (remove old.order.all served.at) (key, record served.standing { ticket = old.order.next; sub = served.sub })
+      ap (λ (o : Waiting). subs_of o.all) served.order ∙ subs_pushed (remove old.order.all served.at) (key, record served.waiter { ticket = old.order.next; sub = served.sub })
       ∙ ap (λ (l : List Subscription). l ++ served.sub ∷ []) (subs_removed old.order.all served.at)
       ∙ ap (λ (x : Subscription). remove subs served.at ++ x ∷ []) served.handed.handed
 
@@ -100,10 +100,10 @@ module _ (number : ℕ) (old new : Stock) (key : Key) (out : OutValue) (served :
 
   pub still_awaited : (cursors : List Cursor) → IsOrdered old.order → AreAwaited cursors old → AreAwaited cursors new
   still_awaited cursors ordered all =
-      let v : W = (key, record served.standing { ticket = old.order.next; sub = served.sub }) in
+      let v : W = (key, record served.waiter { ticket = old.order.next; sub = served.sub }) in
       let h = served.handed in
       let session = ap (λ (x : Subscription). x.session) h.handed ∙ ap (λ (x : Subscription). x.session) h.line in
-      awaited_served cursors old new served.at (key, served.standing) v message rest served.there ordered all ready line h.rest served.delivery (ap (λ (o : Waiting). o.all) served.order) refl (same_scopes v.1 served.standing session refl)
+      awaited_served cursors old new served.at (key, served.waiter) v message rest served.there ordered all ready line h.rest served.delivery (ap (λ (o : Waiting). o.all) served.order) refl (same_scopes v.1 served.waiter session refl)
 
 -- where none can be served, all is handed out
 pub settles_all : (first s : State) (earlier outs : List OutValue) → SettlesSo first earlier s outs 0 → NonePass (can_take s) s.subscriptions → (s ≡ (settled first).state) × (outs ≡ earlier ++ (settled first).outs)

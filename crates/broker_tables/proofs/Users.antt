@@ -59,17 +59,17 @@ module _ (name : Name) (s : State) (session : ℕ) (id : List ℕ) (ws : List W)
     others_left : (without_named s session (Some id)).subscriptions ≡ remove (subs_of ws) first.at
     others_left =
         ap (λ (l : List Subscription). (or_same s (ended_one s (picked (is_named session id) l))).subscriptions) same
-        ∙ ap (λ o. (or_same s (ended_one s o)).subscriptions) (picked_first (is_named session id) (subs_of ws) first.at first.standing.sub first.first (sub_at ws first.at (key, first.standing) first.there))
+        ∙ ap (λ o. (or_same s (ended_one s o)).subscriptions) (picked_first (is_named session id) (subs_of ws) first.at first.waiter.sub first.first (sub_at ws first.at (key, first.waiter) first.there))
 
-    counted : count_by (uses name) (remove (subs_of ws) first.at) + one (uses name first.standing.sub) ≡ count_by (uses name) (subs_of ws)
-    counted = sum_by-removed (λ (x : Subscription). one (uses name x)) (subs_of ws) first.at first.standing.sub (sub_at ws first.at (key, first.standing) first.there)
+    counted : count_by (uses name) (remove (subs_of ws) first.at) + one (uses name first.waiter.sub) ≡ count_by (uses name) (subs_of ws)
+    counted = sum_by-removed (λ (x : Subscription). one (uses name x)) (subs_of ws) first.at first.waiter.sub (sub_at ws first.at (key, first.waiter) first.there)
 
-    pub beside_user : (users : ℕ) → users ≡ count_by (uses name) (subs_of ws) → uses name first.standing.sub ≡ true → nat_lt 1 users ≡ list_any (uses name) (without_named s session (Some id)).subscriptions
+    pub beside_user : (users : ℕ) → users ≡ count_by (uses name) (subs_of ws) → uses name first.waiter.sub ≡ true → nat_lt 1 users ≡ list_any (uses name) (without_named s session (Some id)).subscriptions
     beside_user users is own =
         one_less users (count_by (uses name) (remove (subs_of ws) first.at)) (omega (arith, is, counted, ap one own))
         ∙ any_counted (uses name) (remove (subs_of ws) first.at) ∙ sym (ap (list_any (uses name)) others_left)
 
-    pub beside_other : (users : ℕ) → users ≡ count_by (uses name) (subs_of ws) → uses name first.standing.sub ≡ false → nat_lt 0 users ≡ list_any (uses name) (without_named s session (Some id)).subscriptions
+    pub beside_other : (users : ℕ) → users ≡ count_by (uses name) (subs_of ws) → uses name first.waiter.sub ≡ false → nat_lt 0 users ≡ list_any (uses name) (without_named s session (Some id)).subscriptions
     beside_other users is own =
         let all : users ≡ count_by (uses name) (remove (subs_of ws) first.at) = omega (arith, is, counted, ap one own) in
         ap (nat_lt 0) all ∙ any_counted (uses name) (remove (subs_of ws) first.at) ∙ sym (ap (list_any (uses name)) others_left)

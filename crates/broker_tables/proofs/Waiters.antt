@@ -13,7 +13,7 @@ use Rattle.broker_state.specs.Waiting.{is_own}
 use Rattle.broker_state.proofs.Sendings.{copied_other, copied_own}
 use Rattle.waiting_order.specs.declared.key.Key.{Key}
 use Rattle.waiting_order.specs.declared.places.Place.{Place}
-use Rattle.waiting_order.specs.declared.standing.Standing.{Standing}
+use Rattle.waiting_order.specs.declared.waiter.Waiter.{Waiter}
 use Rattle.waiting_order.specs.Directories.{IsFirstFrom, NoneFrom, is_plain_at}
 use Rattle.waiting_order.specs.Keeping.{put_where, with_sub}
 use Rattle.waiting_order.specs.Waiting.{subs_of}
@@ -21,7 +21,7 @@ use Rattle.broker_tables.specs.Places.{IsFirstAt}
 use Rattle.broker_tables.proofs.Nexts.{none_taken, plain_listens}
 
 abbrev pub W : Type 0
-W = Key × Standing
+W = Key × Waiter
 
 -- The subscriptions of waiters, place by place.
 pub sub_at : (ws : List W) (at : ℕ) (w : W) → slice_get ws at ≡ Some w → slice_get (subs_of ws) at ≡ Some w.1.sub
@@ -78,7 +78,7 @@ subs_put m topic (w ∷ ws) =
 
 -- The next one from the first ticket on is the first of all.
 module _ (p : Subscription → Bool) (ws : List W) where
-  abbrev passes : Standing → Bool
+  abbrev passes : Waiter → Bool
   passes s = p s.sub
 
   pub none_first : NoneFrom passes ws 0 → NonePass p (subs_of ws)
@@ -90,15 +90,15 @@ module _ (p : Subscription → Bool) (ws : List W) where
 
   pub first_from : (place : Place) (next : IsFirstFrom passes ws 0 place) → IsFirst p (subs_of ws) next.at
   first_from place next = record {
-    within = omega (arith, slice_get_within ws next.at (place.key, next.standing) next.there, length_subs ws);
-    passing = λ x is. subst (λ (y : Subscription). p y ≡ true) (same_Some next.standing.sub x (sym (sub_at ws next.at (place.key, next.standing) next.there) ∙ is)) next.passing;
+    within = omega (arith, slice_get_within ws next.at (place.key, next.waiter) next.there, length_subs ws);
+    passing = λ x is. subst (λ (y : Subscription). p y ≡ true) (same_Some next.waiter.sub x (sym (sub_at ws next.at (place.key, next.waiter) next.there) ∙ is)) next.passing;
     before = none_taken p (subs_of ws) next.at (λ i x is less.
         let w = waiter_of ws i x is in
         subst (λ (y : Subscription). p y ≡ false) w.2 (next.before i w.0 w.1 (omega arith) less));
   }
 
   pub first_at : (place : Place) → IsFirstFrom passes ws 0 place → IsFirstAt p ws place.key
-  first_at place next = record { at = next.at; standing = next.standing; there = next.there; first = first_from place next }
+  first_at place next = record { at = next.at; waiter = next.waiter; there = next.there; first = first_from place next }
 
 -- another item in a place
 pub set_changed : {X : Type 0} (f : X → X) (xs : List X) (at : ℕ) (x y : X) → slice_get xs at ≡ Some x → y ≡ f x → slice_set xs at y ≡ changed at f xs

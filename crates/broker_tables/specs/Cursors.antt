@@ -10,25 +10,25 @@ use Rattle.broker_tables.specs.Places.{IsFirstAt}
 use Rattle.broker_tables.specs.Scopes.{is_within}
 use Rattle.broker_tables.specs.Stocks.{stocked}
 use Rattle.waiting_order.specs.declared.key.Key.{Key}
-use Rattle.waiting_order.specs.declared.standing.Standing.{Standing}
+use Rattle.waiting_order.specs.declared.waiter.Waiter.{Waiter}
 use Rattle.waiting_order.specs.Waiting.{subs_of}
 
 -- whether somebody of a cursor's scope is still ahead of it
-abbrev pub is_ahead : Standing → Cursor → Bool
-is_ahead standing cursor = nat_le cursor.from standing.ticket && is_within cursor.scope standing
+abbrev pub is_ahead : Waiter → Cursor → Bool
+is_ahead waiter cursor = nat_le cursor.from waiter.ticket && is_within cursor.scope waiter
 
 -- whether somebody is ahead of one of those cursors
-abbrev pub is_awaited : List Cursor → Standing → Bool
-is_awaited cursors standing = list_any (is_ahead standing) cursors
+abbrev pub is_awaited : List Cursor → Waiter → Bool
+is_awaited cursors waiter = list_any (is_ahead waiter) cursors
 
 -- each waiter who can be served is awaited
 abbrev pub AreAwaited : List Cursor → Stock → Type 0
 AreAwaited cursors stock =
-    AllByRecursion (λ (w : Key × Standing). can_take (stocked stock) w.1.sub ≡ true → is_awaited cursors w.1 ≡ true) stock.order.all
+    AllByRecursion (λ (w : Key × Waiter). can_take (stocked stock) w.1.sub ≡ true → is_awaited cursors w.1 ≡ true) stock.order.all
 
 -- each waiter who is due is awaited
-abbrev pub AwaitAllDue : List Cursor → List Due → List (Key × Standing) → Type 0
-AwaitAllDue cursors marks ws = AllByRecursion (λ (w : Key × Standing). is_due marks w.1.sub ≡ true → is_awaited cursors w.1 ≡ true) ws
+abbrev pub AwaitAllDue : List Cursor → List Due → List (Key × Waiter) → Type 0
+AwaitAllDue cursors marks ws = AllByRecursion (λ (w : Key × Waiter). is_due marks w.1.sub ≡ true → is_awaited cursors w.1 ≡ true) ws
 
 -- a cursor at another ticket
 abbrev pub at_ticket : ℕ → Cursor → Cursor

@@ -16,7 +16,7 @@ use Rattle.broker_tables.specs.Stocks.{stocked}
 use Rattle.broker_state.specs.Parts.{IsFirst}
 use Rattle.waiting_order.specs.Waiting.{subs_of}
 use Rattle.waiting_order.specs.declared.key.Key.{Key}
-use Rattle.waiting_order.specs.declared.standing.Standing.{Standing}
+use Rattle.waiting_order.specs.declared.waiter.Waiter.{Waiter}
 
 -- A subscription's least message has left the lines that stay, or its own.
 pub record LeavesLine (shared : Shared) (sub : Subscription) (shared_after : Shared) : Type 0 where
@@ -24,11 +24,11 @@ pub record LeavesLine (shared : Shared) (sub : Subscription) (shared_after : Sha
   pub weight : HandFirst shared sub shared_after (left_line sub (drop 1 (line_for shared sub))) (line_for shared sub)
 
 -- somebody stands at that key who has no unacknowledged delivery of that number or a greater one
-abbrev pub MayGet : List (Key × Standing) → Key → ℕ → Type 0
+abbrev pub MayGet : List (Key × Waiter) → Key → ℕ → Type 0
 MayGet ws key delivery = StandsSo ws key (λ sub. IsOver delivery sub.unacknowledged)
 
 -- the MESSAGE is kept by which who stands at that key gets a message from the command of that number, if the outputs are
-abbrev pub IsTold : ℕ → List (Key × Standing) → Key → ℕ → Message → Answered → Answered → Type 0
+abbrev pub IsTold : ℕ → List (Key × Waiter) → Key → ℕ → Message → Answered → Answered → Type 0
 IsTold number ws key delivery message earlier all =
     HoldsAtKey ws key (λ at s. all ≡ with_outs (message_out number s.sub delivery message ∷ []) earlier)
 
@@ -53,12 +53,12 @@ pub record IsHanded (number delivery : ℕ) (shared : Shared) (sub : Subscriptio
 -- Who stands at that key was handed the least message of its line by the command of that number, and waits last then.
 pub record IsServed (number : ℕ) (old : Stock) (key : Key) (new : Stock) (out : OutValue) : Type 0 where
   pub at : ℕ
-  pub standing : Standing
+  pub waiter : Waiter
   pub sub : Subscription
-  pub there : slice_get old.order.all at ≡ Some (key, standing)
+  pub there : slice_get old.order.all at ≡ Some (key, waiter)
   pub first : IsFirst (can_take (stocked old)) (subs_of old.order.all) at
-  pub handed : IsHanded number old.next_delivery old.shared standing.sub old.held new.shared sub new.held out
-  pub order : new.order ≡ record { all = remove old.order.all at ++ (key, record standing { ticket = old.order.next; sub = sub }) ∷ []; next = old.order.next + 1 }
+  pub handed : IsHanded number old.next_delivery old.shared waiter.sub old.held new.shared sub new.held out
+  pub order : new.order ≡ record { all = remove old.order.all at ++ (key, record waiter { ticket = old.order.next; sub = sub }) ∷ []; next = old.order.next + 1 }
   pub delivery : new.next_delivery ≡ old.next_delivery + 1
 
 -- the same, and its MESSAGE is kept, if the outputs are

@@ -8,7 +8,7 @@ use Rattle.broker_state.specs.Operations.{is_named, is_of, without}
 use Rattle.broker_state.specs.Parts.{IsFirst, NonePass}
 use Rattle.broker_state.specs.States.{State}
 use Rattle.waiting_order.specs.declared.key.Key.{Key}
-use Rattle.waiting_order.specs.declared.standing.Standing.{Standing}
+use Rattle.waiting_order.specs.declared.waiter.Waiter.{Waiter}
 use Rattle.waiting_order.specs.declared.places.Place.{Place}
 use Rattle.waiting_order.specs.Keeping.{with_sub}
 use Rattle.waiting_order.specs.Waiting.{Waiting, subs_of}
@@ -18,29 +18,29 @@ abbrev pub HoldsAt : List Subscription → ℕ → (Subscription → Type 0) →
 HoldsAt subs at P = (sub : Subscription) → slice_get subs at ≡ Some sub → P sub
 
 -- somebody stands at that key, and the subscription has P
-abbrev pub StandsSo : List (Key × Standing) → Key → (Subscription → Type 0) → Type 0
-StandsSo ws key P = (at : ℕ) × (s : Standing) × (slice_get ws at ≡ Some (key, s)) × P s.sub
+abbrev pub StandsSo : List (Key × Waiter) → Key → (Subscription → Type 0) → Type 0
+StandsSo ws key P = (at : ℕ) × (s : Waiter) × (slice_get ws at ≡ Some (key, s)) × P s.sub
 
 -- what holds of who stands at that key, in each place
-abbrev pub HoldsAtKey : List (Key × Standing) → Key → (ℕ → Standing → Type 0) → Type 0
-HoldsAtKey ws key P = (at : ℕ) (s : Standing) → slice_get ws at ≡ Some (key, s) → P at s
+abbrev pub HoldsAtKey : List (Key × Waiter) → Key → (ℕ → Waiter → Type 0) → Type 0
+HoldsAtKey ws key P = (at : ℕ) (s : Waiter) → slice_get ws at ≡ Some (key, s) → P at s
 
 -- the order with another subscription in that place
 abbrev pub with_changed : ℕ → (Subscription → Subscription) → Waiting → Waiting
 with_changed at f o = record o { all = changed at (with_sub f) o.all }
 
 -- Somebody has that place.
-pub record IsPlaceOf (ws : List (Key × Standing)) (place : Place) : Type 0 where
+pub record IsPlaceOf (ws : List (Key × Waiter)) (place : Place) : Type 0 where
   pub at : ℕ
-  pub standing : Standing
-  pub there : slice_get ws at ≡ Some (place.key, standing)
-  pub ticket : standing.ticket ≡ place.ticket
+  pub waiter : Waiter
+  pub there : slice_get ws at ≡ Some (place.key, waiter)
+  pub ticket : waiter.ticket ≡ place.ticket
 
 -- the first subscription that passes stands at that key
-pub record IsFirstAt (passes : Subscription → Bool) (ws : List (Key × Standing)) (key : Key) : Type 0 where
+pub record IsFirstAt (passes : Subscription → Bool) (ws : List (Key × Waiter)) (key : Key) : Type 0 where
   pub at : ℕ
-  pub standing : Standing
-  pub there : slice_get ws at ≡ Some (key, standing)
+  pub waiter : Waiter
+  pub there : slice_get ws at ≡ Some (key, waiter)
   pub first : IsFirst passes (subs_of ws) at
 
 -- the first subscription that passes has ended, or none passes and nothing has changed

@@ -9,29 +9,29 @@ use Rattle.broker_tables.specs.declared.scope.Scope.TheVariants.{Session, Group}
 use Rattle.broker_tables.specs.Dues.{is_under}
 use Rattle.waiting_order.specs.declared.key.Key.{Key}
 use Rattle.waiting_order.specs.declared.places.Place.{Place}
-use Rattle.waiting_order.specs.declared.standing.Standing.{Standing}
+use Rattle.waiting_order.specs.declared.waiter.Waiter.{Waiter}
 use Rattle.waiting_order.specs.Directories.{is_in}
 
 -- whether who stands there is one of a scope
-abbrev pub is_within : Scope → Standing → Bool
-is_within (Session session) standing = is_of session standing.sub
-is_within (Group group) standing = is_in group standing
+abbrev pub is_within : Scope → Waiter → Bool
+is_within (Session session) waiter = is_of session waiter.sub
+is_within (Group group) waiter = is_in group waiter
 
 -- the scope is that of those that are due; none if nobody is
-abbrev pub IsScope : Due → List (Key × Standing) → Option Scope → Type 0
-IsScope due ws None = AllByRecursion (λ (w : Key × Standing). is_under due w.1.sub ≡ false) ws
-IsScope due ws (Some scope) = AllByRecursion (λ (w : Key × Standing). is_under due w.1.sub ≡ is_within scope w.1) ws
+abbrev pub IsScope : Due → List (Key × Waiter) → Option Scope → Type 0
+IsScope due ws None = AllByRecursion (λ (w : Key × Waiter). is_under due w.1.sub ≡ false) ws
+IsScope due ws (Some scope) = AllByRecursion (λ (w : Key × Waiter). is_under due w.1.sub ≡ is_within scope w.1) ws
 
 -- nothing waits for those of a scope that have a ticket from the one on and under the other
-abbrev pub IdleUntil : Scope → Shared → List (Key × Standing) → ℕ → ℕ → Type 0
-IdleUntil scope shared ws from until = (i : ℕ) (w : Key × Standing) → slice_get ws i ≡ Some w → from ≤ w.1.ticket → w.1.ticket < until
+abbrev pub IdleUntil : Scope → Shared → List (Key × Waiter) → ℕ → ℕ → Type 0
+IdleUntil scope shared ws from until = (i : ℕ) (w : Key × Waiter) → slice_get ws i ≡ Some w → from ≤ w.1.ticket → w.1.ticket < until
     → is_within scope w.1 ≡ true → is_none (line_for shared w.1.sub) ≡ true
 
 -- Nothing waits for those of a scope, from a ticket on, before somebody's place.
-pub record WaitsUntil (scope : Scope) (shared : Shared) (ws : List (Key × Standing)) (from : ℕ) (place : Place) : Type 0 where
+pub record WaitsUntil (scope : Scope) (shared : Shared) (ws : List (Key × Waiter)) (from : ℕ) (place : Place) : Type 0 where
   pub at : ℕ
-  pub standing : Standing
-  pub there : slice_get ws at ≡ Some (place.key, standing)
-  pub ticket : standing.ticket ≡ place.ticket
+  pub waiter : Waiter
+  pub there : slice_get ws at ≡ Some (place.key, waiter)
+  pub ticket : waiter.ticket ≡ place.ticket
   pub after : from ≤ place.ticket
   pub idle : IdleUntil scope shared ws from place.ticket

@@ -5,7 +5,7 @@ ghost use Rattle.std.specs.Option.{option_map};
 ghost use Rattle.broker_tables.specs.declared.scope.Scope.TheVariants.{Group};
 ghost use Rattle.broker_tables.specs.Scopes.{IdleUntil, IsScope, WaitsUntil};
 ghost use Rattle.waiting_order.specs.Directories.{is_in};
-ghost use Rattle.waiting_order.specs.declared.standing.Standing.{Standing};
+ghost use Rattle.waiting_order.specs.declared.waiter.Waiter.{Waiter};
 
 use crate::due::Due;
 use crate::shared_lines::SharedLines;
@@ -44,7 +44,7 @@ pub fn scope_of(order: &Order, due: &Due) -> Option<Scope>
 
 /// Whether nothing waits for anybody of a group, one of whom stands at that key.
 fn is_idle(order: &Order, shared: &SharedLines, group: usize, key: Key) -> bool
-    requires { (at : ℕ) × (s : Standing) × (slice_get order.now.all at ≡ Some (key, s)) × (is_in group s ≡ true) }
+    requires { (at : ℕ) × (s : Waiter) × (slice_get order.now.all at ≡ Some (key, s)) × (is_in group s ≡ true) }
     ensures { result ≡ true → (from until : ℕ) → IdleUntil (Group group) shared.now order.now.all from until }
 {
     order.stand_in_order();

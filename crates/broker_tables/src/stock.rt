@@ -4,7 +4,7 @@ ghost use Rattle.std.specs.Prelude.{◌≡◌, ◌^◌, [], ℕ, Some, nat_lt, s
 ghost use Rattle.broker_state.specs.HandOut.{can_take};
 ghost use Rattle.broker_tables.specs.Stocks.{stocked};
 ghost use Rattle.waiting_order.specs.Waiting.{Stands};
-ghost use Rattle.waiting_order.specs.declared.standing.Standing.{Standing};
+ghost use Rattle.waiting_order.specs.declared.waiter.Waiter.{Waiter};
 
 use crate::shared_lines::SharedLines;
 use broker_state::{Held, LAST_DELIVERY};
@@ -49,7 +49,7 @@ impl Stock {
     /// Whether the subscription at that key can be served.
     pub fn can_serve(&self, key: Key) -> bool
         requires { Stands self.now.order.all key }
-        ensures { (at : ℕ) (s : Standing) → slice_get self.now.order.all at ≡ Some (key, s) → result ≡ can_take (stocked self.now) s.sub }
+        ensures { (at : ℕ) (s : Waiter) → slice_get self.now.order.all at ≡ Some (key, s) → result ≡ can_take (stocked self.now) s.sub }
     {
         if !self.has_number() {
             return false;

@@ -3,7 +3,7 @@
 ghost use Rattle.claim_core.specs.declared.views.View.TheVariants.{Spent};
 ghost use Rattle.claim_core.specs.Steps.{saw_mark, saw_stop, claimed_for, readied, took, freed, raised, stopped, ended, dealt, fresh, joined_to, handed_back, came_back, nobody};
 
-use crate::views::{Told, View};
+use crate::views::{ForCommand, View};
 use atomic_table::{Join, Play, Split};
 use command_core::Entry;
 use std::marker::PhantomData;
@@ -24,7 +24,7 @@ pub struct Claim<C> {
     marker: PhantomData<C>,
 }
 
-impl<B, C: Told> Play<Option<Entry<B>>, View> for Claim<C> {
+impl<B, C: ForCommand> Play<Option<Entry<B>>, View> for Claim<C> {
     ghost then = { claimed_for C.command };
 }
 
@@ -94,8 +94,8 @@ impl Split<View> for HandBack {
     ghost right = { came_back };
 }
 
-pub struct End;
+pub struct Leave;
 
-impl<B> Play<Option<Entry<B>>, View> for End {
+impl<B> Play<Option<Entry<B>>, View> for Leave {
     ghost then = { ended };
 }

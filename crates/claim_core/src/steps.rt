@@ -10,9 +10,9 @@ ghost use Rattle.claim_core.specs.Places.{ready_at, taken_at};
 ghost use Rattle.claim_core.specs.Steps.{saw_mark, saw_stop, claimed, readied, took, freed, raised, stopped, ended, dealt, fresh, joined_to, handed_back, came_back, nobody, next_of, MayClaim, MayFill, MayFree, MayRaise, IsAt, IsPlaceOf};
 
 use crate::plays::{
-    Claim, Deal, End, Free, Gather, HandBack, Raise, Ready, SeeMark, SeeStop, StandIn, Stop, Take,
+    Claim, Deal, Free, Gather, HandBack, Leave, Raise, Ready, SeeMark, SeeStop, StandIn, Stop, Take,
 };
-use crate::views::{Board, TableSeat, Told};
+use crate::views::{Board, ForCommand, TableSeat};
 use command_core::Entry;
 use std::marker::Brand;
 
@@ -46,7 +46,7 @@ pub fn load_stop<B>(board: &Board<B>, seat: &mut TableSeat<B>) -> u64
 }
 
 // The addition carries no value, so the command that the ticket is claimed for comes by a type.
-fn claim_as<B, C: Told>(board: &Board<B>, seat: &mut TableSeat<B>, entry: &Entry<B>) -> u64
+fn claim_as<B, C: ForCommand>(board: &Board<B>, seat: &mut TableSeat<B>, entry: &Entry<B>) -> u64
     requires fits { IsAt seat.old.table_id board.now.table_id }
     requires told { C.command ≡ Some entry.now.command }
     requires may { MayClaim board.now.key.window seat.old.me.0 }
@@ -178,5 +178,5 @@ pub fn load_tail<B>(board: &Board<B>, seat: &mut TableSeat<B>) -> u64
     ensures ring { seat.new.table_id ≡ seat.old.table_id }
     ensures told { ended (step 0 0 0 0 none) seat.old.me result seat.new.me }
 {
-    board.load::<End>(seat, TAIL)
+    board.load::<Leave>(seat, TAIL)
 }

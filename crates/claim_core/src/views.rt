@@ -64,10 +64,10 @@ pub type Board<B> = Shared<Option<Entry<B>>, View, Limits, Claiming>;
 pub type TableSeat<B> = Seat<Option<Entry<B>>, View>;
 
 /// The command that one call of a claim is for. It is in that call's proof alone.
-pub trait Told {
+pub trait ForCommand {
     ghost command: { Option CommandValue };
 }
 
-impl Told for Brand {
+impl ForCommand for Brand {
     ghost command = { None };
 }

@@ -10,7 +10,7 @@ use Rattle.frame_core.proofs.Lists.{all_append, all_push}
 use Rattle.client_core.specs.Answers.{IsAnswer}
 use Rattle.client_core.specs.Listening.{AreLast, AreMessages, EndsWell, MayEnd}
 use Rattle.client_core.specs.Talks.{Adds, Heard, Said, Spoken, all_of, turn}
-use Rattle.client_core.specs.declared.stage.Stage.TheVariants.{Disconnect}
+use Rattle.client_core.specs.declared.probe.Probe.TheVariants.{Disconnect}
 use Rattle.client_core.proofs.Doing.{one_more}
 use Rattle.client_core.proofs.Turns.{adds_more, all_more, then}
 

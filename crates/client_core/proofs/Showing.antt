@@ -12,7 +12,7 @@ use Rattle.client_core.specs.Listening.{AllAreShown, AreLeft, AreShown, EndsIn, 
 use Rattle.client_core.specs.Requests.{connect_frame, subscribe_frame}
 use Rattle.client_core.specs.Talks.{Adds, Answers, Heard, Said, Spoken, all_of, turn}
 use Rattle.client_core.specs.declared.plan.Plan.{Plan}
-use Rattle.client_core.specs.declared.stage.Stage.TheVariants.{Connect, Disconnect}
+use Rattle.client_core.specs.declared.probe.Probe.TheVariants.{Connect, Disconnect}
 use Rattle.client_core.proofs.Turns.{then}
 
 -- what was read is shown, if no fault stands after it

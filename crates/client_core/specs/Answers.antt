@@ -10,17 +10,17 @@ use Rattle.client_core.specs.declared.fault.Cause.{Cause}
 use Rattle.client_core.specs.declared.fault.Cause.TheVariants.{Error, Other, NotStomp}
 use Rattle.client_core.specs.declared.fault.Step.{Step}
 use Rattle.client_core.specs.declared.fault.Step.TheVariants.{Connected, Receipt, Farewell}
-use Rattle.client_core.specs.declared.stage.Stage.{Stage}
-use Rattle.client_core.specs.declared.stage.Stage.TheVariants.{Connect, Send, Disconnect}
+use Rattle.client_core.specs.declared.probe.Probe.{Probe}
+use Rattle.client_core.specs.declared.probe.Probe.TheVariants.{Connect, Send, Disconnect}
 
 -- the frame that is said (STOMP 1.2, "CONNECT or STOMP Frame", "SEND", "DISCONNECT"), up to its NUL
-abbrev pub said : Stage → List ℕ
+abbrev pub said : Probe → List ℕ
 said Connect = codes "CONNECT\naccept-version:1.2\nhost:127.0.0.1\n\n" ++ 0 ∷ []
 said Send = codes "SEND\ndestination:/topic/stompd-ping\nreceipt:sent\n\nping" ++ 0 ∷ []
 said Disconnect = codes "DISCONNECT\nreceipt:left\n\n" ++ 0 ∷ []
 
 -- the step that goes wrong if no answer comes
-abbrev pub step_of : Stage → Step
+abbrev pub step_of : Probe → Step
 step_of Connect = Connected
 step_of Send = Receipt
 step_of Disconnect = Farewell
@@ -34,28 +34,28 @@ abbrev pub IsReceiptOf : List ℕ → Frame → Type 0
 IsReceiptOf id frame = (frame.verb ≡ verbs.Receipt) × HasId id frame
 
 -- the frame answers what was said (STOMP 1.2, "CONNECTED Frame", "RECEIPT")
-abbrev pub IsAnswer : Stage → Frame → Type 0
+abbrev pub IsAnswer : Probe → Frame → Type 0
 IsAnswer Connect frame = frame.verb ≡ verbs.Connected
 IsAnswer Send frame = IsReceiptOf (codes "sent") frame
 IsAnswer Disconnect frame = IsReceiptOf (codes "left") frame
 
 -- what came is no frame yet, or the answer alone
-abbrev pub AreHeard : Stage → List Frame → Bool → Type 0
-AreHeard stage frames false = frames ≡ []
-AreHeard stage frames true = (frame : Frame) × (frames ≡ frame ∷ []) × IsAnswer stage frame
+abbrev pub AreHeard : Probe → List Frame → Bool → Type 0
+AreHeard probe frames false = frames ≡ []
+AreHeard probe frames true = (frame : Frame) × (frames ≡ frame ∷ []) × IsAnswer probe frame
 
-abbrev pub AreRight : Stage → List Frame → Type 0
-AreRight stage frames = (is_answered : Bool) × AreHeard stage frames is_answered
+abbrev pub AreRight : Probe → List Frame → Type 0
+AreRight probe frames = (is_answered : Bool) × AreHeard probe frames is_answered
 
 -- the bytes are such frames, and the beginning of one more
-abbrev pub Hears : Stage → List ℕ → List ℕ → Bool → Type 0
-Hears stage bytes rest is_answered = (frames : List Frame) × Reads bytes frames rest × AreHeard stage frames is_answered
+abbrev pub Hears : Probe → List ℕ → List ℕ → Bool → Type 0
+Hears probe bytes rest is_answered = (frames : List Frame) × Reads bytes frames rest × AreHeard probe frames is_answered
 
 -- this is the first of the frames that should not have come: it stands first and is no answer, or stands after the answer
-abbrev pub IsWrong : Stage → List Frame → Frame → Type 0
-IsWrong stage frames frame =
-    ((others : List Frame) × (frames ≡ frame ∷ others) × (IsAnswer stage frame → ⊥))
-    ⊎ ((answer : Frame) × (others : List Frame) × (frames ≡ answer ∷ frame ∷ others) × IsAnswer stage answer)
+abbrev pub IsWrong : Probe → List Frame → Frame → Type 0
+IsWrong probe frames frame =
+    ((others : List Frame) × (frames ≡ frame ∷ others) × (IsAnswer probe frame → ⊥))
+    ⊎ ((answer : Frame) × (others : List Frame) × (frames ≡ answer ∷ frame ∷ others) × IsAnswer probe answer)
 
 -- what an ERROR says of itself: its first `message`, as text of one line (STOMP 1.2, "ERROR")
 abbrev pub told_by : Frame → List ℕ
@@ -68,9 +68,9 @@ IsCauseBy frame (Other verb) = (frame.verb ≡ verb) × (verb ≢ verbs.Error)
 IsCauseBy frame _ = ⊥
 
 -- what is told of frames, and of the fault after them: that it is not STOMP is told only if all before the fault was right
-abbrev pub IsCauseOf : Stage → List Frame → Option FrameFault → Cause → Type 0
-IsCauseOf stage frames fault NotStomp = (code : FrameFault) × (fault ≡ Some code) × AreRight stage frames
-IsCauseOf stage frames fault cause = (frame : Frame) × IsWrong stage frames frame × IsCauseBy frame cause
+abbrev pub IsCauseOf : Probe → List Frame → Option FrameFault → Cause → Type 0
+IsCauseOf probe frames fault NotStomp = (code : FrameFault) × (fault ≡ Some code) × AreRight probe frames
+IsCauseOf probe frames fault cause = (frame : Frame) × IsWrong probe frames frame × IsCauseBy frame cause
 
 -- the bytes are these frames, and the beginning of one more, or a fault
 abbrev pub Gives : List ℕ → List Frame → Option FrameFault → Type 0
@@ -78,5 +78,5 @@ Gives bytes frames None = (rest : List ℕ) × Reads bytes frames rest
 Gives bytes frames (Some fault) = Fails bytes frames fault
 
 -- with these bytes the answer does not come, for that cause
-abbrev pub Breaks : Stage → List ℕ → Cause → Type 0
-Breaks stage bytes cause = (frames : List Frame) × (fault : Option FrameFault) × Gives bytes frames fault × IsCauseOf stage frames fault cause
+abbrev pub Breaks : Probe → List ℕ → Cause → Type 0
+Breaks probe bytes cause = (frames : List Frame) × (fault : Option FrameFault) × Gives bytes frames fault × IsCauseOf probe frames fault cause

@@ -11,7 +11,7 @@ use Rattle.client_core.specs.Deeds.{AreDone}
 use Rattle.client_core.specs.Requests.{connect_frame, subscribe_frame}
 use Rattle.client_core.specs.Talks.{Adds, Answers, Heard, Said, Spoken, all_of, turn}
 use Rattle.client_core.specs.declared.plan.Plan.{Plan}
-use Rattle.client_core.specs.declared.stage.Stage.TheVariants.{Connect, Disconnect}
+use Rattle.client_core.specs.declared.probe.Probe.TheVariants.{Connect, Disconnect}
 
 -- The bytes are these messages, which are shown, and settled if the plan has it; then other frames, which are left; and the beginning
 -- of one more.

@@ -8,8 +8,8 @@ use Rattle.frame_core.specs.Written.{written}
 use Rattle.client_core.specs.Answers.{said}
 use Rattle.client_core.specs.declared.plan.Outgoing.{Outgoing}
 use Rattle.client_core.specs.declared.plan.Plan.{Plan}
-use Rattle.client_core.specs.declared.stage.Stage.{Stage}
-use Rattle.client_core.specs.declared.stage.Stage.TheVariants.{Connect, Disconnect, Send}
+use Rattle.client_core.specs.declared.probe.Probe.{Probe}
+use Rattle.client_core.specs.declared.probe.Probe.TheVariants.{Connect, Disconnect, Send}
 
 -- a header that may be left out
 abbrev pub header : List ℕ → Option (Bor (List ℕ)) → List (List ℕ × List ℕ)
@@ -69,8 +69,8 @@ abbrev pub ack_frame : List ℕ → Frame
 ack_frame delivery = record { verb = verbs.Ack; headers = (codes "id", delivery) ∷ []; body = [] }
 
 -- the whole conversation of one who sends a message, and of one who gives up a durable name
-abbrev pub send_turns : List ℕ → Outgoing → List (Stage × List ℕ)
+abbrev pub send_turns : List ℕ → Outgoing → List (Probe × List ℕ)
 send_turns host message = (Connect, written (connect_frame host None)) ∷ (Send, written (send_frame message)) ∷ (Disconnect, said Disconnect) ∷ []
 
-abbrev pub forget_turns : List ℕ → Bor (List ℕ) → List ℕ → List (Stage × List ℕ)
+abbrev pub forget_turns : List ℕ → Bor (List ℕ) → List ℕ → List (Probe × List ℕ)
 forget_turns host client name = (Connect, written (connect_frame host (Some client))) ∷ (Send, written (forget_frame name)) ∷ (Disconnect, said Disconnect) ∷ []

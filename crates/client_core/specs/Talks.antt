@@ -7,8 +7,8 @@ use Rattle.client_core.specs.declared.fault.Cause.TheVariants.{Error, Other, Not
 use Rattle.client_core.specs.declared.fault.Step.{Step}
 use Rattle.client_core.specs.declared.fault.Step.TheVariants as steps
 use Rattle.client_core.specs.declared.fault.ClientFault.{ClientFault}
-use Rattle.client_core.specs.declared.stage.Stage.{Stage}
-use Rattle.client_core.specs.declared.stage.Stage.TheVariants.{Connect, Send, Disconnect}
+use Rattle.client_core.specs.declared.probe.Probe.{Probe}
+use Rattle.client_core.specs.declared.probe.Probe.TheVariants.{Connect, Send, Disconnect}
 
 -- the client has said a frame, or heard a piece of what the peer says, or shown a text to the user
 pub data Spoken : Type 0 where
@@ -34,36 +34,36 @@ abbrev pub all_of : List (List ℕ) → List ℕ
 all_of pieces = flat_map (λ piece. piece) pieces
 
 -- the pieces, however they are cut, are one frame, which answers, and perhaps the beginning of one more
-abbrev pub IsAnswered : Stage → List (List ℕ) → Type 0
-IsAnswered stage pieces = (rest : List ℕ) × Hears stage (all_of pieces) rest true
+abbrev pub IsAnswered : Probe → List (List ℕ) → Type 0
+IsAnswered probe pieces = (rest : List ℕ) × Hears probe (all_of pieces) rest true
 
 -- a frame that is said, and the pieces that are heard then
 abbrev pub turn : List ℕ → List (List ℕ) → List Spoken
 turn frame pieces = Said frame ∷ map Heard pieces
 
--- the frame is said, and answered as that stage awaits
-abbrev pub Answers : Stage → List ℕ → Option (List Spoken) → Option (List Spoken) → Type 0
-Answers stage frame before after = (pieces : List (List ℕ)) × Adds (turn frame pieces) before after × IsAnswered stage pieces
+-- the frame is said, and answered as that probe awaits
+abbrev pub Answers : Probe → List ℕ → Option (List Spoken) → Option (List Spoken) → Type 0
+Answers probe frame before after = (pieces : List (List ℕ)) × Adds (turn frame pieces) before after × IsAnswered probe pieces
 
 -- the frame is said, and not answered so, for that cause, which the pieces give
-abbrev pub Refuses : Stage → List ℕ → Cause → Option (List Spoken) → Option (List Spoken) → Type 0
-Refuses stage frame cause before after = (pieces : List (List ℕ)) × Adds (turn frame pieces) before after × Breaks stage (all_of pieces) cause
+abbrev pub Refuses : Probe → List ℕ → Cause → Option (List Spoken) → Option (List Spoken) → Type 0
+Refuses probe frame cause before after = (pieces : List (List ℕ)) × Adds (turn frame pieces) before after × Breaks probe (all_of pieces) cause
 
--- the frame is not answered as that stage awaits: the fault is the peer's, or of the stage's step and what was heard
-abbrev pub IsUnanswered : Stage → List ℕ → ClientFault → Option (List Spoken) → Option (List Spoken) → Type 0
-IsUnanswered stage frame fault before after = IsOfPeer fault.cause ⊎ ((fault.step ≡ step_of stage) × Refuses stage frame fault.cause before after)
+-- the frame is not answered as that probe awaits: the fault is the peer's, or of the probe's step and what was heard
+abbrev pub IsUnanswered : Probe → List ℕ → ClientFault → Option (List Spoken) → Option (List Spoken) → Type 0
+IsUnanswered probe frame fault before after = IsOfPeer fault.cause ⊎ ((fault.step ≡ step_of probe) × Refuses probe frame fault.cause before after)
 
--- the fault is the peer's, or its cause is that of bytes that do not answer at the stage of its step
+-- the fault is the peer's, or its cause is that of bytes that do not answer at the probe of its step
 abbrev pub HasReason : ClientFault → Type 0
-HasReason fault = IsOfPeer fault.cause ⊎ ((stage : Stage) × (bytes : List ℕ) × (fault.step ≡ step_of stage) × Breaks stage bytes fault.cause)
+HasReason fault = IsOfPeer fault.cause ⊎ ((probe : Probe) × (bytes : List ℕ) × (fault.step ≡ step_of probe) × Breaks probe bytes fault.cause)
 
--- these frames are said, each once the one before is answered as its stage awaits
-abbrev pub AreAnswered : List (Stage × List ℕ) → Option (List Spoken) → Option (List Spoken) → Type 0
+-- these frames are said, each once the one before is answered as its probe awaits
+abbrev pub AreAnswered : List (Probe × List ℕ) → Option (List Spoken) → Option (List Spoken) → Type 0
 AreAnswered [] before after = after ≡ before
 AreAnswered (one ∷ more) before after = (between : Option (List Spoken)) × Answers one.0 one.1 before between × AreAnswered more between after
 
--- the talk that leads to a stage: what is said before it is answered
-abbrev pub Leads : Stage → List Spoken → Type 0
+-- the talk that leads to a probe: what is said before it is answered
+abbrev pub Leads : Probe → List Spoken → Type 0
 Leads Connect talk = talk ≡ []
 Leads Send talk = (one : List (List ℕ)) × (talk ≡ turn (said Connect) one) × IsAnswered Connect one
 Leads Disconnect talk = (one : List (List ℕ)) × (two : List (List ℕ)) × (talk ≡ turn (said Connect) one ++ turn (said Send) two) × IsAnswered Connect one × IsAnswered Send two
@@ -73,11 +73,11 @@ abbrev pub Converses : Option (List Spoken) → Option (List Spoken) → Type 0
 Converses before after =
     (talk : List Spoken) × (last : List (List ℕ)) × Leads Disconnect talk × Adds (talk ++ turn (said Disconnect) last) before after × IsAnswered Disconnect last
 
--- At the stage of a fault's step, what was heard is no answer, for the fault's cause; all that was said before is answered.
+-- At the probe of a fault's step, what was heard is no answer, for the fault's cause; all that was said before is answered.
 abbrev pub BreaksOff : ClientFault → Option (List Spoken) → Option (List Spoken) → Type 0
 BreaksOff fault before after =
-    (stage : Stage) × (talk : List Spoken) × (last : List (List ℕ)) × (fault.step ≡ step_of stage) × Leads stage talk
-    × Adds (talk ++ turn (said stage) last) before after × Breaks stage (all_of last) fault.cause
+    (probe : Probe) × (talk : List Spoken) × (last : List (List ℕ)) × (fault.step ≡ step_of probe) × Leads probe talk
+    × Adds (talk ++ turn (said probe) last) before after × Breaks probe (all_of last) fault.cause
 
 -- the step that went wrong while one listened: no message came, or none could be shown
 abbrev pub listening_step : Cause → Step

@@ -7,38 +7,38 @@ ghost use Rattle.client_core.specs.Talks.{Adds, Answers, Heard, IsAnswered, IsOf
 use crate::fault::{Cause, ClientFault};
 use crate::hearing::hear;
 use crate::peer::Peer;
-use crate::stage::Stage;
+use crate::probe::Probe;
 use frame_core::FrameReader;
 use std::alloc::Global;
 
-/// Says a frame, and hears the answer that this stage awaits.
+/// Says a frame, and hears the answer that this probe awaits.
 pub fn ask<P: Peer>(
     alloc: Global,
-    stage: Stage,
+    probe: Probe,
     frame: &[u8],
     peer: &mut P,
 ) -> Result<(), ClientFault>
-    ensures ok { OnOk result (Answers stage frame.now (P.talk peer.old) (P.talk peer.new)) }
-    ensures fault { IfErr result (λ fault. IsUnanswered stage frame.now fault (P.talk peer.old) (P.talk peer.new)) }
+    ensures ok { OnOk result (Answers probe frame.now (P.talk peer.old) (P.talk peer.new)) }
+    ensures fault { IfErr result (λ fault. IsUnanswered probe frame.now fault (P.talk peer.old) (P.talk peer.new)) }
 {
-    match answer(alloc, stage, frame, peer) {
+    match answer(alloc, probe, frame, peer) {
         Ok(()) => Ok(()),
         Err(cause) => Err(ClientFault {
-            step: stage.step(),
+            step: probe.step(),
             cause,
         }),
     }
 }
 
 // The same. The fault is why the answer did not come.
-fn answer<P: Peer>(alloc: Global, stage: Stage, frame: &[u8], peer: &mut P) -> Result<(), Cause>
-    ensures ok { OnOk result (Answers stage frame.now (P.talk peer.old) (P.talk peer.new)) }
-    ensures cause { IfErr result (λ cause. IsOfPeer cause ⊎ Refuses stage frame.now cause (P.talk peer.old) (P.talk peer.new)) }
+fn answer<P: Peer>(alloc: Global, probe: Probe, frame: &[u8], peer: &mut P) -> Result<(), Cause>
+    ensures ok { OnOk result (Answers probe frame.now (P.talk peer.old) (P.talk peer.new)) }
+    ensures cause { IfErr result (λ cause. IsOfPeer cause ⊎ Refuses probe frame.now cause (P.talk peer.old) (P.talk peer.new)) }
 {
     match peer.say(frame) {
         Ok(()) => {
             let mut reader = FrameReader::new(alloc);
-            let answered = hear_answer(alloc, stage, &mut reader, peer);
+            let answered = hear_answer(alloc, probe, &mut reader, peer);
             drop(reader);
             answered
         }
@@ -49,18 +49,18 @@ fn answer<P: Peer>(alloc: Global, stage: Stage, frame: &[u8], peer: &mut P) -> R
 // Hears pieces until the answer is whole.
 fn hear_answer<P: Peer>(
     alloc: Global,
-    stage: Stage,
+    probe: Probe,
     reader: &mut FrameReader,
     peer: &mut P,
 ) -> Result<(), Cause>
     requires fresh { reader.old.rest ≡ [] }
     requires unfailed { reader.old.failed ≡ false }
-    ensures ok { OnOk result ((pieces : List (List ℕ)) × Adds (map Heard pieces) (P.talk peer.old) (P.talk peer.new) × IsAnswered stage pieces) }
+    ensures ok { OnOk result ((pieces : List (List ℕ)) × Adds (map Heard pieces) (P.talk peer.old) (P.talk peer.new) × IsAnswered probe pieces) }
     ensures cause { IfErr result (λ cause. IsOfPeer cause
-        ⊎ ((pieces : List (List ℕ)) × Adds (map Heard pieces) (P.talk peer.old) (P.talk peer.new) × Breaks stage (all_of pieces) cause)) }
+        ⊎ ((pieces : List (List ℕ)) × Adds (map Heard pieces) (P.talk peer.old) (P.talk peer.new) × Breaks probe (all_of pieces) cause)) }
 {
     for _piece in 0..u64::MAX {
-        match hear_one(alloc, stage, reader, peer) {
+        match hear_one(alloc, probe, reader, peer) {
             Ok(true) => return Ok(()),
             Ok(false) => {}
             Err(cause) => return Err(cause),
@@ -72,20 +72,20 @@ fn hear_answer<P: Peer>(
 // Hears one piece, and answers whether the answer is whole.
 fn hear_one<P: Peer>(
     alloc: Global,
-    stage: Stage,
+    probe: Probe,
     reader: &mut FrameReader,
     peer: &mut P,
 ) -> Result<bool, Cause>
     requires { reader.old.failed ≡ false }
     ensures heard { IfOk result (λ is_answered. (piece : List ℕ) × Adds (Heard piece ∷ []) (P.talk peer.old) (P.talk peer.new)
-        × Hears stage (reader.old.rest ++ piece) reader.new.rest is_answered) }
+        × Hears probe (reader.old.rest ++ piece) reader.new.rest is_answered) }
     ensures unfailed { IfOk result (λ _. reader.new.failed ≡ false) }
     ensures cause { IfErr result (λ cause. IsOfPeer cause ⊎ ((piece : List ℕ) × Adds (Heard piece ∷ []) (P.talk peer.old) (P.talk peer.new)
-        × Breaks stage (reader.old.rest ++ piece) cause)) }
+        × Breaks probe (reader.old.rest ++ piece) cause)) }
 {
     match peer.hear() {
         Ok(piece) => {
-            let heard = hear(alloc, stage, reader, piece.as_slice());
+            let heard = hear(alloc, probe, reader, piece.as_slice());
             drop(piece);
             heard
         }

@@ -1,14 +1,14 @@
 //! The whole conversation of a ping.
 
 ghost use Rattle.std.specs.Prelude.{◌≡◌, ◌⊎◌, IfErr, OnOk};
-ghost use Rattle.client_core.specs.declared.stage.Stage.TheVariants.{Send};
+ghost use Rattle.client_core.specs.declared.probe.Probe.TheVariants.{Send};
 ghost use Rattle.client_core.specs.Answers.{said};
 ghost use Rattle.client_core.specs.Talks.{Answers, BreaksOff, Converses, IsOfPeer, IsUnanswered};
 
 use crate::asking::ask;
 use crate::fault::{Cause, ClientFault, Step};
 use crate::peer::Peer;
-use crate::stage::Stage;
+use crate::probe::Probe;
 use std::alloc::Global;
 use std::time::{Clock, Duration, Instant};
 
@@ -22,9 +22,9 @@ pub fn converse<C: Clock, P: Peer>(
     ensures ok { OnOk result (Converses (P.talk peer.old) (P.talk peer.new)) }
     ensures fault { IfErr result (λ fault. IsOfPeer fault.cause ⊎ BreaksOff fault (P.talk peer.old) (P.talk peer.new)) }
 {
-    match say(alloc, Stage::Connect, peer) {
+    match say(alloc, Probe::Connect, peer) {
         Ok(()) => match ask_for_receipt(clock, alloc, peer) {
-            Ok(took) => match say(alloc, Stage::Disconnect, peer) {
+            Ok(took) => match say(alloc, Probe::Disconnect, peer) {
                 Ok(()) => close(took, peer),
                 Err(fault) => Err(fault),
             },
@@ -60,7 +60,7 @@ fn ask_for_receipt<C: Clock, P: Peer>(
     let Ok(began) = Instant::now(clock) else {
         return Err(no_clock());
     };
-    say(alloc, Stage::Send, peer)?;
+    say(alloc, Probe::Send, peer)?;
     match began.elapsed(clock) {
         Ok(took) => Ok(took),
         Err(_) => Err(no_clock()),
@@ -77,10 +77,10 @@ fn no_clock() -> ClientFault
     }
 }
 
-// Says what a ping says at this stage, and hears the answer.
-fn say<P: Peer>(alloc: Global, stage: Stage, peer: &mut P) -> Result<(), ClientFault>
-    ensures ok { OnOk result (Answers stage (said stage) (P.talk peer.old) (P.talk peer.new)) }
-    ensures fault { IfErr result (λ fault. IsUnanswered stage (said stage) fault (P.talk peer.old) (P.talk peer.new)) }
+// Says what a ping says at this probe, and hears the answer.
+fn say<P: Peer>(alloc: Global, probe: Probe, peer: &mut P) -> Result<(), ClientFault>
+    ensures ok { OnOk result (Answers probe (said probe) (P.talk peer.old) (P.talk peer.new)) }
+    ensures fault { IfErr result (λ fault. IsUnanswered probe (said probe) fault (P.talk peer.old) (P.talk peer.new)) }
 {
-    ask(alloc, stage, stage.text().as_bytes(), peer)
+    ask(alloc, probe, probe.text().as_bytes(), peer)
 }

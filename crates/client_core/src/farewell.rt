@@ -1,7 +1,7 @@
 //! The end of a listener's conversation.
 
 ghost use Rattle.std.specs.Prelude.{◌≡◌, ◌++◌, ◌∷◌, [], List, ℕ, IfOk, None, OnOk, false, map};
-ghost use Rattle.client_core.specs.declared.stage.Stage.TheVariants.{Disconnect};
+ghost use Rattle.client_core.specs.declared.probe.Probe.TheVariants.{Disconnect};
 ghost use Rattle.client_core.specs.Answers.{said};
 ghost use Rattle.client_core.specs.Listening.{AreLast, EndsWell, MayEnd};
 ghost use Rattle.client_core.specs.Talks.{Adds, Heard, all_of, turn};
@@ -10,7 +10,7 @@ use crate::deeds::is_message;
 use crate::fault::{Cause, ClientFault, Step};
 use crate::hearing::cause_by;
 use crate::peer::Peer;
-use crate::stage::Stage;
+use crate::probe::Probe;
 use frame_core::{Fed, Frame, FrameReader};
 use std::alloc::Global;
 
@@ -39,7 +39,7 @@ fn hear_farewell<P: Peer>(
 ) -> Result<(), Cause>
     ensures { OnOk result ((last : List (List ℕ)) × Adds (turn (said Disconnect) last) (P.talk peer.old) (P.talk peer.new) × EndsWell (reader.old.rest ++ all_of last)) }
 {
-    match peer.say(Stage::Disconnect.text().as_bytes()) {
+    match peer.say(Probe::Disconnect.text().as_bytes()) {
         Ok(()) => hear_receipt(alloc, reader, peer),
         Err(cause) => Err(cause),
     }
@@ -104,7 +104,7 @@ fn has_receipt(alloc: Global, frames: &[Frame]) -> Result<bool, Cause>
     ensures { IfOk result (AreLast frames.now) }
 {
     for frame in frames {
-        if Stage::Disconnect.is_answer(frame) {
+        if Probe::Disconnect.is_answer(frame) {
             return Ok(true);
         }
         if !is_message(frame.verb) {

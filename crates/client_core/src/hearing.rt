@@ -6,29 +6,29 @@ ghost use Rattle.client_core.specs.declared.fault.Cause.TheVariants.{Memory};
 ghost use Rattle.client_core.specs.Answers.{AreHeard, AreRight, Breaks, Hears, IsCauseBy, IsCauseOf, IsWrong, told_by};
 
 use crate::fault::Cause;
-use crate::stage::Stage;
+use crate::probe::Probe;
 use frame_core::{Fed, Frame, FrameReader, Text, Verb, first};
 use script_text::encode_text;
 use std::alloc::{AllocError, Global};
 
-/// Hears the next bytes after what was said at this stage, and tells whether the answer is whole. The reader has what was heard
+/// Hears the next bytes after what was said at this probe, and tells whether the answer is whole. The reader has what was heard
 /// before. No frame may stand after the answer, since nothing more was asked for.
 ///
 /// After an error the reader may have failed.
 pub fn hear(
     alloc: Global,
-    stage: Stage,
+    probe: Probe,
     reader: &mut FrameReader,
     piece: &[u8],
 ) -> Result<bool, Cause>
     requires { reader.old.failed ≡ false }
-    ensures heard { IfOk result (Hears stage (reader.old.rest ++ piece.now) reader.new.rest) }
+    ensures heard { IfOk result (Hears probe (reader.old.rest ++ piece.now) reader.new.rest) }
     ensures unfailed { IfOk result (λ _. reader.new.failed ≡ false) }
-    ensures cause { IfErr result (λ cause. (cause ≡ Memory) ⊎ Breaks stage (reader.old.rest ++ piece.now) cause) }
+    ensures cause { IfErr result (λ cause. (cause ≡ Memory) ⊎ Breaks probe (reader.old.rest ++ piece.now) cause) }
 {
     match reader.feed(alloc, piece) {
         Ok(fed) => {
-            let judged = judge(alloc, stage, &fed);
+            let judged = judge(alloc, probe, &fed);
             drop(fed);
             judged
         }
@@ -37,12 +37,12 @@ pub fn hear(
 }
 
 // What was read, judged by its first frame that should not have come, and then by its fault.
-fn judge(alloc: Global, stage: Stage, fed: &Fed) -> Result<bool, Cause>
-    ensures heard { IfOk result (AreHeard stage fed.now.frames.items) }
+fn judge(alloc: Global, probe: Probe, fed: &Fed) -> Result<bool, Cause>
+    ensures heard { IfOk result (AreHeard probe fed.now.frames.items) }
     ensures sound { IfOk result (λ _. fed.now.fault ≡ None) }
-    ensures cause { IfErr result (λ cause. (cause ≡ Memory) ⊎ IsCauseOf stage fed.now.frames.items fed.now.fault cause) }
+    ensures cause { IfErr result (λ cause. (cause ≡ Memory) ⊎ IsCauseOf probe fed.now.frames.items fed.now.fault cause) }
 {
-    if let Some(frame) = wrong(stage, fed.frames.as_slice()) {
+    if let Some(frame) = wrong(probe, fed.frames.as_slice()) {
         return Err(cause_by(alloc, frame));
     }
     match fed.fault {
@@ -52,13 +52,13 @@ fn judge(alloc: Global, stage: Stage, fed: &Fed) -> Result<bool, Cause>
 }
 
 // The first of these frames that should not have come: one that is no answer, or stands after the answer.
-fn wrong(stage: Stage, frames: &[Frame]) -> Option<&Frame>
-    ensures { MatchOption result (AreRight stage frames.now) (λ frame. IsWrong stage frames.now frame.now) }
+fn wrong(probe: Probe, frames: &[Frame]) -> Option<&Frame>
+    ensures { MatchOption result (AreRight probe frames.now) (λ frame. IsWrong probe frames.now frame.now) }
 {
     let Some((one, others)) = frames.split_first() else {
         return None;
     };
-    if !stage.is_answer(one) {
+    if !probe.is_answer(one) {
         return Some(one);
     }
     match others.split_first() {

@@ -13,9 +13,9 @@ mod hearing;
 mod listening;
 mod peer;
 mod plan;
+mod probe;
 mod requests;
 mod sending;
-mod stage;
 
 pub use address::Address;
 pub use calls::{forget_once, send_once};
@@ -26,5 +26,5 @@ pub use hearing::hear;
 pub use listening::listen;
 pub use peer::{Listener, Peer};
 pub use plan::{Outgoing, Plan};
+pub use probe::Probe;
 pub use sending::{leave, open, send};
-pub use stage::Stage;

@@ -2,7 +2,7 @@
 
 ghost use Rattle.std.specs.Prelude.{◌≡◌, ◌⊎◌, IfErr, OnOk};
 ghost use Rattle.frame_core.specs.Written.{written};
-ghost use Rattle.client_core.specs.declared.stage.Stage.TheVariants.{Connect, Disconnect, Send};
+ghost use Rattle.client_core.specs.declared.probe.Probe.TheVariants.{Connect, Disconnect, Send};
 ghost use Rattle.client_core.specs.Answers.{said};
 ghost use Rattle.client_core.specs.Requests.{connect_frame, forget_frame, send_frame};
 ghost use Rattle.client_core.specs.Talks.{Answers, IsOfPeer, IsUnanswered};
@@ -11,8 +11,8 @@ use crate::asking::ask;
 use crate::fault::{Cause, ClientFault, Step};
 use crate::peer::Peer;
 use crate::plan::Outgoing;
+use crate::probe::Probe;
 use crate::requests::{connect_text, forget_text, send_text};
-use crate::stage::Stage;
 use std::alloc::Global;
 
 /// Opens a session, perhaps with a `client-id`: it is open once CONNECTED has come.
@@ -26,8 +26,8 @@ pub fn open<P: Peer>(
     ensures fault { IfErr result (λ fault. IsUnanswered Connect (written (connect_frame host.now client.entry)) fault (P.talk peer.old) (P.talk peer.new)) }
 {
     match connect_text(alloc, host, client) {
-        Ok(text) => ask_owned(alloc, Stage::Connect, text, peer),
-        Err(cause) => Err(unsaid(Stage::Connect, cause)),
+        Ok(text) => ask_owned(alloc, Probe::Connect, text, peer),
+        Err(cause) => Err(unsaid(Probe::Connect, cause)),
     }
 }
 
@@ -37,8 +37,8 @@ pub fn send<P: Peer>(alloc: Global, message: &Outgoing<'_>, peer: &mut P) -> Res
     ensures fault { IfErr result (λ fault. IsUnanswered Send (written (send_frame message.now)) fault (P.talk peer.old) (P.talk peer.new)) }
 {
     match send_text(alloc, message) {
-        Ok(text) => ask_owned(alloc, Stage::Send, text, peer),
-        Err(cause) => Err(unsaid(Stage::Send, cause)),
+        Ok(text) => ask_owned(alloc, Probe::Send, text, peer),
+        Err(cause) => Err(unsaid(Probe::Send, cause)),
     }
 }
 
@@ -48,8 +48,8 @@ pub fn forget<P: Peer>(alloc: Global, name: &str, peer: &mut P) -> Result<(), Cl
     ensures fault { IfErr result (λ fault. IsUnanswered Send (written (forget_frame name.now)) fault (P.talk peer.old) (P.talk peer.new)) }
 {
     match forget_text(alloc, name) {
-        Ok(text) => ask_owned(alloc, Stage::Send, text, peer),
-        Err(cause) => Err(unsaid(Stage::Send, cause)),
+        Ok(text) => ask_owned(alloc, Probe::Send, text, peer),
+        Err(cause) => Err(unsaid(Probe::Send, cause)),
     }
 }
 
@@ -60,8 +60,8 @@ pub fn leave<P: Peer>(alloc: Global, peer: &mut P) -> Result<(), ClientFault>
 {
     match ask(
         alloc,
-        Stage::Disconnect,
-        Stage::Disconnect.text().as_bytes(),
+        Probe::Disconnect,
+        Probe::Disconnect.text().as_bytes(),
         peer,
     ) {
         Ok(()) => close(peer),
@@ -86,24 +86,24 @@ pub fn close<P: Peer>(peer: &mut P) -> Result<(), ClientFault>
 // Says a frame, lets its bytes go, and hears the answer.
 fn ask_owned<P: Peer>(
     alloc: Global,
-    stage: Stage,
+    probe: Probe,
     text: Vec<u8>,
     peer: &mut P,
 ) -> Result<(), ClientFault>
-    ensures ok { OnOk result (Answers stage text.items (P.talk peer.old) (P.talk peer.new)) }
-    ensures fault { IfErr result (λ fault. IsUnanswered stage text.items fault (P.talk peer.old) (P.talk peer.new)) }
+    ensures ok { OnOk result (Answers probe text.items (P.talk peer.old) (P.talk peer.new)) }
+    ensures fault { IfErr result (λ fault. IsUnanswered probe text.items fault (P.talk peer.old) (P.talk peer.new)) }
 {
-    let answered = ask(alloc, stage, text.as_slice(), peer);
+    let answered = ask(alloc, probe, text.as_slice(), peer);
     drop(text);
     answered
 }
 
 // The fault if a frame was not said.
-fn unsaid(stage: Stage, cause: Cause) -> ClientFault
+fn unsaid(probe: Probe, cause: Cause) -> ClientFault
     ensures { result.cause ≡ cause }
 {
     ClientFault {
-        step: stage.step(),
+        step: probe.step(),
         cause,
     }
 }

@@ -15,8 +15,8 @@ use Rattle.desk_core.specs.declared.stage.Stage.TheVariants.{Running}
 use Rattle.desk_core.specs.Answers.{Appended, Awaits, AwaitsBy, GoesOnYet, Grows, Heard, IsPressing, IsQuiet, IsRest, IsSatisfied, Leaves}
 use Rattle.desk_core.specs.Refusals.{WaitsIfFull}
 use Rattle.desk_core.specs.Steps.{SaysNext, TakesStep}
-use Rattle.desk_core.specs.declared.step.Step.{Step}
-use Rattle.desk_core.specs.declared.step.Step.TheVariants as steps
+use Rattle.desk_core.specs.declared.outcome.Outcome.{Outcome}
+use Rattle.desk_core.specs.declared.outcome.Outcome.TheVariants as steps
 use Rattle.desk_core.specs.Boxes.{BoxEntry}
 use Rattle.desk_core.specs.declared.slot.Slot.{Slot}
 use Rattle.desk_core.specs.declared.turned.Next.{Next}
@@ -40,7 +40,7 @@ none_appended s t own true is = absurd (let e : true ≡ false = is in cc)
 none_appended s t own false is = own
 
 -- one act more
-pub appended_then : (b : Bool) (step : Step) (s t u : SessionSeatValue) → Appended b s t → Grows step t u → (step ≡ steps.Appended → ⊥) → Appended b s u
+pub appended_then : (b : Bool) (step : Outcome) (s t u : SessionSeatValue) → Appended b s t → Grows step t u → (step ≡ steps.Appended → ⊥) → Appended b s u
 appended_then b steps.Appended s t u a g other = absurd (other refl)
 appended_then true steps.Done s t u a g other = omega (arith, a, ap (λ (l : List Pair). length l) g)
 appended_then false steps.Done s t u a g other = g ∙ a
@@ -64,29 +64,29 @@ appended_still false s t u a own = own ∙ a
 full_of : (p : Option BoxEntry) (entry : BoxEntry) → p ≡ Some entry → IsSome p
 full_of p entry is = subst (λ x. IsSome x) (sym is) refl
 
-held_by : (window : ℕ) (refused : Refused) (entry : BoxEntry) (p : Option BoxEntry) (step : Step) (s t : SessionSeatValue) → Refuses window s t refused → WaitsIfFull entry refused p step → Grows step s t × Leaves step p
+held_by : (window : ℕ) (refused : Refused) (entry : BoxEntry) (p : Option BoxEntry) (step : Outcome) (s t : SessionSeatValue) → Refuses window s t refused → WaitsIfFull entry refused p step → Grows step s t × Leaves step p
 held_by window refusals.Stopped entry p step s t r h = subst (λ x. Grows x s t × Leaves x p) (sym h) (ap (λ (x : SessionSeatValue). x.own) r, tt)
 held_by window refusals.Exhausted entry p step s t r h = subst (λ x. Grows x s t × Leaves x p) (sym h) (ap (λ (x : SessionSeatValue). x.own) r.2, tt)
 held_by window (refusals.Busy mark) entry p step s t r h =
     let own : t.own ≡ s.own = ap (λ (x : SessionSeatValue). x.own) r.3 in
     subst (λ x. Grows x s t × Leaves x p) (sym h.1) (own, full_of p entry h.0)
 
-pub held_takes : (window : ℕ) (refused : Refused) (entry : BoxEntry) (p : Option BoxEntry) (step : Step) (s t : SessionSeatValue) → Refuses window s t refused → WaitsIfFull entry refused p step → TakesStep step s t p
+pub held_takes : (window : ℕ) (refused : Refused) (entry : BoxEntry) (p : Option BoxEntry) (step : Outcome) (s t : SessionSeatValue) → Refuses window s t refused → WaitsIfFull entry refused p step → TakesStep step s t p
 held_takes window refused entry p step s t r h = let by = held_by window refused entry p step s t r h in record { grows = by.0; leaves = by.1 }
 
-pub quiet_takes : (step : Step) (p : Option BoxEntry) (s : SessionSeatValue) → IsQuiet step → TakesStep step s s p
+pub quiet_takes : (step : Outcome) (p : Option BoxEntry) (s : SessionSeatValue) → IsQuiet step → TakesStep step s s p
 quiet_takes steps.Done p s q = record { grows = refl; leaves = tt }
 quiet_takes steps.Memory p s q = record { grows = refl; leaves = tt }
 quiet_takes steps.Appended p s q = absurd q
 quiet_takes (steps.Room mark) p s q = absurd q
 quiet_takes steps.Rest p s q = absurd q
 
-pub still_leaves : (step : Step) (p q : Option BoxEntry) → q ≡ p → Leaves step p → Leaves step q
+pub still_leaves : (step : Outcome) (p q : Option BoxEntry) → q ≡ p → Leaves step p → Leaves step q
 still_leaves step p q waiting l = subst (λ x. Leaves step x) (sym waiting) l
 
 -- ── what it waits for ──
 
-pub awaits : {B : Type 0} (n : Next) (last : Step) (slot : Slot B) → AwaitsBy n last slot → Leaves last slot.waiting → Awaits n slot
+pub awaits : {B : Type 0} (n : Next) (last : Outcome) (slot : Slot B) → AwaitsBy n last slot → Leaves last slot.waiting → Awaits n slot
 awaits next.Go last slot a l = a
 awaits next.Read last slot a l = a
 awaits next.Write last slot a l = a
@@ -99,7 +99,7 @@ awaits (next.Over ended) last slot a l = a
 runs_yet : (stage : Stage) → stage ≡ Running → GoesOnYet stage
 runs_yet stage runs = subst GoesOnYet (sym runs) tt
 
-pub pressing_so : {B : Type 0} (n : Next) (last : Step) (slot : Slot B) → GoesOnYet slot.connection.stage → IsPressing n last → AwaitsBy n last slot
+pub pressing_so : {B : Type 0} (n : Next) (last : Outcome) (slot : Slot B) → GoesOnYet slot.connection.stage → IsPressing n last → AwaitsBy n last slot
 pressing_so next.Go last slot on p = on
 pressing_so next.Memory last slot on p = on
 pressing_so (next.Room mark) last slot on p = (on, p)
@@ -109,10 +109,10 @@ pressing_so next.Write last slot on p = absurd p
 pressing_so next.Close last slot on p = absurd p
 pressing_so (next.Over ended) last slot on p = absurd p
 
-pub runs_pressing : {B : Type 0} (n : Next) (last : Step) (slot : Slot B) → slot.connection.stage ≡ Running → IsPressing n last → AwaitsBy n last slot
+pub runs_pressing : {B : Type 0} (n : Next) (last : Outcome) (slot : Slot B) → slot.connection.stage ≡ Running → IsPressing n last → AwaitsBy n last slot
 runs_pressing n last slot runs p = pressing_so n last slot (runs_yet slot.connection.stage runs) p
 
-pub rests_so : {B : Type 0} (n : Next) (last : Step) (slot : Slot B) → slot.connection.stage ≡ Running → IsSatisfied slot → IsRest n slot → AwaitsBy n last slot
+pub rests_so : {B : Type 0} (n : Next) (last : Outcome) (slot : Slot B) → slot.connection.stage ≡ Running → IsSatisfied slot → IsRest n slot → AwaitsBy n last slot
 rests_so next.Read last slot runs s r = (runs, s)
 rests_so (next.Output mark) last slot runs s r = (runs, (s.0, s.1), r)
 rests_so (next.Room mark) last slot runs s r = absurd r

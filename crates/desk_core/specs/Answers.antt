@@ -6,8 +6,8 @@ use Rattle.desk_core.specs.Tasks.{all_of}
 use Rattle.desk_core.specs.declared.ended.Ended.{Ended}
 use Rattle.desk_core.specs.declared.stage.Stage.{Stage}
 use Rattle.desk_core.specs.declared.stage.Stage.TheVariants.{Running, GivingUp, Closing, Parting, Leaving, Over}
-use Rattle.desk_core.specs.declared.step.Step.{Step}
-use Rattle.desk_core.specs.declared.step.Step.TheVariants as steps
+use Rattle.desk_core.specs.declared.outcome.Outcome.{Outcome}
+use Rattle.desk_core.specs.declared.outcome.Outcome.TheVariants as steps
 use Rattle.desk_core.specs.declared.kept.Kept.{Kept}
 use Rattle.desk_core.specs.declared.kept.Kept.TheVariants as kept
 use Rattle.desk_core.specs.Boxes.{BoxEntry}
@@ -64,7 +64,7 @@ pub record Answers {B L : Type 0} (received : L → Option (List ℕ)) (turned :
   pub next : Awaits turned.next is
 
 -- one act appends a command exactly if it says so
-abbrev pub Grows : Step → SessionSeatValue → SessionSeatValue → Type 0
+abbrev pub Grows : Outcome → SessionSeatValue → SessionSeatValue → Type 0
 Grows steps.Appended old new = length old.own < length new.own
 Grows steps.Done old new = new.own ≡ old.own
 Grows (steps.Room mark) old new = new.own ≡ old.own
@@ -72,7 +72,7 @@ Grows steps.Memory old new = new.own ≡ old.own
 Grows steps.Rest old new = new.own ≡ old.own
 
 -- no entry was handled
-abbrev pub IsQuiet : Step → Type 0
+abbrev pub IsQuiet : Outcome → Type 0
 IsQuiet steps.Done = Unit {0}
 IsQuiet steps.Memory = Unit {0}
 IsQuiet steps.Appended = ⊥
@@ -80,7 +80,7 @@ IsQuiet (steps.Room mark) = ⊥
 IsQuiet steps.Rest = ⊥
 
 -- what the last act of a turn came to: if it found no room, an entry waits
-abbrev pub Leaves : Step → Option BoxEntry → Type 0
+abbrev pub Leaves : Outcome → Option BoxEntry → Type 0
 Leaves (steps.Room mark) waiting = IsSome waiting
 Leaves steps.Appended waiting = Unit {0}
 Leaves steps.Done waiting = Unit {0}
@@ -88,7 +88,7 @@ Leaves steps.Memory waiting = Unit {0}
 Leaves steps.Rest waiting = Unit {0}
 
 -- what a connection waits for, by what the last act of its turn came to
-abbrev pub AwaitsBy : {B : Type 0} → Next → Step → Slot B → Type 0
+abbrev pub AwaitsBy : {B : Type 0} → Next → Outcome → Slot B → Type 0
 AwaitsBy next.Go last slot = GoesOnYet slot.connection.stage
 AwaitsBy next.Read last slot = (slot.connection.stage ≡ Running) × IsSatisfied slot
 AwaitsBy next.Write last slot = slot.connection.stage ≡ Running
@@ -99,7 +99,7 @@ AwaitsBy next.Close last slot = (ended : Ended) × (slot.connection.stage ≡ Pa
 AwaitsBy (next.Over ended) last slot = slot.connection.stage ≡ Over ended
 
 -- what is to come first, by what the last act came to
-abbrev pub IsPressing : Next → Step → Type 0
+abbrev pub IsPressing : Next → Outcome → Type 0
 IsPressing next.Go last = Unit {0}
 IsPressing next.Memory last = Unit {0}
 IsPressing (next.Room mark) last = last ≡ steps.Room mark

@@ -17,7 +17,7 @@ use Rattle.desk_core.specs.Halting.{FindsEnd, HasHalted}
 use Rattle.desk_core.specs.Histories.{DoesUndone, Heeds, LivesOn, Taken, Undone}
 use Rattle.desk_core.specs.Slots.{Served}
 use Rattle.desk_core.specs.Spending.{KeepsRoom}
-use Rattle.desk_core.specs.declared.step.Step.{Step}
+use Rattle.desk_core.specs.declared.outcome.Outcome.{Outcome}
 use Rattle.desk_core.specs.Boxes.{BoxEntry, HasBox}
 use Rattle.desk_core.specs.declared.slot.Slot.{Slot}
 
@@ -34,7 +34,7 @@ pub record MayAppend {B : Type 0} (slot : Slot B) (entry : BoxEntry) : Type 0 wh
   pub boxed : HasBox entry slot.opening
 
 -- One act took this step: the seat has a command more only if that is said, and if the window was full, an entry waits.
-pub record TakesStep (step : Step) (old new : SessionSeatValue) (waiting : Option BoxEntry) : Type 0 where
+pub record TakesStep (step : Outcome) (old new : SessionSeatValue) (waiting : Option BoxEntry) : Type 0 where
   pub grows : Grows step old new
   pub leaves : Leaves step waiting
 

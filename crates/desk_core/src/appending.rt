@@ -9,10 +9,10 @@ ghost use Rattle.desk_core.specs.Histories.{Taken, Waits};
 ghost use Rattle.desk_core.specs.Progress.{IsNext};
 
 use crate::entries::charge;
+use crate::outcome::{Outcome, also_appended};
 use crate::slot::Slot;
 use crate::speaking::speak;
 use crate::stage::Stage;
-use crate::step::{Step, also_appended};
 use crate::wakers::Wakers;
 use claim_core::{BrokerRing, BrokerSeat, Refused};
 use command_core::{Entry, HeaderText, Op};
@@ -46,7 +46,7 @@ impl<B: Bell> Slot<B> {
         seat: &mut BrokerSeat<OutSender<B>>,
         link: &mut L,
         wakers: &M,
-    ) -> (bool, Step)
+    ) -> (bool, Outcome)
         requires { seat.old.ring ≡ ring.now }
         ensures goes { GoesOn L.sent L.received self.old seat.old link.old self.new seat.new link.new }
         ensures grows { Appended result.0 seat.old seat.new }
@@ -57,11 +57,11 @@ impl<B: Bell> Slot<B> {
         for _ in 0..ACTS {
             let step = self.step(alloc, ring, seat, link, wakers);
             appended = also_appended(appended, step);
-            if matches!(step, Step::Room(_) | Step::Memory | Step::Rest) {
+            if matches!(step, Outcome::Room(_) | Outcome::Memory | Outcome::Rest) {
                 return (appended, step);
             }
         }
-        (appended, Step::Done)
+        (appended, Outcome::Done)
     }
 
     // Appends the entry that waits, or else does the next act.
@@ -72,14 +72,14 @@ impl<B: Bell> Slot<B> {
         seat: &mut BrokerSeat<OutSender<B>>,
         link: &mut L,
         wakers: &M,
-    ) -> Step
+    ) -> Outcome
         requires { seat.old.ring ≡ ring.now }
         ensures goes { GoesOn L.sent L.received self.old seat.old link.old self.new seat.new link.new }
         ensures takes { TakesStep result seat.old seat.new self.new.waiting }
         ensures unread { L.received link.new ≡ L.received link.old }
     {
         if !self.connection.stage().executes() {
-            return Step::Rest;
+            return Outcome::Rest;
         }
         if let Some(entry) = self.waiting.take() {
             return self.append(ring, seat, wakers, entry);
@@ -89,11 +89,11 @@ impl<B: Bell> Slot<B> {
             Some(Act::Direct(notice)) => self.tell(alloc, link, wakers, notice),
             Some(Act::Close(code)) => {
                 self.connection.close(code);
-                Step::Done
+                Outcome::Done
             }
             None => {
                 self.connection.rest();
-                Step::Rest
+                Outcome::Rest
             }
         }
     }
@@ -109,7 +109,7 @@ impl<B: Bell> Slot<B> {
         wakers: &M,
         op: Op,
         receipt: Option<HeaderText>,
-    ) -> Step
+    ) -> Outcome
         requires ring { seat.old.ring ≡ ring.now }
         requires form { HasForm (acts.Do op receipt) }
         requires taken { (self.old.connection.acts.again ≡ None) × (self.old.waiting ≡ None) }
@@ -119,12 +119,12 @@ impl<B: Bell> Slot<B> {
         ensures takes { TakesStep result seat.old seat.new self.new.waiting }
     {
         let Some(command) = self.connection.ask(op, receipt) else {
-            return Step::Done;
+            return Outcome::Done;
         };
         if !self.connection.affords(command.op()) {
             drop(command);
             self.connection.cut_off(alloc);
-            return Step::Done;
+            return Outcome::Done;
         }
         match charge(alloc, wakers, &mut self.connection, command) {
             Ok((entry, taker)) => {
@@ -134,7 +134,7 @@ impl<B: Bell> Slot<B> {
             Err(command) => {
                 let (_, op, receipt) = command.into_parts();
                 self.connection.put_back(Act::Do(op, receipt));
-                Step::Memory
+                Outcome::Memory
             }
         }
     }
@@ -146,12 +146,12 @@ impl<B: Bell> Slot<B> {
         seat: &mut BrokerSeat<OutSender<B>>,
         wakers: &M,
         entry: Entry<OutSender<B>>,
-    ) -> Step
+    ) -> Outcome
         requires ring { seat.old.ring ≡ ring.now }
         requires may { MayAppend self.old entry }
         ensures continues { Continues self.old.connection.progress seat.old self.new.connection.progress seat.new }
         ensures stays { Stays self.old self.new }
-        ensures taker { (taker : TakerValue) → self.old.opening ≡ Some taker → result ≡ Step.Appended → self.new.outbox ≡ Some taker }
+        ensures taker { (taker : TakerValue) → self.old.opening ≡ Some taker → result ≡ Outcome.Appended → self.new.outbox ≡ Some taker }
         ensures lives { CarriesOut (Waits entry.command) (entry.command.op ∷ []) self.old seat.old self.new seat.new }
         ensures takes { TakesStep result seat.old seat.new self.new.waiting }
     {
@@ -162,7 +162,7 @@ impl<B: Bell> Slot<B> {
                 if let Some(taker) = self.opening.take() {
                     self.outbox = Some(taker);
                 }
-                Step::Appended
+                Outcome::Appended
             }
             Err((entry, refused)) => self.handle_refusal(entry, refused),
         }
@@ -170,7 +170,7 @@ impl<B: Bell> Slot<B> {
 
     // An entry that the ring refused is kept for as long as the window is full. A ring that takes nothing more ends the
     // connection.
-    fn handle_refusal(&mut self, entry: Entry<OutSender<B>>, refused: Refused) -> Step
+    fn handle_refusal(&mut self, entry: Entry<OutSender<B>>, refused: Refused) -> Outcome
         requires { IsNext self.old.connection.progress entry.command × HasBox entry self.old.opening × (self.old.waiting ≡ None) }
         ensures same { IsUnsaid self.old.connection self.new.connection }
         ensures stays { (self.new.outbox ≡ self.old.outbox) × (self.new.kept ≡ self.old.kept) }
@@ -181,13 +181,13 @@ impl<B: Bell> Slot<B> {
         match refused {
             Refused::Busy(mark) => {
                 drop(self.waiting.replace(entry));
-                Step::Room(mark)
+                Outcome::Room(mark)
             }
             Refused::Stopped | Refused::Exhausted => {
                 drop(entry);
                 drop(self.opening.take());
                 self.connection.stop();
-                Step::Rest
+                Outcome::Rest
             }
         }
     }
@@ -199,7 +199,7 @@ impl<B: Bell> Slot<B> {
         link: &mut L,
         wakers: &M,
         notice: Notice,
-    ) -> Step
+    ) -> Outcome
         requires first { self.old.connection.acts.again ≡ None }
         requires nothing { self.old.waiting ≡ None }
         ensures ends { StaysOrEnds self.old.connection.progress self.new.connection.progress }
@@ -209,7 +209,7 @@ impl<B: Bell> Slot<B> {
     {
         if is_cut_off(self.connection.stage()) {
             drop(notice);
-            return Step::Done;
+            return Outcome::Done;
         }
         let _form = notice.frame();
         match link.send_direct(alloc, &notice) {
@@ -224,10 +224,10 @@ impl<B: Bell> Slot<B> {
             }
             Err(LinkFault::Memory) => {
                 self.connection.put_back(Act::Direct(notice));
-                return Step::Memory;
+                return Outcome::Memory;
             }
         }
-        Step::Done
+        Outcome::Done
     }
 }
 

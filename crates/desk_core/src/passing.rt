@@ -7,10 +7,10 @@ ghost use Rattle.desk_core.specs.Relays.{ReadsMark};
 
 use crate::connection::Connection;
 use crate::kept::Relayed;
+use crate::outcome::Outcome;
 use crate::relaying::relay;
 use crate::slot::Slot;
 use crate::stage::Stage;
-use crate::step::Step;
 use crate::wakers::Wakers;
 use claim_core::{BrokerRing, BrokerSeat};
 use outbox_core::{Bell, OutSender};
@@ -30,7 +30,7 @@ impl<B: Bell> Slot<B> {
     ghost use Rattle.desk_core.specs.Slots.{Served};
 
     // Sends what may leave, until nothing more may or so much was sent. A link that has not taken all before gets nothing more. Answers
-    // `Step::Rest` if nothing more may leave.
+    // `Outcome::Rest` if nothing more may leave.
     pub(crate) fn pass_on<M: Wakers<B>, L: Link>(
         &mut self,
         alloc: Global,
@@ -38,7 +38,7 @@ impl<B: Bell> Slot<B> {
         seat: &mut BrokerSeat<OutSender<B>>,
         link: &mut L,
         wakers: &M,
-    ) -> Step
+    ) -> Outcome
         requires { seat.old.ring ≡ ring.now }
         ensures goes { GoesOn L.sent L.received self.old seat.old link.old self.new seat.new link.new }
         ensures waiting { self.new.waiting ≡ self.old.waiting }
@@ -48,15 +48,15 @@ impl<B: Bell> Slot<B> {
         let mut bytes = 0usize;
         for _ in 0..RELAYS {
             if bytes >= RELAYED_BYTES || link.waits() {
-                return Step::Done;
+                return Outcome::Done;
             }
             match self.pass_one(alloc, ring, seat, link, wakers) {
                 Ok(Some(sent)) => bytes = bytes.saturating_add(sent),
-                Ok(None) => return Step::Rest,
-                Err(_) => return Step::Memory,
+                Ok(None) => return Outcome::Rest,
+                Err(_) => return Outcome::Memory,
             }
         }
-        Step::Done
+        Outcome::Done
     }
 
     // Sends one output, and answers how many bytes its body has; nothing if none may leave. Once the connection no longer runs, none may.

@@ -4,9 +4,9 @@ ghost use Rattle.std.specs.Prelude.{◌≡◌, ◌≢◌, false};
 ghost use Rattle.desk_core.specs.Answers.{IsPressing};
 
 use crate::ended::Ended;
+use crate::outcome::Outcome;
 use crate::slot::Slot;
 use crate::stage::Stage;
-use crate::step::Step;
 use crate::turned::{Next, Turned};
 use crate::wakers::Wakers;
 use claim_core::{BrokerRing, BrokerSeat};
@@ -17,7 +17,7 @@ use ws_core::{CloseReason, Link, LinkFault, Received};
 impl<B: Bell> Slot<B> {
     ghost use Rattle.std.specs.Prelude.{◌≢◌, None, true};
     ghost use Rattle.desk_core.specs.Answers.{Answers, AwaitsBy, Heard, IsRest, IsSatisfied};
-    ghost use Rattle.desk_core.specs.declared.step.Step.{Step};
+    ghost use Rattle.desk_core.specs.declared.outcome.Outcome.{Outcome};
     ghost use Rattle.desk_core.specs.Connections.{Listens};
     ghost use Rattle.desk_core.specs.declared.stage.Stage.TheVariants.{Running};
     ghost use Rattle.desk_core.specs.Steps.{GoesOn};
@@ -45,9 +45,9 @@ impl<B: Bell> Slot<B> {
         let (appended, acted) = self.execute(alloc, ring, seat, link, wakers);
         let passed = self.pass_on(alloc, ring, seat, link, wakers);
         let is_short = self.finish(link);
-        let lacks = is_short || matches!(passed, Step::Memory);
+        let lacks = is_short || matches!(passed, Outcome::Memory);
         // A client that was not read may have sent something of which nothing will tell again.
-        let more = !matches!(read, Step::Rest) || matches!(passed, Step::Done);
+        let more = !matches!(read, Outcome::Rest) || matches!(passed, Outcome::Done);
         Turned {
             appended,
             heard,
@@ -55,9 +55,9 @@ impl<B: Bell> Slot<B> {
         }
     }
 
-    // Reads once, if nothing else is to be done first. Answers whether something came, and `Step::Rest` if its link has nothing to give
+    // Reads once, if nothing else is to be done first. Answers whether something came, and `Outcome::Rest` if its link has nothing to give
     // now. After its own close it waits for the peer's.
-    fn read<L: Link>(&mut self, alloc: Global, link: &mut L) -> (bool, Step)
+    fn read<L: Link>(&mut self, alloc: Global, link: &mut L) -> (bool, Outcome)
         ensures unserved { Unserved L.sent self.old link.old self.new link.new }
         ensures lives { Idles L.received self.old link.old self.new link.new }
         ensures heard { Heard L.received result.0 link.old link.new }
@@ -66,16 +66,16 @@ impl<B: Bell> Slot<B> {
             return self.await_close(alloc, link);
         }
         if !self.connection.listens() || self.waiting.is_some() {
-            return (false, Step::Done);
+            return (false, Outcome::Done);
         }
         if self.kept.is_unsent() || link.waits() {
-            return (false, Step::Done);
+            return (false, Outcome::Done);
         }
         self.listen(alloc, link)
     }
 
     // Hears what came.
-    fn listen<L: Link>(&mut self, alloc: Global, link: &mut L) -> (bool, Step)
+    fn listen<L: Link>(&mut self, alloc: Global, link: &mut L) -> (bool, Outcome)
         requires listens { Listens self.old.connection }
         requires nothing { self.old.waiting ≡ None }
         ensures unserved { Unserved L.sent self.old link.old self.new link.new }
@@ -85,23 +85,23 @@ impl<B: Bell> Slot<B> {
         match link.receive(alloc) {
             Received::Bytes(bytes) => {
                 let _ = self.connection.hear(alloc, bytes.as_slice());
-                (true, Step::Done)
+                (true, Outcome::Done)
             }
-            Received::Skipped => (true, Step::Done),
-            Received::Nothing => (false, Step::Rest),
+            Received::Skipped => (true, Outcome::Done),
+            Received::Nothing => (false, Outcome::Rest),
             Received::Failed => {
                 self.connection.give_up();
-                (true, Step::Done)
+                (true, Outcome::Done)
             }
             Received::Closed => {
                 self.connection.lose();
-                (false, Step::Rest)
+                (false, Outcome::Rest)
             }
         }
     }
 
     // Drops what came after its own close.
-    fn await_close<L: Link>(&mut self, alloc: Global, link: &mut L) -> (bool, Step)
+    fn await_close<L: Link>(&mut self, alloc: Global, link: &mut L) -> (bool, Outcome)
         requires { self.old.connection.stage ≢ Running }
         ensures unserved { Unserved L.sent self.old link.old self.new link.new }
         ensures lives { Idles L.received self.old link.old self.new link.new }
@@ -110,14 +110,14 @@ impl<B: Bell> Slot<B> {
         match link.receive(alloc) {
             Received::Closed => {
                 self.connection.lose();
-                (false, Step::Rest)
+                (false, Outcome::Rest)
             }
-            Received::Nothing => (false, Step::Rest),
-            Received::Skipped => (true, Step::Done),
-            Received::Failed => (true, Step::Done),
+            Received::Nothing => (false, Outcome::Rest),
+            Received::Skipped => (true, Outcome::Done),
+            Received::Failed => (true, Outcome::Done),
             Received::Bytes(bytes) => {
                 drop(bytes);
-                (true, Step::Done)
+                (true, Outcome::Done)
             }
         }
     }
@@ -155,7 +155,7 @@ impl<B: Bell> Slot<B> {
 
     // What it waits for: by whether memory was refused for its close or an output, and by whether there may be more to hear or to
     // send. Also by what the last act came to, and by whether its link has not taken all.
-    fn next(&self, lacks: bool, more: bool, last: Step, waits: bool) -> Next
+    fn next(&self, lacks: bool, more: bool, last: Outcome, waits: bool) -> Next
         ensures { AwaitsBy result last self.now }
     {
         match self.connection.stage() {
@@ -173,7 +173,7 @@ impl<B: Bell> Slot<B> {
     }
 
     // What a connection that runs waits for.
-    fn next_of_running(&self, lacks: bool, more: bool, last: Step, waits: bool) -> Next
+    fn next_of_running(&self, lacks: bool, more: bool, last: Outcome, waits: bool) -> Next
         requires { self.now.connection.stage ≡ Running }
         ensures { AwaitsBy result last self.now }
     {
@@ -184,7 +184,7 @@ impl<B: Bell> Slot<B> {
         if waits {
             return Next::Write;
         }
-        if more || !matches!(last, Step::Rest) || !self.is_satisfied() {
+        if more || !matches!(last, Outcome::Rest) || !self.is_satisfied() {
             return Next::Go;
         }
         self.rest()
@@ -210,16 +210,16 @@ impl<B: Bell> Slot<B> {
 }
 
 // What is to come first: memory, if it was refused, or room for an entry that waits.
-fn pressing(lacks: bool, last: Step) -> Next
+fn pressing(lacks: bool, last: Outcome) -> Next
     ensures { IsPressing result last }
 {
     if lacks {
         return Next::Memory;
     }
     match last {
-        Step::Memory => Next::Memory,
-        Step::Room(mark) => Next::Room(mark),
-        Step::Appended | Step::Done | Step::Rest => Next::Go,
+        Outcome::Memory => Next::Memory,
+        Outcome::Room(mark) => Next::Room(mark),
+        Outcome::Appended | Outcome::Done | Outcome::Rest => Next::Go,
     }
 }
 

@@ -13,8 +13,8 @@ use Rattle.frame_core.specs.declared.frame.Verb.{Verb}
 use Rattle.frame_core.specs.declared.frame.Verb.TheVariants.{Connect, Stomp, Send, Subscribe, Unsubscribe, Ack, Nack, Begin, Commit, Abort, Disconnect, Connected, Message, Receipt, Error}
 use Rattle.frame_core.specs.declared.fault.FrameFault.{FrameFault}
 use Rattle.frame_core.specs.declared.fault.FrameFault.TheVariants.{Malformed, TooLarge, UndefinedEscape, UnknownCommand, BodyNotAllowed, BadHeaderValue}
-use Rattle.frame_core.specs.declared.partial.Stage.{Stage}
-use Rattle.frame_core.specs.declared.partial.Stage.TheVariants.{Command, HeaderLines, Body}
+use Rattle.frame_core.specs.declared.partial.Section.{Section}
+use Rattle.frame_core.specs.declared.partial.Section.TheVariants.{Command, HeaderLines, Body}
 use Rattle.frame_core.specs.Verbs.{name_of, has_body}
 use Rattle.frame_core.specs.Heads.{meaning}
 use Rattle.frame_core.specs.Spelling.{announced, IsNumber}
@@ -35,13 +35,13 @@ use Rattle.frame_core.proofs.OpenLines.{byte_kept, no_body, byte_reads}
 
 -- an unfinished frame, by its parts
 pub record Open : Type 0 where
-  pub stage : Stage
+  pub section : Section
   pub head : List ℕ
   pub line : ℕ
   pub cr : Bool
   pub headers : List (List ℕ × List ℕ)
   pub body : List ℕ
-  pub is_at : IsAt stage head line cr headers body
+  pub is_at : IsAt section head line cr headers body
 
 abbrev pub bytes_of : Open → List ℕ
 bytes_of o = o.head ++ o.body
@@ -53,15 +53,15 @@ After bytes = ((fault : FrameFault) × Faulty fault bytes) ⊎ ((frames : List F
 refused : (bytes : List ℕ) (fault : FrameFault) → Faulty fault bytes → After bytes
 refused bytes fault h = inl (fault, h)
 
-goes_on : (bytes : List ℕ) (stage : Stage) (head : List ℕ) (line : ℕ) (cr : Bool) (headers : List (List ℕ × List ℕ)) (body : List ℕ) → Frames bytes [] (head ++ body)
-    → IsAt stage head line cr headers body → After bytes
-goes_on bytes stage head line cr headers body reads h =
-    inr ([], record { stage = stage; head = head; line = line; cr = cr; headers = headers; body = body; is_at = h }, reads)
+goes_on : (bytes : List ℕ) (section : Section) (head : List ℕ) (line : ℕ) (cr : Bool) (headers : List (List ℕ × List ℕ)) (body : List ℕ) → Frames bytes [] (head ++ body)
+    → IsAt section head line cr headers body → After bytes
+goes_on bytes section head line cr headers body reads h =
+    inr ([], record { section = section; head = head; line = line; cr = cr; headers = headers; body = body; is_at = h }, reads)
 
 -- nothing of a frame yet
 nothing : Open
 nothing = record {
-  stage = Command;
+  section = Command;
   head = [];
   line = 0;
   cr = false;
@@ -300,7 +300,7 @@ header_ended verb head line cr headers body h some room = elim (cut h.1.part) [
     ]
 
 -- the LF of a line
-line_ended : (stage : Stage) (head : List ℕ) (line : ℕ) (cr : Bool) (headers : List (List ℕ × List ℕ)) (body : List ℕ) → IsInHead stage → IsAt stage head line cr headers body
+line_ended : (section : Section) (head : List ℕ) (line : ℕ) (cr : Bool) (headers : List (List ℕ × List ℕ)) (body : List ℕ) → IsInHead section → IsAt section head line cr headers body
     → length head < 8192 → After ((head ++ body) ++ 10 ∷ [])
 line_ended Command head line cr headers body i h room = command_ended head line cr headers body h room
 line_ended (HeaderLines verb) head line cr headers body i h room = elim (cases_eq (length head - cond cr 1 0) line) [
@@ -309,35 +309,35 @@ line_ended (HeaderLines verb) head line cr headers body i h room = elim (cases_e
 ]
 line_ended (Body verb plan) head line cr headers body i h room = absurd i
 
-head_size : (stage : Stage) (head : List ℕ) (line : ℕ) (cr : Bool) (headers : List (List ℕ × List ℕ)) (body : List ℕ) → IsInHead stage → IsAt stage head line cr headers body → length head ≤ 8192
+head_size : (section : Section) (head : List ℕ) (line : ℕ) (cr : Bool) (headers : List (List ℕ × List ℕ)) (body : List ℕ) → IsInHead section → IsAt section head line cr headers body → length head ≤ 8192
 head_size Command head line cr headers body i h = h.0.size
 head_size (HeaderLines verb) head line cr headers body i h = h.1.size
 head_size (Body verb plan) head line cr headers body i h = absurd i
 
 -- a byte of a head
-in_head : (stage : Stage) (head : List ℕ) (line : ℕ) (cr : Bool) (headers : List (List ℕ × List ℕ)) (body : List ℕ) (b : ℕ) → IsInHead stage → IsAt stage head line cr headers body
+in_head : (section : Section) (head : List ℕ) (line : ℕ) (cr : Bool) (headers : List (List ℕ × List ℕ)) (body : List ℕ) (b : ℕ) → IsInHead section → IsAt section head line cr headers body
     → After ((head ++ body) ++ b ∷ [])
-in_head stage head line cr headers body b i h = elim (cases_eq (length head) 8192) [
-  | inl full ↦ refused _ TooLarge (long_head stage head line cr headers body b i h full)
+in_head section head line cr headers body b i h = elim (cases_eq (length head) 8192) [
+  | inl full ↦ refused _ TooLarge (long_head section head line cr headers body b i h full)
   | inr more ↦
-      let room : length head < 8192 = omega (arith, more, head_size stage head line cr headers body i h) in
+      let room : length head < 8192 = omega (arith, more, head_size section head line cr headers body i h) in
       elim (cases_eq b 10) [
         | inl lf ↦
             let P : ℕ → Type 0 = λ x. After ((head ++ body) ++ x ∷ []) in
-            subst P (sym lf) (line_ended stage head line cr headers body i h room)
+            subst P (sym lf) (line_ended section head line cr headers body i h room)
         | inr no_lf ↦ elim (cases_Bool cr) [
-          | inl with_cr ↦ refused _ Malformed (stray stage head line cr headers body b i h room (λ none. absurd (both_ways cr none with_cr)) (λ _. no_lf))
+          | inl with_cr ↦ refused _ Malformed (stray section head line cr headers body b i h room (λ none. absurd (both_ways cr none with_cr)) (λ _. no_lf))
           | inr no_cr ↦ elim (cases_eq b 0) [
-            | inl nul ↦ refused _ Malformed (stray stage head line cr headers body b i h room (λ _. nul) (λ with_cr. absurd (both_ways cr no_cr with_cr)))
+            | inl nul ↦ refused _ Malformed (stray section head line cr headers body b i h room (λ _. nul) (λ with_cr. absurd (both_ways cr no_cr with_cr)))
             | inr no_nul ↦
-                goes_on _ stage (head ++ b ∷ []) line (eqb b 13) headers body (byte_reads head body b (no_body stage head line cr headers body i h))
-                (byte_kept stage head line cr headers body b i h no_cr no_lf no_nul room)
+                goes_on _ section (head ++ b ∷ []) line (eqb b 13) headers body (byte_reads head body b (no_body section head line cr headers body i h))
+                (byte_kept section head line cr headers body b i h no_cr no_lf no_nul room)
           ]
         ]
       ]
 ]
 
-after_byte : (stage : Stage) (head : List ℕ) (line : ℕ) (cr : Bool) (headers : List (List ℕ × List ℕ)) (body : List ℕ) (b : ℕ) → IsAt stage head line cr headers body
+after_byte : (section : Section) (head : List ℕ) (line : ℕ) (cr : Bool) (headers : List (List ℕ × List ℕ)) (body : List ℕ) (b : ℕ) → IsAt section head line cr headers body
     → After ((head ++ body) ++ b ∷ [])
 after_byte Command head line cr headers body b h = in_head Command head line cr headers body b tt h
 after_byte (HeaderLines verb) head line cr headers body b h = in_head (HeaderLines verb) head line cr headers body b tt h
@@ -353,8 +353,8 @@ answer_behind bytes stream rest frames reads (inl a) = inl (frames ++ a.0, a.1, 
 answer_behind bytes stream rest frames reads (inr a) = inr (frames ++ a.0, a.1, joined_fault bytes stream frames a.0 rest a.1 reads a.2)
 
 answer_from : (stream : List ℕ) (o : Open) → Answer (bytes_of o ++ stream)
-answer_from [] o = inl ([], bytes_of o, (([], append-nil (bytes_of o)), unfinished o.stage o.head o.line o.cr o.headers o.body o.is_at))
-answer_from (b ∷ stream) o = elim (after_byte o.stage o.head o.line o.cr o.headers o.body b o.is_at) [
+answer_from [] o = inl ([], bytes_of o, (([], append-nil (bytes_of o)), unfinished o.section o.head o.line o.cr o.headers o.body o.is_at))
+answer_from (b ∷ stream) o = elim (after_byte o.section o.head o.line o.cr o.headers o.body b o.is_at) [
   | inl f ↦ inr ([], f.0, (bytes_of o ++ b ∷ [], stream, ([], sym (append_assoc (bytes_of o) (b ∷ []) stream)), f.1))
   | inr a ↦ subst Answer (append_assoc (bytes_of o) (b ∷ []) stream) (answer_behind (bytes_of o ++ b ∷ []) stream (bytes_of a.1) a.0 a.2 (answer_from stream a.1))
 ]

@@ -6,8 +6,8 @@ use Rattle.frame_core.specs.declared.fault.FrameFault.{FrameFault}
 use Rattle.frame_core.specs.declared.fault.FrameFault.TheVariants.{Malformed, TooLarge, UndefinedEscape, UnknownCommand, BodyNotAllowed, BadHeaderValue}
 use Rattle.frame_core.specs.declared.partial.Stop.{Stop}
 use Rattle.frame_core.specs.declared.partial.Stop.TheVariants.{Memory, Fault}
-use Rattle.frame_core.specs.declared.partial.Stage.{Stage}
-use Rattle.frame_core.specs.declared.partial.Stage.TheVariants.{Command, HeaderLines}
+use Rattle.frame_core.specs.declared.partial.Section.{Section}
+use Rattle.frame_core.specs.declared.partial.Section.TheVariants.{Command, HeaderLines}
 use Rattle.frame_core.specs.Heads.{IsInLine}
 use Rattle.frame_core.specs.Parts.{IsBoundedHead}
 use Rattle.frame_core.specs.Faults.{Faulty, IsFirstLine, IsNextLine, IsNextHeader}
@@ -20,11 +20,11 @@ use Rattle.frame_core.proofs.HeadSteps.{other_end, with_line, head_ends}
 only_head : (head body more : List ℕ) → body ≡ [] → (head ++ body) ++ more ≡ head ++ more
 only_head head body more e = ap (λ x. x ++ more) (ap (λ x. head ++ x) e ∙ append-nil head)
 
-pub stray : (stage : Stage) (head : List ℕ) (line : ℕ) (cr : Bool) (headers : List (List ℕ × List ℕ)) (body : List ℕ) (b : ℕ) → IsInHead stage → IsAt stage head line cr headers body
+pub stray : (section : Section) (head : List ℕ) (line : ℕ) (cr : Bool) (headers : List (List ℕ × List ℕ)) (body : List ℕ) (b : ℕ) → IsInHead section → IsAt section head line cr headers body
     → length head < 8192 → (cr ≡ false → b ≡ 0) → (cr ≡ true → b ≢ 10) → Faulty Malformed ((head ++ body) ++ b ∷ [])
-stray stage head line cr headers body b i h room plain behind_cr =
-    let p = part_of_head stage head line cr headers body i h in
-    let whole = only_head head body (b ∷ []) (no_body stage head line cr headers body i h) in
+stray section head line cr headers body b i h room plain behind_cr =
+    let p = part_of_head section head line cr headers body i h in
+    let whole = only_head head body (b ∷ []) (no_body section head line cr headers body i h) in
     inl (record {
       front = head;
       last = b;
@@ -35,19 +35,19 @@ stray stage head line cr headers body b i h room plain behind_cr =
       size = omega (arith, ap length whole, length-append head (b ∷ []));
     })
 
-pub long_head : (stage : Stage) (head : List ℕ) (line : ℕ) (cr : Bool) (headers : List (List ℕ × List ℕ)) (body : List ℕ) (b : ℕ) → IsInHead stage → IsAt stage head line cr headers body
+pub long_head : (section : Section) (head : List ℕ) (line : ℕ) (cr : Bool) (headers : List (List ℕ × List ℕ)) (body : List ℕ) (b : ℕ) → IsInHead section → IsAt section head line cr headers body
     → length head ≡ 8192 → Faulty TooLarge ((head ++ body) ++ b ∷ [])
-long_head stage head line cr headers body b i h full =
-    let p = part_of_head stage head line cr headers body i h in
-    inl (record { front = head; last = b; whole = only_head head body (b ∷ []) (no_body stage head line cr headers body i h); part = p.0; full = full })
+long_head section head line cr headers body b i h full =
+    let p = part_of_head section head line cr headers body i h in
+    inl (record { front = head; last = b; whole = only_head head body (b ∷ []) (no_body section head line cr headers body i h); part = p.0; full = full })
 
 -- the limit within bytes of a line
-pub long_run : (stage : Stage) (head : List ℕ) (line : ℕ) (cr : Bool) (headers : List (List ℕ × List ℕ)) (body run : List ℕ) (b : ℕ) → IsInHead stage → IsAt stage head line cr headers body
+pub long_run : (section : Section) (head : List ℕ) (line : ℕ) (cr : Bool) (headers : List (List ℕ × List ℕ)) (body run : List ℕ) (b : ℕ) → IsInHead section → IsAt section head line cr headers body
     → cr ≡ false → AllByRecursion IsInLine run → length head + length run ≡ 8192 → Faulty TooLarge (((head ++ body) ++ run) ++ b ∷ [])
-long_run stage head line cr headers body run b i h no_cr in_line full =
-    let none = no_body stage head line cr headers body i h in
-    let kept = run_kept stage head line cr headers body run i h no_cr in_line (omega arith) in
-    let at_limit = long_head stage (head ++ run) line false headers body b i kept (omega (arith, length-append head run)) in
+long_run section head line cr headers body run b i h no_cr in_line full =
+    let none = no_body section head line cr headers body i h in
+    let kept = run_kept section head line cr headers body run i h no_cr in_line (omega arith) in
+    let at_limit = long_head section (head ++ run) line false headers body b i kept (omega (arith, length-append head run)) in
     let same : ((head ++ run) ++ body) ++ b ∷ [] ≡ ((head ++ body) ++ run) ++ b ∷ [] =
     only_head (head ++ run) body (b ∷ []) none ∙ ap (λ x. x ++ b ∷ []) (sym (only_head head body run none)) in
     subst (Faulty TooLarge) same at_limit

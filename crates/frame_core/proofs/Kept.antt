@@ -2,8 +2,8 @@ use Rattle.std.proofs.Common.{◌≡◌, ◌+◌, ℕ, List, [], ◌++◌, Bool,
 use Rattle.std.proofs.lemmas.List.{append-nil, take-take, take-append-drop, drop-take}
 use Rattle.frame_core.specs.declared.frame.Frame.{Frame}
 use Rattle.frame_core.specs.declared.fault.FrameFault.{FrameFault}
-use Rattle.frame_core.specs.declared.partial.Stage.{Stage}
-use Rattle.frame_core.specs.declared.partial.Stage.TheVariants.{Command, HeaderLines, Body}
+use Rattle.frame_core.specs.declared.partial.Section.{Section}
+use Rattle.frame_core.specs.declared.partial.Section.TheVariants.{Command, HeaderLines, Body}
 use Rattle.frame_core.specs.Parts.{IsPartOfHead, IsUnfinished}
 use Rattle.frame_core.specs.Streams.{Frames, Fails}
 use Rattle.frame_core.specs.Partials.{IsAt}
@@ -11,7 +11,7 @@ use Rattle.frame_core.proofs.OpenLines.{part_of_head}
 use Rattle.frame_core.proofs.Joins.{joined, joined_fault}
 
 -- what is kept is an unfinished frame
-pub unfinished : (stage : Stage) (head : List ℕ) (line : ℕ) (cr : Bool) (headers : List (List ℕ × List ℕ)) (body : List ℕ) → IsAt stage head line cr headers body → IsUnfinished (head ++ body)
+pub unfinished : (section : Section) (head : List ℕ) (line : ℕ) (cr : Bool) (headers : List (List ℕ × List ℕ)) (body : List ℕ) → IsAt section head line cr headers body → IsUnfinished (head ++ body)
 unfinished Command head line cr headers body h =
     let part = part_of_head Command head line cr headers body tt h in
     inl (subst IsPartOfHead (sym (ap (λ x. head ++ x) h.2 ∙ append-nil head)) part.0)

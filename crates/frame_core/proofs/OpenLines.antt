@@ -2,8 +2,8 @@ use Rattle.std.proofs.Common.{◌≡◌, ◌≢◌, ◌<◌, ◌≤◌, ◌+◌,
 use Rattle.std.specs.List.{AllByRecursion}
 use Rattle.std.proofs.lemmas.Bool.{cases_eq, ne_eqb}
 use Rattle.std.proofs.lemmas.List.{append-nil, drop_at, take_at}
-use Rattle.frame_core.specs.declared.partial.Stage.{Stage}
-use Rattle.frame_core.specs.declared.partial.Stage.TheVariants.{Command, HeaderLines, Body}
+use Rattle.frame_core.specs.declared.partial.Section.{Section}
+use Rattle.frame_core.specs.declared.partial.Section.TheVariants.{Command, HeaderLines, Body}
 use Rattle.frame_core.specs.Heads.{IsInLine, eol}
 use Rattle.frame_core.specs.Parts.{IsBegun, IsPartOfHead}
 use Rattle.frame_core.specs.Partials.{IsLine, IsAt, IsInHead}
@@ -71,28 +71,28 @@ byte_line head line cr lines b l no_cr no_lf no_nul room =
     ]
 
 -- a byte of a line is kept
-pub byte_kept : (stage : Stage) (head : List ℕ) (line : ℕ) (cr : Bool) (headers : List (List ℕ × List ℕ)) (body : List ℕ) (b : ℕ) → IsInHead stage → IsAt stage head line cr headers body
-    → cr ≡ false → b ≢ 10 → b ≢ 0 → length head < 8192 → IsAt stage (head ++ b ∷ []) line (eqb b 13) headers body
+pub byte_kept : (section : Section) (head : List ℕ) (line : ℕ) (cr : Bool) (headers : List (List ℕ × List ℕ)) (body : List ℕ) (b : ℕ) → IsInHead section → IsAt section head line cr headers body
+    → cr ≡ false → b ≢ 10 → b ≢ 0 → length head < 8192 → IsAt section (head ++ b ∷ []) line (eqb b 13) headers body
 byte_kept Command head line cr headers body b i h no_cr no_lf no_nul room = (byte_line head line cr [] b h.0 no_cr no_lf no_nul room, h.1, h.2)
 byte_kept (HeaderLines verb) head line cr headers body b i h no_cr no_lf no_nul room = (h.0, byte_line head line cr h.0 b h.1 no_cr no_lf no_nul room, h.2, h.3, h.4)
 byte_kept (Body verb plan) head line cr headers body b i h no_cr no_lf no_nul room = absurd i
 
 -- a head that isn't whole has no body
-pub no_body : (stage : Stage) (head : List ℕ) (line : ℕ) (cr : Bool) (headers : List (List ℕ × List ℕ)) (body : List ℕ) → IsInHead stage → IsAt stage head line cr headers body → body ≡ []
+pub no_body : (section : Section) (head : List ℕ) (line : ℕ) (cr : Bool) (headers : List (List ℕ × List ℕ)) (body : List ℕ) → IsInHead section → IsAt section head line cr headers body → body ≡ []
 no_body Command head line cr headers body i h = h.2
 no_body (HeaderLines verb) head line cr headers body i h = h.4
 no_body (Body verb plan) head line cr headers body i h = absurd i
 
-open_line : (stage : Stage) (head : List ℕ) (line : ℕ) (cr : Bool) (headers : List (List ℕ × List ℕ)) (body : List ℕ) → IsInHead stage → IsAt stage head line cr headers body
+open_line : (section : Section) (head : List ℕ) (line : ℕ) (cr : Bool) (headers : List (List ℕ × List ℕ)) (body : List ℕ) → IsInHead section → IsAt section head line cr headers body
     → (lines : List ℕ) × IsLine head line cr lines × IsBegun lines
 open_line Command head line cr headers body i h = ([], h.0, inl refl)
 open_line (HeaderLines verb) head line cr headers body i h = (h.0, h.1, inr (verb, headers, h.2, h.3))
 open_line (Body verb plan) head line cr headers body i h = absurd i
 
-pub part_of_head : (stage : Stage) (head : List ℕ) (line : ℕ) (cr : Bool) (headers : List (List ℕ × List ℕ)) (body : List ℕ) → IsInHead stage → IsAt stage head line cr headers body
+pub part_of_head : (section : Section) (head : List ℕ) (line : ℕ) (cr : Bool) (headers : List (List ℕ × List ℕ)) (body : List ℕ) → IsInHead section → IsAt section head line cr headers body
     → (p : IsPartOfHead head) × (p.with_cr ≡ cr)
-part_of_head stage head line cr headers body i h =
-    let o = open_line stage head line cr headers body i h in
+part_of_head section head line cr headers body i h =
+    let o = open_line section head line cr headers body i h in
     (record { lines = o.0; part = o.1.part; with_cr = cr; whole = o.1.whole; begun = o.2; each = o.1.each; size = o.1.size }, refl)
 
 -- a byte more of a head is a byte more of the unfinished frame
@@ -111,8 +111,8 @@ more_run head line lines run l in_line room = record {
   size = omega (arith, length-append head run);
 }
 
-pub run_kept : (stage : Stage) (head : List ℕ) (line : ℕ) (cr : Bool) (headers : List (List ℕ × List ℕ)) (body run : List ℕ) → IsInHead stage → IsAt stage head line cr headers body
-    → cr ≡ false → AllByRecursion IsInLine run → length head + length run ≤ 8192 → IsAt stage (head ++ run) line false headers body
+pub run_kept : (section : Section) (head : List ℕ) (line : ℕ) (cr : Bool) (headers : List (List ℕ × List ℕ)) (body run : List ℕ) → IsInHead section → IsAt section head line cr headers body
+    → cr ≡ false → AllByRecursion IsInLine run → length head + length run ≤ 8192 → IsAt section (head ++ run) line false headers body
 run_kept Command head line cr headers body run i h no_cr in_line room =
     let P : Bool → Type 0 = λ x. IsLine head line x [] in
     (more_run head line [] run (subst P no_cr h.0) in_line room, h.1, h.2)

@@ -2,8 +2,8 @@ use Rattle.std.specs.Prelude.{◌≡◌, ◌<◌, ◌≤◌, ◌+◌, List, [], 
 use Rattle.std.specs.List.{AllByRecursion}
 use Rattle.frame_core.specs.declared.frame.Frame.{Frame}
 use Rattle.frame_core.specs.declared.frame.Verb.{Verb}
-use Rattle.frame_core.specs.declared.partial.Stage.{Stage}
-use Rattle.frame_core.specs.declared.partial.Stage.TheVariants.{Command, HeaderLines, Body}
+use Rattle.frame_core.specs.declared.partial.Section.{Section}
+use Rattle.frame_core.specs.declared.partial.Section.TheVariants.{Command, HeaderLines, Body}
 use Rattle.frame_core.specs.declared.partial.Partial.{Partial}
 use Rattle.frame_core.specs.Heads.{IsInLine, Begins}
 use Rattle.frame_core.specs.Parts.{IsBoundedHead, Plans, IsPartOfBody}
@@ -17,28 +17,28 @@ pub record IsLine (head : List ℕ) (line : ℕ) (with_cr : Bool) (lines : List 
   pub each : AllByRecursion IsInLine part
   pub size : length head ≤ 8192
 
--- what is known of an unfinished frame at each stage
-abbrev pub IsAt : Stage → List ℕ → ℕ → Bool → List (List ℕ × List ℕ) → List ℕ → Type 0
+-- what is known of an unfinished frame at each section
+abbrev pub IsAt : Section → List ℕ → ℕ → Bool → List (List ℕ × List ℕ) → List ℕ → Type 0
 IsAt Command head line with_cr headers body = IsLine head line with_cr [] × (headers ≡ []) × (body ≡ [])
 IsAt (HeaderLines verb) head line with_cr headers body = (lines : List ℕ) × IsLine head line with_cr lines × Begins verb headers lines × (length headers ≤ 64) × (body ≡ [])
 IsAt (Body verb plan) head line with_cr headers body = IsBoundedHead verb headers head × Plans verb headers plan × IsPartOfBody verb plan body
 
--- the fields of an unfinished frame say what its bytes are, at a stage
-abbrev pub IsKeptAt : Stage → Partial → Type 0
-IsKeptAt stage p = IsAt stage p.head.items p.line p.with_cr p.headers.items p.body.items
+-- the fields of an unfinished frame say what its bytes are, at a section
+abbrev pub IsKeptAt : Section → Partial → Type 0
+IsKeptAt section p = IsAt section p.head.items p.line p.with_cr p.headers.items p.body.items
 
--- the fields of an unfinished frame say what its bytes are, at its stage
+-- the fields of an unfinished frame say what its bytes are, at its section
 abbrev pub IsKept : Partial → Type 0
-IsKept p = IsKeptAt p.stage p
+IsKept p = IsKeptAt p.section p
 
 -- its bytes
 abbrev pub bytes_of : Partial → List ℕ
 bytes_of p = p.head.items ++ p.body.items
 
 -- its head isn't whole
-abbrev pub IsInHead : Stage → Type 0
+abbrev pub IsInHead : Section → Type 0
 IsInHead (Body verb plan) = ⊥
-IsInHead stage = ⊤
+IsInHead section = ⊤
 
 -- With so many bytes of the piece the frames grow by those that they end, and the new unfinished frame is what is
 -- left of them.
@@ -58,8 +58,8 @@ pub record AdvancesHead (old new : Partial) (piece : List ℕ) (count : ℕ) : T
   pub kept : IsKept new
 
 -- the line is ended with its LF, and the next begins
-pub record IsNextLineOf (stage : Stage) (old new : Partial) : Type 0 where
-  pub stage_is : new.stage ≡ stage
+pub record IsNextLineOf (section : Section) (old new : Partial) : Type 0 where
+  pub section_is : new.section ≡ section
   pub head : new.head.items ≡ old.head.items ++ 10 ∷ []
   pub line : new.line ≡ length old.head.items + 1
   pub no_cr : new.with_cr ≡ false

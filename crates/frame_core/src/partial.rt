@@ -59,7 +59,7 @@ impl From<FrameFault> for Stop {
 
 /// How far an unfinished frame has come.
 #[derive(Clone, Copy)]
-pub(crate) enum Stage {
+pub(crate) enum Section {
     /// The command line isn't whole. Between two frames nothing of it is there, or the CR that may begin an EOL.
     Command,
     /// The command line is whole, and header lines or the empty line follow.
@@ -71,7 +71,7 @@ pub(crate) enum Stage {
 /// An unfinished frame. Its bytes are kept as they came, and each line of its head is read once, at its LF.
 #[derive(Drop)]
 pub(crate) struct Partial {
-    pub(crate) stage: Stage,
+    pub(crate) section: Section,
     /// The bytes of the head so far.
     pub(crate) head: Vec<u8>,
     /// Where in the head the unfinished line begins.
@@ -86,7 +86,7 @@ pub(crate) struct Partial {
 impl Partial {
     ghost use Rattle.std.specs.Prelude.{◌≡◌, ◌≢◌, ◌<◌, ◌≤◌, ◌+◌, ◌-◌, ◌++◌, ◌∷◌, [], ◌^◌, if◌then◌else◌, List, ℕ, Some, None, OnOk, IfOk, IfErr, length, min, take, true, false};
     ghost use Rattle.std.specs.List.{AllByRecursion};
-    ghost use Rattle.frame_core.specs.declared.partial.Stage.TheVariants.{Command, HeaderLines, Body};
+    ghost use Rattle.frame_core.specs.declared.partial.Section.TheVariants.{Command, HeaderLines, Body};
     ghost use Rattle.frame_core.specs.declared.partial.Stop.TheVariants.{Memory};
     ghost use Rattle.frame_core.specs.Streams.{Frames, Fails};
     ghost use Rattle.frame_core.specs.Faults.{Faulty};
@@ -99,7 +99,7 @@ impl Partial {
         ensures empty { bytes_of result ≡ [] }
     {
         Partial {
-            stage: Stage::Command,
+            section: Section::Command,
             head: Vec::new(alloc),
             line: 0,
             with_cr: false,
@@ -128,9 +128,9 @@ impl Partial {
         ensures fault { IfErr result (λ stop. IfFault stop (λ fault.
             (frames.new.items ≡ frames.old.items) × Fails (bytes_of self.old ++ piece.now) [] fault)) }
     {
-        match self.stage {
-            Stage::Body(verb, Some(n)) => self.take_counted(alloc, verb, n, frames, piece),
-            Stage::Body(verb, None) => self.take_to_nul(alloc, verb, frames, piece),
+        match self.section {
+            Section::Body(verb, Some(n)) => self.take_counted(alloc, verb, n, frames, piece),
+            Section::Body(verb, None) => self.take_to_nul(alloc, verb, frames, piece),
             _ => self.take_head(alloc, piece),
         }
     }
@@ -138,7 +138,7 @@ impl Partial {
     /// Takes bytes of a line up to its end, or a byte of its end.
     fn take_head(&mut self, alloc: Global, piece: &[u8]) -> Result<usize, Stop>
         requires some_byte { 0 < length piece.now }
-        requires in_head { IsInHead self.old.stage }
+        requires in_head { IsInHead self.old.section }
         requires kept { IsKept self.old }
         ensures ok { IfOk result (λ count. AdvancesHead self.old self.new piece.now count) }
         ensures fault { IfErr result (λ stop. IfFault stop (λ fault. Fails (bytes_of self.old ++ piece.now) [] fault)) }
@@ -157,7 +157,7 @@ impl Partial {
 
     /// Takes one byte of the head.
     fn take_byte(&mut self, alloc: Global, byte: u8) -> Result<(), Stop>
-        requires in_head { IsInHead self.old.stage }
+        requires in_head { IsInHead self.old.section }
         requires kept { IsKept self.old }
         ensures ok { OnOk result (Frames (bytes_of self.old ++ byte ∷ []) [] (bytes_of self.new) × IsKept self.new) }
         ensures fault { IfErr result (λ stop. IfFault stop (λ fault. Faulty fault (bytes_of self.old ++ byte ∷ []))) }
@@ -178,16 +178,16 @@ impl Partial {
 
     /// Takes the LF of a line.
     fn end_line(&mut self, alloc: Global) -> Result<(), Stop>
-        requires in_head { IsInHead self.old.stage }
+        requires in_head { IsInHead self.old.section }
         requires kept { IsKept self.old }
         requires room { length self.old.head.items < 8192 }
         ensures ok { OnOk result (Frames (bytes_of self.old ++ 10 ∷ []) [] (bytes_of self.new) × IsKept self.new) }
         ensures fault { IfErr result (λ stop. IfFault stop (λ fault. Faulty fault (bytes_of self.old ++ 10 ∷ []))) }
     {
-        match self.stage {
-            Stage::Command => self.end_command_line(),
-            Stage::HeaderLines(verb) => self.end_header_line(alloc, verb),
-            Stage::Body(..) => unreachable!(),
+        match self.section {
+            Section::Command => self.end_command_line(),
+            Section::HeaderLines(verb) => self.end_header_line(alloc, verb),
+            Section::Body(..) => unreachable!(),
         }
     }
 
@@ -201,7 +201,7 @@ impl Partial {
     /// Takes the LF of a command line, or of an EOL between two frames.
     fn end_command_line(&mut self) -> Result<(), Stop>
         requires kept { IsKeptAt Command self.old }
-        requires stage { self.old.stage ≡ Command }
+        requires section { self.old.section ≡ Command }
         requires room { length self.old.head.items < 8192 }
         ensures ok { OnOk result (Frames (bytes_of self.old ++ 10 ∷ []) [] (bytes_of self.new) × IsKept self.new) }
         ensures fault { IfErr result (λ stop. IfFault stop (λ fault. Faulty fault (bytes_of self.old ++ 10 ∷ []))) }
@@ -213,7 +213,7 @@ impl Partial {
             return Ok(());
         }
         let verb = verb_of(&self.head[self.line..end])?;
-        self.next_line(Stage::HeaderLines(verb))
+        self.next_line(Section::HeaderLines(verb))
     }
 
     /// Takes the LF of a header line or of the empty line.
@@ -229,7 +229,7 @@ impl Partial {
         let end = self.text_end();
         if end == self.line {
             let plan = body_plan(verb, self.headers.as_slice())?;
-            return self.next_line(Stage::Body(verb, plan));
+            return self.next_line(Section::Body(verb, plan));
         }
         if self.headers.len() == MAX_HEADERS {
             // One header too many is refused in this way, or for what is wrong with it.
@@ -238,19 +238,19 @@ impl Partial {
         }
         let header = header_of(alloc, verb, &self.head[self.line..end])?;
         self.headers.push(header)?;
-        self.next_line(Stage::HeaderLines(verb))
+        self.next_line(Section::HeaderLines(verb))
     }
 
     /// Ends the line with its LF, and begins the next.
-    fn next_line(&mut self, stage: Stage) -> Result<(), Stop>
+    fn next_line(&mut self, section: Section) -> Result<(), Stop>
         requires { length self.old.head.items < 8192 }
-        ensures ok { OnOk result (IsNextLineOf stage self.old self.new) }
+        ensures ok { OnOk result (IsNextLineOf section self.old self.new) }
         ensures fault { IfErr result (λ stop. stop ≡ Memory) }
     {
         self.line = self.head.len() + 1;
         self.head.push(b'\n')?;
         self.with_cr = false;
-        self.stage = stage;
+        self.section = section;
         Ok(())
     }
 
@@ -264,7 +264,7 @@ impl Partial {
         piece: &[u8],
     ) -> Result<usize, Stop>
         requires some_byte { 0 < length piece.now }
-        requires stage { self.old.stage ≡ Body verb (Some announced) }
+        requires section { self.old.section ≡ Body verb (Some announced) }
         requires kept { IsKeptAt (Body verb (Some announced)) self.old }
         ensures ok { IfOk result (λ count. Advances self.old self.new frames.old.items frames.new.items piece.now count) }
         ensures fault { IfErr result (λ stop. IfFault stop (λ fault.
@@ -292,7 +292,7 @@ impl Partial {
         piece: &[u8],
     ) -> Result<usize, Stop>
         requires some_byte { 0 < length piece.now }
-        requires stage { self.old.stage ≡ Body verb None }
+        requires section { self.old.section ≡ Body verb None }
         requires kept { IsKeptAt (Body verb None) self.old }
         ensures ok { IfOk result (λ count. Advances self.old self.new frames.old.items frames.new.items piece.now count) }
         ensures fault { IfErr result (λ stop. IfFault stop (λ fault.
@@ -330,7 +330,7 @@ impl Partial {
         self.head.clear();
         self.line = 0;
         self.with_cr = false;
-        self.stage = Stage::Command;
+        self.section = Section::Command;
         Ok(())
     }
 }

@@ -5,7 +5,7 @@ ghost use Rattle.std.specs.Prelude.{◌≡◌, [], IfOk, false};
 use crate::bell::Bell;
 use crate::crowding::Crowding;
 use crate::open_end::{CREDITS, OpenEnd};
-use crate::sender::{End, OutSender};
+use crate::sender::{BoxEnd, OutSender};
 use crate::size::BoxSize;
 use crate::taker::OutTaker;
 use rtrb::RingBuffer;
@@ -37,7 +37,7 @@ pub fn outbox<B: Bell>(
         given,
     };
     let sender = OutSender {
-        end: End::Open(open),
+        end: BoxEnd::Open(open),
         bell,
         noted_in: 0,
         crowding: Crowding::none(),

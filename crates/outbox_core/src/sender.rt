@@ -15,21 +15,21 @@ use std::mem::replace;
 
 // The open end; once the box is cut, what is left of it, or nothing if the taker was gone by then.
 #[derive(Drop)]
-pub(crate) enum End {
+pub(crate) enum BoxEnd {
     Open(OpenEnd),
     Cut(Finished),
     Gone,
 }
 
-impl End {
+impl BoxEnd {
     // Drops the end, so that the taker learns of it.
-    fn cut(self) -> End
+    fn cut(self) -> BoxEnd
         ensures { CutsOff (sender_value self) (sender_value result) }
     {
         match self {
-            End::Open(open) => match open.finish() {
-                Some(finished) => End::Cut(finished),
-                None => End::Gone,
+            BoxEnd::Open(open) => match open.finish() {
+                Some(finished) => BoxEnd::Cut(finished),
+                None => BoxEnd::Gone,
             },
             cut => cut,
         }
@@ -41,7 +41,7 @@ impl End {
 ///
 /// It can move to another thread. If it is dropped, it ends the box and rings.
 pub struct OutSender<B: Bell> {
-    pub(crate) end: End,
+    pub(crate) end: BoxEnd,
     pub(crate) bell: B,
     // The round of outputs in which the box was noted last, so that it is rung once a round.
     pub(crate) noted_in: u64,
@@ -83,8 +83,8 @@ impl<B: Bell> OutSender<B> {
         ensures { result ≡ self.now.cut }
     {
         match &self.end {
-            End::Open(_) => false,
-            End::Cut(_) | End::Gone => true,
+            BoxEnd::Open(_) => false,
+            BoxEnd::Cut(_) | BoxEnd::Gone => true,
         }
     }
 
@@ -94,13 +94,13 @@ impl<B: Bell> OutSender<B> {
         ensures full { IfErr result (λ _. (self.old.cut ≡ true) ⊎ Overfill self.old.size (self.old.given ++ out ∷ [])) }
         ensures back { IfErr result (λ same. (same ≡ out) × CutsOff self.old self.new) }
     {
-        let End::Open(open) = &mut self.end else {
+        let BoxEnd::Open(open) = &mut self.end else {
             return Err(out);
         };
         let put = open.put(out);
         self.crowding.give();
         if put.is_err() {
-            self.end = replace(&mut self.end, End::Gone).cut();
+            self.end = replace(&mut self.end, BoxEnd::Gone).cut();
         }
         put
     }
@@ -109,7 +109,7 @@ impl<B: Bell> OutSender<B> {
     pub(crate) fn is_over_half(&mut self) -> bool
         ensures { self.new ≡ self.old }
     {
-        let End::Open(open) = &mut self.end else {
+        let BoxEnd::Open(open) = &mut self.end else {
             return false;
         };
         let room = open.room();
@@ -120,7 +120,7 @@ impl<B: Bell> OutSender<B> {
     pub(crate) fn is_waited_for(&mut self) -> bool
         ensures { self.new ≡ self.old }
     {
-        let End::Open(open) = &mut self.end else {
+        let BoxEnd::Open(open) = &mut self.end else {
             return false;
         };
         let room = open.room();
@@ -156,8 +156,8 @@ impl<B: Bell> OutSender<B> {
             crowding: _,
         } = self;
         let finished = match end {
-            End::Open(open) => open.finish(),
-            End::Cut(_) | End::Gone => None,
+            BoxEnd::Open(open) => open.finish(),
+            BoxEnd::Cut(_) | BoxEnd::Gone => None,
         };
         bell.ring();
         finished

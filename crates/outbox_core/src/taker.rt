@@ -7,7 +7,7 @@ ghost use Rattle.outbox_core.specs.Weights.{Fits, most_waiting};
 
 use crate::bell::Bell;
 use crate::finished::Finished;
-use crate::sender::{End, OutSender};
+use crate::sender::{BoxEnd, OutSender};
 use crate::size::OUTPUT_BYTES;
 use command_core::Out;
 use rtrb::{Consumer, Producer};
@@ -128,11 +128,11 @@ impl OutTaker {
         ensures sender { sender.new ≡ sender.old }
     {
         match &mut sender.end {
-            End::Open(open) => {
+            BoxEnd::Open(open) => {
                 open.credits.slots_beside(&mut self.credits);
                 self.outputs.slots_beside(&mut open.outputs)
             }
-            End::Cut(_) | End::Gone => unreachable!(),
+            BoxEnd::Cut(_) | BoxEnd::Gone => unreachable!(),
         }
     }
 

@@ -175,10 +175,10 @@ fn subscriptions_len(broker: &Broker) -> u64
     let mut total: u64 = 4;
     let subs = broker.subscriptions_by_key();
     for at in 0..subs.len() {
-        let Some((_key, standing)) = subs.get_index(at) else {
+        let Some((_key, waiter)) = subs.get_index(at) else {
             unreachable!()
         };
-        total = total.saturating_add(subscription_len(&standing.sub));
+        total = total.saturating_add(subscription_len(&waiter.sub));
     }
     total
 }

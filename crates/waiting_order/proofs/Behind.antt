@@ -7,7 +7,7 @@ use Rattle.broker_state.specs.Lists.{changed, is_none}
 use Rattle.broker_state.proofs.Weights.{sum_by-changed, sum_by-part, sum_by-removed}
 use Rattle.waiting_order.specs.Directories.{behind_in, is_behind, is_in, members, place_of}
 use Rattle.waiting_order.specs.Groups.{one}
-use Rattle.waiting_order.specs.declared.standing.Standing.{Standing}
+use Rattle.waiting_order.specs.declared.waiter.Waiter.{Waiter}
 use Rattle.waiting_order.proofs.Timed.{W}
 
 pub eq_is : (a b : ℕ) → (a == b) ≡ true → a ≡ b
@@ -61,7 +61,7 @@ module _ (group : ℕ) where
       no_more n m l false c it rest = omega (arith, it, rest)
 
 -- and no more than the waiters
-pub few_members : (p : Standing → Bool) (ws : List W) → length (members p ws) ≤ length ws
+pub few_members : (p : Waiter → Bool) (ws : List W) → length (members p ws) ≤ length ws
 few_members p [] = omega arith
 few_members p (w ∷ ws) =
     let rest = few_members p ws in

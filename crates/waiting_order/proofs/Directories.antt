@@ -21,7 +21,7 @@ use Rattle.broker_state.proofs.Lookups.{is_equal}
 use Rattle.broker_state.proofs.Weights.{all_at, all_removed}
 use Rattle.waiting_order.specs.declared.group.Group.{Group}
 use Rattle.waiting_order.specs.declared.places.Place.{Place}
-use Rattle.waiting_order.specs.declared.standing.Standing.{Standing}
+use Rattle.waiting_order.specs.declared.waiter.Waiter.{Waiter}
 use Rattle.waiting_order.specs.Directories.{AreFilled, AreOfGroup, IsGroup, IsIndex, behind_in, group_at, grouped, is_behind, is_in, is_plain_at, members, place_of}
 use Rattle.waiting_order.specs.Groups.{HasHandle, HasNone, OthersStay, grown, one, shrunk}
 use Rattle.waiting_order.specs.Tickets.{IsRising, without}
@@ -50,7 +50,7 @@ some_first : {X : Type 0} (xs : List X) → is_none xs ≡ false → (x : X) × 
 some_first [] some = absurd cc
 some_first (x ∷ xs) some = (x, refl)
 
-pub somebody : (p : Standing → Bool) (ws : List W) → is_none (members p ws) ≡ false → (place : Place) × IsMember p ws place
+pub somebody : (p : Waiter → Bool) (ws : List W) → is_none (members p ws) ≡ false → (place : Place) × IsMember p ws place
 somebody p ws some =
     let first = some_first (members p ws) some in
     (first.0, member_at p ws first.0 0 first.1)
@@ -131,14 +131,14 @@ module _ {K : Type 0} (cmp : K → K → Ordering) (same : AreSame cmp) (itself 
 
   -- nobody of that group is under the key
   abbrev Strange : ℕ → K → Type 0
-  Strange group q = (place : Place) (m : IsMember (is_in group) ws place) → has q m.waiter.1.sub ≡ false
+  Strange group q = (place : Place) (m : IsMember (is_in group) ws place) → has q m.entry.1.sub ≡ false
 
   apart : (group : ℕ) (q : K) → Strange group q → (h : ℕ) → AreOfGroup (has q) ws h → h ≡ group → ⊥
   apart group q strange h it is =
       let some = somebody (is_in h) ws it.some in
       let m = subst (λ g. IsMember (is_in g) ws some.0) is some.1 in
-      let passes : has q m.waiter.1.sub ≡ true = all_at (λ (v : W). has q v.1.sub ≡ is_in h v.1) ws m.at m.waiter m.there it.alike ∙ ap (λ g. is_in g m.waiter.1) is ∙ m.passes in
-      clash (has q m.waiter.1.sub) passes (strange some.0 m)
+      let passes : has q m.entry.1.sub ≡ true = all_at (λ (v : W). has q v.1.sub ≡ is_in h v.1) ws m.at m.entry m.there it.alike ∙ ap (λ g. is_in g m.entry.1) is ∙ m.passes in
+      clash (has q m.entry.1.sub) passes (strange some.0 m)
 
   -- a waiter of that group joins, and is not under the key
   pub beside_one : (q : K) (w : W) (group : ℕ) → w.1.group ≡ group → has q w.1.sub ≡ false → Strange group q → IsGroup (has q) (ws ++ w ∷ []) (lookup (is_at (cmp q)) old)
@@ -162,16 +162,16 @@ module _ {K : Type 0} (cmp : K → K → Ordering) (same : AreSame cmp) (itself 
           group_begun (has q) ws w group (subst (IsGroup (has q) ws) (ap (λ k. lookup (is_at (cmp k)) old) key_is ∙ new.0) (index q)) new.1 (keyed q ∙ is) (in_group group w inside)
 
       strange : ((lookup (is_at (cmp key)) old ≡ Some group) ⊎ ((lookup (is_at (cmp key)) old ≡ None) × (members (is_in group) ws ≡ []))) → is_at (cmp q) key ≡ false → Strange group q
-      strange (inl there) other place m = other_key (has q m.waiter.1.sub) refl
+      strange (inl there) other place m = other_key (has q m.entry.1.sub) refl
         where
-          other_key : (b : Bool) → has q m.waiter.1.sub ≡ b → has q m.waiter.1.sub ≡ false
+          other_key : (b : Bool) → has q m.entry.1.sub ≡ b → has q m.entry.1.sub ≡ false
           other_key true is =
               let it = subst (IsGroup (has key) ws) there (index key) in
-              let passes : has key m.waiter.1.sub ≡ true = all_at (λ (v : W). has key v.1.sub ≡ is_in group v.1) ws m.at m.waiter m.there it.alike ∙ m.passes in
-              absurd (clash (is_at (cmp q) key) (subst (λ k. is_at (cmp q) k ≡ true) (sole q key m.waiter.1.sub is passes) (itself q)) other)
+              let passes : has key m.entry.1.sub ≡ true = all_at (λ (v : W). has key v.1.sub ≡ is_in group v.1) ws m.at m.entry m.there it.alike ∙ m.passes in
+              absurd (clash (is_at (cmp q) key) (subst (λ k. is_at (cmp q) k ≡ true) (sole q key m.entry.1.sub is passes) (itself q)) other)
           other_key false is = is
       strange (inr new) other place m =
-          absurd (clash (is_in group m.waiter.1) m.passes (all_at (λ (v : W). is_in group v.1 ≡ false) ws m.at m.waiter m.there (none_members (is_in group) ws new.1)))
+          absurd (clash (is_in group m.entry.1) m.passes (all_at (λ (v : W). is_in group v.1 ≡ false) ws m.at m.entry m.there (none_members (is_in group) ws new.1)))
 
       by : (b : Bool) → is_at (cmp q) key ≡ b → IsGroup (has q) (ws ++ w ∷ []) (lookup (is_at (cmp q)) new)
       by true is =
@@ -375,12 +375,12 @@ module _ (old : Slab Group) (ws : List W) (groups : (g : ℕ) → group_at old g
   joined_here o (inl there) = inl there
   joined_here o (inr new) = inr (new.0, nobody_there new.1)
 
-  pub joined_strange : {K : Type 0} (passes : Subscription → Bool) (has : K → Subscription → Bool) → ((q : K) (sub : Subscription) → passes sub ≡ true → has q sub ≡ false) → (o : Option ℕ) → IsGroup passes ws o → ((o ≡ Some group) ⊎ ((o ≡ None) × (get old group ≡ None))) → (q : K) → (place : Place) (m : IsMember (is_in group) ws place) → has q m.waiter.1.sub ≡ false
+  pub joined_strange : {K : Type 0} (passes : Subscription → Bool) (has : K → Subscription → Bool) → ((q : K) (sub : Subscription) → passes sub ≡ true → has q sub ≡ false) → (o : Option ℕ) → IsGroup passes ws o → ((o ≡ Some group) ⊎ ((o ≡ None) × (get old group ≡ None))) → (q : K) → (place : Place) (m : IsMember (is_in group) ws place) → has q m.entry.1.sub ≡ false
   joined_strange passes has never o it (inl there) q place m =
       let of = subst (IsGroup passes ws) there it in
-      never q m.waiter.1.sub (all_at (λ (v : W). passes v.1.sub ≡ is_in group v.1) ws m.at m.waiter m.there of.alike ∙ m.passes)
+      never q m.entry.1.sub (all_at (λ (v : W). passes v.1.sub ≡ is_in group v.1) ws m.at m.entry m.there of.alike ∙ m.passes)
   joined_strange passes has never o it (inr new) q place m =
-      absurd (clash (is_in group m.waiter.1) m.passes (all_at (λ (v : W). is_in group v.1 ≡ false) ws m.at m.waiter m.there (none_members (is_in group) ws (nobody_there new.1))))
+      absurd (clash (is_in group m.entry.1) m.passes (all_at (λ (v : W). is_in group v.1 ≡ false) ws m.at m.entry m.there (none_members (is_in group) ws (nobody_there new.1))))
 
 -- No group is empty.
 module _ (old new : Slab Group) (group : ℕ) (others : OthersStay old new group) (filled : AreFilled old) where

@@ -13,7 +13,7 @@ use Rattle.broker_state.specs.Names.{Name, name_cmp, text_cmp}
 use Rattle.broker_state.specs.Operations.{uses}
 use Rattle.waiting_order.specs.declared.directory.Directory.{Directory}
 use Rattle.waiting_order.specs.declared.places.Place.{Place}
-use Rattle.waiting_order.specs.declared.standing.Standing.{Standing}
+use Rattle.waiting_order.specs.declared.waiter.Waiter.{Waiter}
 use Rattle.waiting_order.specs.Directories.{AreAlike, AreFilled, AreFound, GroupsAreAlike, IsGroup, IsSlotted, KeepsPlace, KeepsPlaces, behind_in, group_at, grouped, is_behind, is_in, is_plain_at, members, place_of}
 use Rattle.waiting_order.specs.Keeping.{put_in, put_into, put_where}
 use Rattle.waiting_order.specs.Waiting.{subs_of}
@@ -62,7 +62,7 @@ kept_at (x ∷ ws) (v ∷ vs) zero w kept is =
     (v, refl, kept.0.key ∙ ap (λ (y : W). y.0) (same_Some x w is))
 kept_at (x ∷ ws) (v ∷ vs) (suc i) w kept is = kept_at ws vs i w kept.1 is
 
-module _ (p : Standing → Bool) (alike : (w v : W) → KeepsPlace w v → p v.1 ≡ p w.1) where
+module _ (p : Waiter → Bool) (alike : (w v : W) → KeepsPlace w v → p v.1 ≡ p w.1) where
   pub members_kept : (ws vs : List W) → KeepsPlaces ws vs → members p vs ≡ members p ws
   members_kept [] [] kept = refl
   members_kept [] (v ∷ vs) kept = absurd kept
@@ -124,19 +124,19 @@ found_kept d ws vs kept behind found =
     ∙ ap (λ n. record { places = members (is_in group) vs; behind = n }) (sym (behind group))) found
 
 -- a message that is put into the own lines of the first ones that pass
-abbrev pub put_first : ℕ → (Standing → Bool) → Message → List W → List W
+abbrev pub put_first : ℕ → (Waiter → Bool) → Message → List W → List W
 put_first zero p m ws = ws
 put_first (suc n) p m [] = []
 put_first (suc n) p m (w ∷ ws) = if p w.1 then put_into m w ∷ put_first n p m ws else w ∷ put_first (suc n) p m ws
 
-module _ (p : Standing → Bool) (m : Message) where
+module _ (p : Waiter → Bool) (m : Message) where
   -- the next one that passes
   pub record IsPutNext (i : ℕ) (ws : List W) (place : Place) : Type 0 where
     pub at : ℕ
-    pub waiter : W
-    pub is : place_of waiter ≡ place
-    pub passes : p waiter.1 ≡ true
-    pub there : slice_get (put_first i p m ws) at ≡ Some waiter
+    pub entry : W
+    pub is : place_of entry ≡ place
+    pub passes : p entry.1 ≡ true
+    pub there : slice_get (put_first i p m ws) at ≡ Some entry
     pub more : changed at (put_into m) (put_first i p m ws) ≡ put_first (suc i) p m ws
 
   pub put_next : (ws : List W) (i : ℕ) (place : Place) → slice_get (members p ws) i ≡ Some place → IsPutNext i ws place
@@ -146,7 +146,7 @@ module _ (p : Standing → Bool) (m : Message) where
       by : (b : Bool) → p w.1 ≡ b → (i : ℕ) → slice_get (cond b (place_of w ∷ members p ws) (members p ws)) i ≡ Some place → ((j : ℕ) → slice_get (members p ws) j ≡ Some place → IsPutNext j ws place) → IsPutNext i (w ∷ ws) place
       by true passes zero is rest = record {
         at = 0;
-        waiter = w;
+        entry = w;
         is = same_Some (place_of w) place is;
         passes = passes;
         there = refl;
@@ -157,7 +157,7 @@ module _ (p : Standing → Bool) (m : Message) where
           let now = ap (λ b. cond b (put_into m w ∷ put_first j p m ws) (w ∷ put_first (suc j) p m ws)) passes in
           record {
             at = suc r.at;
-            waiter = r.waiter;
+            entry = r.entry;
             is = r.is;
             passes = r.passes;
             there = ap (λ l. slice_get l (suc r.at)) now ∙ r.there;
@@ -167,7 +167,7 @@ module _ (p : Standing → Bool) (m : Message) where
           let r = rest 0 is in
           record {
             at = suc r.at;
-            waiter = r.waiter;
+            entry = r.entry;
             is = r.is;
             passes = r.passes;
             there = r.there;
@@ -178,7 +178,7 @@ module _ (p : Standing → Bool) (m : Message) where
           let now = ap (λ b. cond b (put_into m w ∷ put_first j p m ws) (w ∷ put_first (suc j) p m ws)) fails in
           record {
             at = suc r.at;
-            waiter = r.waiter;
+            entry = r.entry;
             is = r.is;
             passes = r.passes;
             there = ap (λ l. slice_get l (suc r.at)) now ∙ r.there;
@@ -318,9 +318,9 @@ put_nowhere passes m (w ∷ ws) all =
 -- how many pass, by their group
 pub counted_by : (passes : Subscription → Bool) (ws : List W) (o : Option ℕ) (n : ℕ) → IsGroup passes ws o → ((group : ℕ) → o ≡ Some group → n ≡ length (members (is_in group) ws)) → (o ≡ None → n ≡ 0) → n ≡ count_by passes (subs_of ws)
 counted_by passes ws None n none some zero_is =
-    zero_is refl ∙ sym (ap length (members_none (λ (s : Standing). passes s.sub) ws none)) ∙ count_members passes ws
+    zero_is refl ∙ sym (ap length (members_none (λ (s : Waiter). passes s.sub) ws none)) ∙ count_members passes ws
 counted_by passes ws (Some group) n it some zero_is =
-    some group refl ∙ ap length (sym (members_alike (λ (s : Standing). passes s.sub) (is_in group) ws it.alike)) ∙ count_members passes ws
+    some group refl ∙ ap length (sym (members_alike (λ (s : Waiter). passes s.sub) (is_in group) ws it.alike)) ∙ count_members passes ws
 
 -- those of one group are alike
 pub groups_alike : (d : Directory) (ws : List W) → AreFound d ws → GroupsAreAlike ws

@@ -8,7 +8,7 @@ use Rattle.broker_state.proofs.Weights.{all_at}
 use Rattle.broker_state.specs.declared.subscription.Subscription.{Subscription}
 use Rattle.broker_state.specs.Lists.{changed}
 use Rattle.waiting_order.specs.declared.places.Place.{Place}
-use Rattle.waiting_order.specs.declared.standing.Standing.{Standing}
+use Rattle.waiting_order.specs.declared.waiter.Waiter.{Waiter}
 use Rattle.waiting_order.specs.Directories.{IsNext, NoneFrom, members, place_of}
 use Rattle.waiting_order.specs.Tickets.{IsIndexOf, IsRising, without}
 use Rattle.waiting_order.specs.Waiting.{subs_of}
@@ -16,26 +16,26 @@ use Rattle.waiting_order.proofs.Rising.{rising_at, rising_from, ticket, without_
 use Rattle.waiting_order.proofs.Timed.{W, ticket_of}
 
 -- there are as many members as subscriptions that pass
-pub count_members : (p : Subscription → Bool) (ws : List W) → length (members (λ (s : Standing). p s.sub) ws) ≡ count_by p (subs_of ws)
+pub count_members : (p : Subscription → Bool) (ws : List W) → length (members (λ (s : Waiter). p s.sub) ws) ≡ count_by p (subs_of ws)
 count_members p [] = refl
 count_members p (w ∷ ws) =
     let rest = count_members p ws in
     let counted = sum_by-cons (λ (y : Subscription). cond (p y) 1 0) w.1.sub (subs_of ws) in
-    let left = members (λ (s : Standing). p s.sub) ws in
+    let left = members (λ (s : Waiter). p s.sub) ws in
     (elim (p w.1.sub) as (λ b. length (cond b (place_of w ∷ left) left) ≡ cond b 1 0 + count_by p (subs_of ws)) [ true ↦ omega (arith, rest) | false ↦ omega (arith, rest) ]) ∙ sym counted
 
 -- those who pass are the same for both
-pub members_alike : (p q : Standing → Bool) (ws : List W) → AllByRecursion (λ w. p w.1 ≡ q w.1) ws → members p ws ≡ members q ws
+pub members_alike : (p q : Waiter → Bool) (ws : List W) → AllByRecursion (λ w. p w.1 ≡ q w.1) ws → members p ws ≡ members q ws
 members_alike p q [] all = refl
 members_alike p q (w ∷ ws) all =
     ap (λ b. cond b (place_of w ∷ members p ws) (members p ws)) all.0 ∙ ap (λ l. cond (q w.1) (place_of w ∷ l) l) (members_alike p q ws all.1)
 
 -- nobody passes
-pub members_none : (p : Standing → Bool) (ws : List W) → AllByRecursion (λ w. p w.1 ≡ false) ws → members p ws ≡ []
+pub members_none : (p : Waiter → Bool) (ws : List W) → AllByRecursion (λ w. p w.1 ≡ false) ws → members p ws ≡ []
 members_none p [] all = refl
 members_none p (w ∷ ws) all = ap (λ b. cond b (place_of w ∷ members p ws) (members p ws)) all.0 ∙ members_none p ws all.1
 
-pub none_members : (p : Standing → Bool) (ws : List W) → members p ws ≡ [] → AllByRecursion (λ w. p w.1 ≡ false) ws
+pub none_members : (p : Waiter → Bool) (ws : List W) → members p ws ≡ [] → AllByRecursion (λ w. p w.1 ≡ false) ws
 none_members p [] none = tt
 none_members p (w ∷ ws) none = by (p w.1) refl none (λ rest. none_members p ws rest)
   where
@@ -44,14 +44,14 @@ none_members p (w ∷ ws) none = by (p w.1) refl none (λ rest. none_members p w
     by false is none rest = (is, rest none)
 
 -- a waiter that passes is at that place
-pub record IsMember (p : Standing → Bool) (ws : List W) (place : Place) : Type 0 where
+pub record IsMember (p : Waiter → Bool) (ws : List W) (place : Place) : Type 0 where
   pub at : ℕ
-  pub waiter : W
-  pub there : slice_get ws at ≡ Some waiter
-  pub is : place_of waiter ≡ place
-  pub passes : p waiter.1 ≡ true
+  pub entry : W
+  pub there : slice_get ws at ≡ Some entry
+  pub is : place_of entry ≡ place
+  pub passes : p entry.1 ≡ true
 
-module _ (p : Standing → Bool) where
+module _ (p : Waiter → Bool) where
   pub among_at : (ws : List W) (i : ℕ) (w : W) → slice_get ws i ≡ Some w → p w.1 ≡ true → (j : ℕ) × (slice_get (members p ws) j ≡ Some (place_of w))
   among_at [] i w there passes = absurd (none-some w there)
   among_at (v ∷ ws) zero w there passes =
@@ -63,11 +63,11 @@ module _ (p : Standing → Bool) where
 
   later : (v : W) (ws : List W) (place : Place) → IsMember p ws place → IsMember p (v ∷ ws) place
   later v ws place m =
-      record { at = suc m.at; waiter = m.waiter; there = m.there; is = m.is; passes = m.passes }
+      record { at = suc m.at; entry = m.entry; there = m.there; is = m.is; passes = m.passes }
 
   member_by : (v : W) (ws : List W) (place : Place) → ((k : ℕ) → slice_get (members p ws) k ≡ Some place → IsMember p ws place) → (b : Bool) → p v.1 ≡ b → (k : ℕ) → slice_get (cond b (place_of v ∷ members p ws) (members p ws)) k ≡ Some place → IsMember p (v ∷ ws) place
   member_by v ws place rest true passes zero is =
-      record { at = 0; waiter = v; there = refl; is = same_Some (place_of v) place is; passes = passes }
+      record { at = 0; entry = v; there = refl; is = same_Some (place_of v) place is; passes = passes }
   member_by v ws place rest true passes (suc k) is = later v ws place (rest k is)
   member_by v ws place rest false passes k is = later v ws place (rest k is)
 
@@ -169,17 +169,17 @@ module _ (p : Standing → Bool) where
         past (suc at) (x ∷ ps) (suc j) q none some more = past at ps j q none some (omega (arith, more))
     next_in_members (Some q) is =
         let m = member_at ws q at (sym is) in
-        let ticket_is : m.waiter.1.ticket ≡ q.ticket = ap ticket m.is in
+        let ticket_is : m.entry.1.ticket ≡ q.ticket = ap ticket m.is in
         record {
           at = m.at;
-          standing = m.waiter.1;
-          there = m.there ∙ ap (λ (x : Place). Some (x.key, m.waiter.1)) m.is;
+          waiter = m.entry.1;
+          there = m.there ∙ ap (λ (x : Place). Some (x.key, m.entry.1)) m.is;
           ticket = ticket_is;
           after = index.over at q (sym is) (omega arith);
           passing = m.passes;
           before = λ i w there after less. fails w (λ passes.
               let n = among_at ws i w there passes in
-              let low : ticket_of w < ticket_of m.waiter = rising_at ticket_of ws i m.at w m.waiter rising there m.there less in
+              let low : ticket_of w < ticket_of m.entry = rising_at ticket_of ws i m.at w m.entry rising there m.there less in
               elim (cases_lt n.0 at) [
                 | inl under ↦ omega (arith, after, index.under n.0 (place_of w) n.1 under)
                 | inr over ↦ omega (arith, low, ticket_is, rising_from ticket (members p ws) at n.0 q (place_of w) (rising_members ws rising) (sym is) n.1 over)

@@ -5,7 +5,7 @@ use Rattle.line_core.specs.declared.message.Message.{Message}
 use Rattle.broker_state.specs.Lists.{changed, is_none}
 use Rattle.waiting_order.specs.declared.group.Group.{Group}
 use Rattle.waiting_order.specs.declared.places.Place.{Place}
-use Rattle.waiting_order.specs.declared.standing.Standing.{Standing}
+use Rattle.waiting_order.specs.declared.waiter.Waiter.{Waiter}
 use Rattle.waiting_order.specs.Directories.{KeepsPlaces, behind_in, grouped, is_behind, is_in, members}
 use Rattle.waiting_order.specs.Groups.{one}
 use Rattle.waiting_order.specs.Keeping.{put_into}
@@ -17,9 +17,9 @@ use Rattle.waiting_order.proofs.Timed.{W}
 -- The next one of a group that gets the message: who it is, and what all are then.
 pub record Next (handle : ℕ) (m : Message) (old mid : Waiting) (at : ℕ) (place : Place) : Type 0 where
   pub n : ℕ
-  pub standing : Standing
-  pub there : slice_get mid.all n ≡ Some (place.key, standing)
-  pub inside : is_in handle standing ≡ true
+  pub waiter : Waiter
+  pub there : slice_get mid.all n ≡ Some (place.key, waiter)
+  pub inside : is_in handle waiter ≡ true
   pub more : record mid { all = changed n (put_into m) mid.all } ≡ record old { all = put_first (at + 1) (is_in handle) m old.all }
 
 pub next_put : (handle : ℕ) (m : Message) (old mid : Waiting) (at : ℕ) (place : Place) → slice_get (members (is_in handle) old.all) at ≡ Some place → mid ≡ record old { all = put_first at (is_in handle) m old.all } → Next handle m old mid at place
@@ -28,8 +28,8 @@ next_put handle m old mid at place is was =
     let more : suc at ≡ at + 1 = omega arith in
     record {
       n = n.at;
-      standing = n.waiter.1;
-      there = ap (λ (o : Waiting). slice_get o.all n.at) was ∙ n.there ∙ ap (λ (q : Place). Some (q.key, n.waiter.1)) n.is;
+      waiter = n.entry.1;
+      there = ap (λ (o : Waiting). slice_get o.all n.at) was ∙ n.there ∙ ap (λ (q : Place). Some (q.key, n.entry.1)) n.is;
       inside = n.passes;
       more = ap (λ (o : Waiting). record o { all = changed n.at (put_into m) o.all }) was ∙ ap (λ (l : List W). record old { all = l }) (n.more ∙ ap (λ (k : ℕ). put_first k (is_in handle) m old.all) more);
     }
@@ -39,7 +39,7 @@ module _ (m : Message) (mid : List W) (n : ℕ) (w : W) (there : slice_get mid n
   after = changed n (put_into m) mid
 
   pub kept_after : KeepsPlaces mid after
-  kept_after = kept_changed (put_into m) (keeps_put (λ (s : Standing). true) m) mid n
+  kept_after = kept_changed (put_into m) (keeps_put (λ (s : Waiter). true) m) mid n
 
   members_after : (group : ℕ) → members (is_in group) after ≡ members (is_in group) mid
   members_after group = members_kept (is_in group) (in_kept group) mid after kept_after

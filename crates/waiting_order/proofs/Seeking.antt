@@ -10,7 +10,7 @@ use Rattle.broker_state.specs.Operations.{is_of}
 use Rattle.waiting_order.specs.declared.key.Key.{Key}
 use Rattle.waiting_order.specs.declared.places.Place.{Place}
 use Rattle.waiting_order.specs.declared.sought.Sought.{Sought}
-use Rattle.waiting_order.specs.declared.standing.Standing.{Standing}
+use Rattle.waiting_order.specs.declared.waiter.Waiter.{Waiter}
 use Rattle.waiting_order.specs.Directories.{IsNext, IsSlotted}
 use Rattle.waiting_order.specs.Keys.{key_eq}
 use Rattle.waiting_order.specs.Soughts.{IsSeen, IsSeenAt, is_sought, is_sought_of, sooner}
@@ -161,12 +161,12 @@ module _ (o : Waiting) (order : IsOrdered o) where
   pub few_of : AllByRecursion IsSlotted o.all → (session : ℕ) → count_by (is_of session) (subs_of o.all) ≤ 16
   few_of slots session = omega (arith, total_few session 16, total_all session o.all slots)
 
-  pub one_there : (key : Key) (at : ℕ) (s : Standing) → slice_get o.all at ≡ Some (key, s) → count_by (λ (v : W). key_eq key v.0) o.all ≡ 1
+  pub one_there : (key : Key) (at : ℕ) (s : Waiter) → slice_get o.all at ≡ Some (key, s) → count_by (λ (v : W). key_eq key v.0) o.all ≡ 1
   one_there key at s is =
       one_at key o.all at (key, s) is (key_itself key) (λ j v there same. sym (order.apart at j (key, s) v is there same))
 
   -- at a key stands one
-  pub same_there : (key : Key) (i j : ℕ) (s t : Standing) → slice_get o.all i ≡ Some (key, s) → slice_get o.all j ≡ Some (key, t) → s ≡ t
+  pub same_there : (key : Key) (i j : ℕ) (s t : Waiter) → slice_get o.all i ≡ Some (key, s) → slice_get o.all j ≡ Some (key, t) → s ≡ t
   same_there key i j s t at_i at_j =
       let place = order.apart i j (key, s) (key, t) at_i at_j (key_itself key) in
       ap (λ (w : W). w.1) (same_Some (key, s) (key, t) (sym at_i ∙ ap (slice_get o.all) place ∙ at_j))
@@ -238,8 +238,8 @@ module _ (o : Waiting) (order : IsOrdered o) where
         at_it i w is key after passes None none =
             absurd (clash (is_sought sought w.1.sub) passes (none i w.1 (is ∙ ap (λ (x : Key). Some (x, w.1)) (sym key)) after))
         at_it i w is key after passes (Some p) there =
-            let place = order.apart i there.at w (key_of session k, there.standing) is there.there (ap (λ (x : Key). key_eq w.0 x) key ∙ key_itself w.0) in
-            let same : w ≡ (key_of session k, there.standing) = same_Some w (key_of session k, there.standing) (sym is ∙ ap (slice_get o.all) place ∙ there.there) in
+            let place = order.apart i there.at w (key_of session k, there.waiter) is there.there (ap (λ (x : Key). key_eq w.0 x) key ∙ key_itself w.0) in
+            let same : w ≡ (key_of session k, there.waiter) = same_Some w (key_of session k, there.waiter) (sym is ∙ ap (slice_get o.all) place ∙ there.there) in
             (p, refl, omega (arith, ap (λ (q : Place). q.ticket) there.is, ap ticket_of same))
 
         by : (i : ℕ) (w : W) → slice_get o.all i ≡ Some w → w.0.session ≡ session → from ≤ w.1.ticket → is_sought sought w.1.sub ≡ true → (w.0.slot < k) ⊎ (k ≤ w.0.slot) → w.0.slot < k + 1 → (p : Place) × (sooner first seen ≡ Some p) × (p.ticket ≤ w.1.ticket)
@@ -257,7 +257,7 @@ module _ (o : Waiting) (order : IsOrdered o) where
     pub soonest_first : (seen : Option Place) → IsSeen sought o.all (key_of session 0) from seen → Soonest o.all session from sought 1 seen
     soonest_first seen here = soonest_more 0 None seen soonest_begin here
 
-    pub soonest_end : AllByRecursion IsSlotted o.all → (first : Option Place) → Soonest o.all session from sought 16 first → IsNext (λ (s : Standing). is_sought_of session sought s.sub) o.all from first
+    pub soonest_end : AllByRecursion IsSlotted o.all → (first : Option Place) → Soonest o.all session from sought 16 first → IsNext (λ (s : Waiter). is_sought_of session sought s.sub) o.all from first
     soonest_end slots None soonest = λ i w is after. unless (is_sought_of session sought w.1.sub) (λ passes.
         let both = and_parts (is_of session w.1.sub) (is_sought sought w.1.sub) passes in
         let slot = all_at IsSlotted o.all i w is slots in
@@ -272,21 +272,21 @@ module _ (o : Waiting) (order : IsOrdered o) where
         equal a b is = grind (arith, nat_tests)
     soonest_end slots (Some p) soonest =
         let s = soonest.seen p refl in
-        let ticket : s.standing.ticket ≡ p.ticket = sym (ap (λ (q : Place). q.ticket) s.is) in
-        let slot = all_at IsSlotted o.all s.at (p.key, s.standing) s.there slots in
-        let mine : (session == s.standing.sub.session) ≡ true = test session s.standing.sub.session (sym (soonest.own p refl) ∙ slot.0) in
+        let ticket : s.waiter.ticket ≡ p.ticket = sym (ap (λ (q : Place). q.ticket) s.is) in
+        let slot = all_at IsSlotted o.all s.at (p.key, s.waiter) s.there slots in
+        let mine : (session == s.waiter.sub.session) ≡ true = test session s.waiter.sub.session (sym (soonest.own p refl) ∙ slot.0) in
         record {
           at = s.at;
-          standing = s.standing;
+          waiter = s.waiter;
           there = s.there;
           ticket = ticket;
           after = subst (λ t. from ≤ t) ticket s.after;
-          passing = ap (λ b. b && is_sought sought s.standing.sub) mine ∙ s.passing;
+          passing = ap (λ b. b && is_sought sought s.waiter.sub) mine ∙ s.passing;
           before = λ i w is after less. unless (is_sought_of session sought w.1.sub) (λ passes.
               let both = and_parts (is_of session w.1.sub) (is_sought sought w.1.sub) passes in
               let its = all_at IsSlotted o.all i w is slots in
               let q = soonest.least i w is (its.0 ∙ sym (equal session w.1.sub.session both.0)) its.1 after both.1 in
-              let low : ticket_of w < s.standing.ticket = rising_at ticket_of o.all i s.at w (p.key, s.standing) order.rising is s.there less in
+              let low : ticket_of w < s.waiter.ticket = rising_at ticket_of o.all i s.at w (p.key, s.waiter) order.rising is s.there less in
               omega (arith, low, ticket, q.2, ap (λ (x : Place). x.ticket) (same_Some p q.0 q.1)));
         }
       where

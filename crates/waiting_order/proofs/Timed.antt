@@ -11,16 +11,16 @@ use Rattle.frame_core.proofs.Lists.{all_push}
 use Rattle.broker_state.proofs.Weights.{sum_by-removed}
 use Rattle.broker_state.specs.Lists.{changed}
 use Rattle.waiting_order.specs.declared.key.Key.{Key}
-use Rattle.waiting_order.specs.declared.standing.Standing.{Standing}
+use Rattle.waiting_order.specs.declared.waiter.Waiter.{Waiter}
 use Rattle.waiting_order.specs.Keys.{key_eq}
 use Rattle.waiting_order.specs.Tickets.{IsRising}
 use Rattle.waiting_order.specs.Waiting.{AreTimed, IsFree, IsOrdered, by_ticket, waiter_at}
 use Rattle.waiting_order.proofs.Rising.{rising_pushed}
 
 abbrev pub W : Type 0
-W = Key × Standing
+W = Key × Waiter
 
-abbrev pub at_key : Key → List W → Option Standing
+abbrev pub at_key : Key → List W → Option Waiter
 at_key k ws = lookup (key_eq k) ws
 
 abbrev pub ticket_of : W → ℕ
@@ -81,28 +81,28 @@ stands_there t (x ∷ ws) w unique is = by (λ there. key_among t ws w (λ k. ke
     by apart rest false there =
         ap (λ c. cond c (Some x.1) (at_key w.0 ws)) (other_way x.0 w.0 (apart there)) ∙ rest there
 
-some_at : (k : Key) (ws : List W) (s : Standing) → at_key k ws ≡ Some s → (w : W) × (waiter_at s.ticket ws ≡ Some w)
+some_at : (k : Key) (ws : List W) (s : Waiter) → at_key k ws ≡ Some s → (w : W) × (waiter_at s.ticket ws ≡ Some w)
 some_at k [] s is = absurd (none-some s is)
 some_at k (x ∷ ws) s is = by (λ there. some_at k ws s there) (key_eq k x.0) (x.1.ticket == s.ticket) refl is
   where
     by : (at_key k ws ≡ Some s → (w : W) × (waiter_at s.ticket ws ≡ Some w)) → (b c : Bool) → (x.1.ticket == s.ticket) ≡ c → cond b (Some x.1) (at_key k ws) ≡ Some s → (w : W) × (cond c (Some x) (waiter_at s.ticket ws) ≡ Some w)
     by rest b true test there = (x, refl)
     by rest true false test there =
-        absurd (clash (x.1.ticket == s.ticket) (number_itself x.1.ticket s.ticket (ap (λ (r : Standing). r.ticket) (same_Some x.1 s there))) test)
+        absurd (clash (x.1.ticket == s.ticket) (number_itself x.1.ticket s.ticket (ap (λ (r : Waiter). r.ticket) (same_Some x.1 s there))) test)
     by rest false false test there = rest there
 
 -- who stands at a key is the waiter of its ticket
-pub waits_there : (n : ℕ) (ws : List W) → AreTimed n ws → (k : Key) (s : Standing) → at_key k ws ≡ Some s → waiter_at s.ticket ws ≡ Some (k, s)
+pub waits_there : (n : ℕ) (ws : List W) → AreTimed n ws → (k : Key) (s : Waiter) → at_key k ws ≡ Some s → waiter_at s.ticket ws ≡ Some (k, s)
 waits_there n ws timed k s is =
     let w = some_at k ws s is in
     let here = stands_there s.ticket ws w.0 timed.unique w.1 in
     let key : w.0.0 ≡ k = timed.apart w.0.0 k w.0.1 s here is (has_ticket s.ticket ws w.0 w.1) in
     let at : Some w.0.1 ≡ Some s = sym here ∙ ap (λ l. at_key l ws) key ∙ is in
-    w.1 ∙ ap (λ l. Some (l, w.0.1)) key ∙ ap (λ (r : Standing). Some (k, r)) (same_Some w.0.1 s at)
+    w.1 ∙ ap (λ l. Some (l, w.0.1)) key ∙ ap (λ (r : Waiter). Some (k, r)) (same_Some w.0.1 s at)
 
 -- Where one key has another value, the waiters of other tickets stay.
-module _ (n m : ℕ) (ws vs : List W) (timed : AreTimed n ws) (after : AreTimed m vs) (k : Key) (o : Option Standing) (here : at_key k vs ≡ o) (others : (q : Key) → key_eq k q ≡ false → at_key q vs ≡ at_key q ws) where
-  stays_by : (t : ℕ) → ((s : Standing) → at_key k ws ≡ Some s → s.ticket ≡ t → ⊥) → ((s : Standing) → o ≡ Some s → s.ticket ≡ t → ⊥) → (a b : Option W) → waiter_at t ws ≡ a → waiter_at t vs ≡ b → a ≡ b
+module _ (n m : ℕ) (ws vs : List W) (timed : AreTimed n ws) (after : AreTimed m vs) (k : Key) (o : Option Waiter) (here : at_key k vs ≡ o) (others : (q : Key) → key_eq k q ≡ false → at_key q vs ≡ at_key q ws) where
+  stays_by : (t : ℕ) → ((s : Waiter) → at_key k ws ≡ Some s → s.ticket ≡ t → ⊥) → ((s : Waiter) → o ≡ Some s → s.ticket ≡ t → ⊥) → (a b : Option W) → waiter_at t ws ≡ a → waiter_at t vs ≡ b → a ≡ b
   stays_by t was is None None at_ws at_vs = refl
   stays_by t was is (Some w) b at_ws at_vs =
       let there = stands_there t ws w timed.unique at_ws in
@@ -123,7 +123,7 @@ module _ (n m : ℕ) (ws vs : List W) (timed : AreTimed n ws) (after : AreTimed 
           absurd (is w.1 (sym here ∙ ap (λ l. at_key l vs) (key_same k w.0 same) ∙ there) ticket)
       by false other there ticket = sym (others w.0 other) ∙ there
 
-  pub stays : (t : ℕ) → ((s : Standing) → at_key k ws ≡ Some s → s.ticket ≡ t → ⊥) → ((s : Standing) → o ≡ Some s → s.ticket ≡ t → ⊥) → waiter_at t vs ≡ waiter_at t ws
+  pub stays : (t : ℕ) → ((s : Waiter) → at_key k ws ≡ Some s → s.ticket ≡ t → ⊥) → ((s : Waiter) → o ≡ Some s → s.ticket ≡ t → ⊥) → waiter_at t vs ≡ waiter_at t ws
   stays t was is = sym (stays_by t was is (waiter_at t ws) (waiter_at t vs) refl refl)
 
 -- the waiters in their order, where those of all tickets but one stay
@@ -238,7 +238,7 @@ module _ (n : ℕ) (ws : List W) (timed : AreTimed n ws) where
   pub at_its_key : (i : ℕ) (w : W) → slice_get (by_ticket n ws) i ≡ Some w → at_key w.0 ws ≡ Some w.1
   at_its_key i w is = stands_there w.1.ticket ws w timed.unique (place_is ws n i w is).waits
 
-  pub in_order : (k : Key) (s : Standing) → at_key k ws ≡ Some s → (at : ℕ) × (slice_get (by_ticket n ws) at ≡ Some (k, s))
+  pub in_order : (k : Key) (s : Waiter) → at_key k ws ≡ Some s → (at : ℕ) × (slice_get (by_ticket n ws) at ≡ Some (k, s))
   in_order k s is =
       let cut = split ws ws s.ticket n (timed.under k s is) (λ u less other. refl) in
       let front = by_ticket s.ticket ws in
@@ -248,7 +248,7 @@ module _ (n : ℕ) (ws : List W) (timed : AreTimed n ws) where
   pub free_key : (k : Key) → IsFree (by_ticket n ws) k → at_key k ws ≡ None
   free_key k free = by (at_key k ws) refl
     where
-      by : (o : Option Standing) → at_key k ws ≡ o → at_key k ws ≡ None
+      by : (o : Option Waiter) → at_key k ws ≡ o → at_key k ws ≡ None
       by None is = is
       by (Some s) is =
           let p = in_order k s is in
@@ -265,7 +265,7 @@ module _ (n : ℕ) (ws : List W) (timed : AreTimed n ws) where
 -- A key has another value.
 module _ (n m : ℕ) (ws vs : List W) (timed : AreTimed n ws) (unique : IsDistinct key_eq (keys_of vs)) (k : Key) where
   module _ (here : at_key k vs ≡ None) (others : (q : Key) → key_eq k q ≡ false → at_key q vs ≡ at_key q ws) where
-    only_others : (q : Key) (r : Standing) → at_key q vs ≡ Some r → at_key q ws ≡ Some r
+    only_others : (q : Key) (r : Waiter) → at_key q vs ≡ Some r → at_key q ws ≡ Some r
     only_others q r is = by (key_eq k q) refl
       where
         by : (b : Bool) → key_eq k q ≡ b → at_key q ws ≡ Some r
@@ -279,9 +279,9 @@ module _ (n m : ℕ) (ws vs : List W) (timed : AreTimed n ws) (unique : IsDistin
       apart = λ q l r t at_q at_l same. timed.apart q l r t (only_others q r at_q) (only_others l t at_l) same;
     }
 
-    pub order_without : (s : Standing) → at_key k ws ≡ Some s → (at : ℕ) → slice_get (by_ticket n ws) at ≡ Some (k, s) → by_ticket n vs ≡ remove (by_ticket n ws) at
+    pub order_without : (s : Waiter) → at_key k ws ≡ Some s → (at : ℕ) → slice_get (by_ticket n ws) at ≡ Some (k, s) → by_ticket n vs ≡ remove (by_ticket n ws) at
     order_without s was at is =
-        let same = λ (u : ℕ) (less : u < n) (other : u ≢ s.ticket). stays n n ws vs timed timed_without k None here others u (λ r r_is t. other (sym t ∙ ap (λ (x : Standing). x.ticket) (same_Some r s (sym r_is ∙ was)))) (λ r r_is t. none-some r r_is) in
+        let same = λ (u : ℕ) (less : u < n) (other : u ≢ s.ticket). stays n n ws vs timed timed_without k None here others u (λ r r_is t. other (sym t ∙ ap (λ (x : Waiter). x.ticket) (same_Some r s (sym r_is ∙ was)))) (λ r r_is t. none-some r r_is) in
         let cut = split ws vs s.ticket n (timed.under k s was) same in
         let front = by_ticket s.ticket ws in
         let gone = gone_at s was in
@@ -289,7 +289,7 @@ module _ (n m : ℕ) (ws vs : List W) (timed : AreTimed n ws) (unique : IsDistin
         let place : at ≡ length front = (place_is ws n at (k, s) is).place in
         cut.is ∙ ap (λ o. front ++ (option_to_list o ++ cut.rest)) gone ∙ sym (ap (λ l. remove l at) it ∙ ap (remove (front ++ (k, s) ∷ cut.rest)) place ∙ remove_mid front cut.rest (k, s))
       where
-        gone_at : (s : Standing) → at_key k ws ≡ Some s → waiter_at s.ticket vs ≡ None
+        gone_at : (s : Waiter) → at_key k ws ≡ Some s → waiter_at s.ticket vs ≡ None
         gone_at s was = by (waiter_at s.ticket vs) refl
           where
             by : (o : Option W) → waiter_at s.ticket vs ≡ o → waiter_at s.ticket vs ≡ None
@@ -300,19 +300,19 @@ module _ (n m : ℕ) (ws vs : List W) (timed : AreTimed n ws) (unique : IsDistin
                 absurd (none-some w.1 (sym here ∙ ap (λ l. at_key l vs) (sym key) ∙ there))
 
   -- one of the same ticket
-  module _ (s t : Standing) (was : at_key k ws ≡ Some s) (here : at_key k vs ≡ Some t) (ticket : t.ticket ≡ s.ticket) (others : (q : Key) → key_eq k q ≡ false → at_key q vs ≡ at_key q ws) where
-    pub record Was (q : Key) (r : Standing) : Type 0 where
-      pub old : Standing
+  module _ (s t : Waiter) (was : at_key k ws ≡ Some s) (here : at_key k vs ≡ Some t) (ticket : t.ticket ≡ s.ticket) (others : (q : Key) → key_eq k q ≡ false → at_key q vs ≡ at_key q ws) where
+    pub record Was (q : Key) (r : Waiter) : Type 0 where
+      pub old : Waiter
       pub there : at_key q ws ≡ Some old
       pub same : old.ticket ≡ r.ticket
 
-    was_there : (q : Key) (r : Standing) → at_key q vs ≡ Some r → Was q r
+    was_there : (q : Key) (r : Waiter) → at_key q vs ≡ Some r → Was q r
     was_there q r is = by (key_eq k q) refl
       where
         by : (b : Bool) → key_eq k q ≡ b → Was q r
         by true same =
             let r_is : t ≡ r = same_Some t r (sym here ∙ ap (λ l. at_key l vs) (key_same k q same) ∙ is) in
-            record { old = s; there = ap (λ l. at_key l ws) (sym (key_same k q same)) ∙ was; same = sym ticket ∙ ap (λ (x : Standing). x.ticket) r_is }
+            record { old = s; there = ap (λ l. at_key l ws) (sym (key_same k q same)) ∙ was; same = sym ticket ∙ ap (λ (x : Waiter). x.ticket) r_is }
         by false other = record { old = r; there = sym (others q other) ∙ is; same = refl }
 
     pub timed_changed : AreTimed n vs
@@ -329,7 +329,7 @@ module _ (n m : ℕ) (ws vs : List W) (timed : AreTimed n ws) (unique : IsDistin
 
     pub order_changed : (f : W → W) → (k, t) ≡ f (k, s) → (at : ℕ) → slice_get (by_ticket n ws) at ≡ Some (k, s) → by_ticket n vs ≡ changed at f (by_ticket n ws)
     order_changed f new at is =
-        let same = λ (u : ℕ) (less : u < n) (other : u ≢ s.ticket). stays n n ws vs timed timed_changed k (Some t) here others u (λ r r_is e. other (sym e ∙ ap (λ (x : Standing). x.ticket) (same_Some r s (sym r_is ∙ was)))) (λ r r_is e. other (sym e ∙ sym (ap (λ (x : Standing). x.ticket) (same_Some t r r_is)) ∙ ticket)) in
+        let same = λ (u : ℕ) (less : u < n) (other : u ≢ s.ticket). stays n n ws vs timed timed_changed k (Some t) here others u (λ r r_is e. other (sym e ∙ ap (λ (x : Waiter). x.ticket) (same_Some r s (sym r_is ∙ was)))) (λ r r_is e. other (sym e ∙ sym (ap (λ (x : Waiter). x.ticket) (same_Some t r r_is)) ∙ ticket)) in
         let cut = split ws vs s.ticket n (timed.under k s was) same in
         let front = by_ticket s.ticket ws in
         let it : by_ticket n ws ≡ front ++ (k, s) ∷ cut.rest = cut.was ∙ ap (λ o. front ++ (option_to_list o ++ cut.rest)) (waits_there n ws timed k s was) in
@@ -339,14 +339,14 @@ module _ (n m : ℕ) (ws vs : List W) (timed : AreTimed n ws) (unique : IsDistin
         ∙ sym (ap (changed at f) it ∙ ap (λ i. changed i f (front ++ (k, s) ∷ cut.rest)) place ∙ changed_mid f front cut.rest (k, s))
 
   -- one of the next ticket
-  module _ (t : Standing) (here : at_key k vs ≡ Some t) (ticket : t.ticket ≡ n) (others : (q : Key) → key_eq k q ≡ false → at_key q vs ≡ at_key q ws) where
-    last_or : (q : Key) (r : Standing) → at_key q vs ≡ Some r → ((k ≡ q) × (r.ticket ≡ n)) ⊎ (at_key q ws ≡ Some r)
+  module _ (t : Waiter) (here : at_key k vs ≡ Some t) (ticket : t.ticket ≡ n) (others : (q : Key) → key_eq k q ≡ false → at_key q vs ≡ at_key q ws) where
+    last_or : (q : Key) (r : Waiter) → at_key q vs ≡ Some r → ((k ≡ q) × (r.ticket ≡ n)) ⊎ (at_key q ws ≡ Some r)
     last_or q r is = by (key_eq k q) refl
       where
         by : (b : Bool) → key_eq k q ≡ b → ((k ≡ q) × (r.ticket ≡ n)) ⊎ (at_key q ws ≡ Some r)
         by true same =
             let r_is : t ≡ r = same_Some t r (sym here ∙ ap (λ l. at_key l vs) (key_same k q same) ∙ is) in
-            inl (key_same k q same, sym (ap (λ (x : Standing). x.ticket) r_is) ∙ ticket)
+            inl (key_same k q same, sym (ap (λ (x : Waiter). x.ticket) r_is) ∙ ticket)
         by false other = inr (sym (others q other) ∙ is)
 
     pub timed_more : AreTimed (suc n) vs
@@ -356,7 +356,7 @@ module _ (n m : ℕ) (ws vs : List W) (timed : AreTimed n ws) (unique : IsDistin
       apart = λ q l r u at_q at_l same. both q l r u same (last_or q r at_q) (last_or l u at_l);
     }
       where
-        both : (q l : Key) (r u : Standing) → r.ticket ≡ u.ticket → ((k ≡ q) × (r.ticket ≡ n)) ⊎ (at_key q ws ≡ Some r) → ((k ≡ l) × (u.ticket ≡ n)) ⊎ (at_key l ws ≡ Some u) → q ≡ l
+        both : (q l : Key) (r u : Waiter) → r.ticket ≡ u.ticket → ((k ≡ q) × (r.ticket ≡ n)) ⊎ (at_key q ws ≡ Some r) → ((k ≡ l) × (u.ticket ≡ n)) ⊎ (at_key l ws ≡ Some u) → q ≡ l
         both q l r u same (inl a) (inl b) = sym a.0 ∙ b.0
         both q l r u same (inl a) (inr b) = absurd (omega (arith, same, a.1, timed.under l u b))
         both q l r u same (inr a) (inl b) = absurd (omega (arith, same, b.1, timed.under q r a))
@@ -368,14 +368,14 @@ module _ (n m : ℕ) (ws vs : List W) (timed : AreTimed n ws) (unique : IsDistin
     -- which was not there
     pub order_more : at_key k ws ≡ None → by_ticket (suc n) vs ≡ by_ticket n ws ++ (k, t) ∷ []
     order_more none =
-        let same = λ (u : ℕ) (less : u < n). stays n (suc n) ws vs timed timed_more k (Some t) here others u (λ r r_is e. none-some r (sym none ∙ r_is)) (λ r r_is e. omega (arith, less, e, ticket, ap (λ (x : Standing). x.ticket) (same_Some t r r_is))) in
+        let same = λ (u : ℕ) (less : u < n). stays n (suc n) ws vs timed timed_more k (Some t) here others u (λ r r_is e. none-some r (sym none ∙ r_is)) (λ r r_is e. omega (arith, less, e, ticket, ap (λ (x : Waiter). x.ticket) (same_Some t r r_is))) in
         ap (λ o. by_ticket n vs ++ option_to_list o) now_last ∙ ap (λ l. l ++ (k, t) ∷ []) (same_before ws vs n n same)
 
     -- or stood elsewhere
-    pub order_moved : (s : Standing) → at_key k ws ≡ Some s → (at : ℕ) → slice_get (by_ticket n ws) at ≡ Some (k, s) → by_ticket (suc n) vs ≡ remove (by_ticket n ws) at ++ (k, t) ∷ []
+    pub order_moved : (s : Waiter) → at_key k ws ≡ Some s → (at : ℕ) → slice_get (by_ticket n ws) at ≡ Some (k, s) → by_ticket (suc n) vs ≡ remove (by_ticket n ws) at ++ (k, t) ∷ []
     order_moved s was at is =
         let low : s.ticket < n = timed.under k s was in
-        let same = λ (u : ℕ) (less : u < n) (other : u ≢ s.ticket). stays n (suc n) ws vs timed timed_more k (Some t) here others u (λ r r_is e. other (sym e ∙ ap (λ (x : Standing). x.ticket) (same_Some r s (sym r_is ∙ was)))) (λ r r_is e. omega (arith, less, e, ticket, ap (λ (x : Standing). x.ticket) (same_Some t r r_is))) in
+        let same = λ (u : ℕ) (less : u < n) (other : u ≢ s.ticket). stays n (suc n) ws vs timed timed_more k (Some t) here others u (λ r r_is e. other (sym e ∙ ap (λ (x : Waiter). x.ticket) (same_Some r s (sym r_is ∙ was)))) (λ r r_is e. omega (arith, less, e, ticket, ap (λ (x : Waiter). x.ticket) (same_Some t r r_is))) in
         let cut = split ws vs s.ticket n low same in
         let front = by_ticket s.ticket ws in
         let it : by_ticket n ws ≡ front ++ (k, s) ∷ cut.rest = cut.was ∙ ap (λ o. front ++ (option_to_list o ++ cut.rest)) (waits_there n ws timed k s was) in
@@ -383,7 +383,7 @@ module _ (n m : ℕ) (ws vs : List W) (timed : AreTimed n ws) (unique : IsDistin
         let left : by_ticket n vs ≡ remove (by_ticket n ws) at = cut.is ∙ ap (λ o. front ++ (option_to_list o ++ cut.rest)) (gone_at s was low) ∙ sym (ap (λ l. remove l at) it ∙ ap (remove (front ++ (k, s) ∷ cut.rest)) place ∙ remove_mid front cut.rest (k, s)) in
         ap (λ o. by_ticket n vs ++ option_to_list o) now_last ∙ ap (λ l. l ++ (k, t) ∷ []) left
       where
-        gone_at : (s : Standing) → at_key k ws ≡ Some s → s.ticket < n → waiter_at s.ticket vs ≡ None
+        gone_at : (s : Waiter) → at_key k ws ≡ Some s → s.ticket < n → waiter_at s.ticket vs ≡ None
         gone_at s was low = by (waiter_at s.ticket vs) refl
           where
             by : (o : Option W) → waiter_at s.ticket vs ≡ o → waiter_at s.ticket vs ≡ None
@@ -395,7 +395,7 @@ module _ (n m : ℕ) (ws vs : List W) (timed : AreTimed n ws) (unique : IsDistin
                 neither w same (inr a) at_s =
                     let key = timed.apart w.0 k w.1 s a was same in
                     let it : Some t ≡ Some w.1 = sym here ∙ ap (λ l. at_key l vs) (sym key) ∙ stands_there s.ticket vs w unique at_s in
-                    omega (arith, same, low, ticket, ap (λ (x : Standing). x.ticket) (same_Some t w.1 it))
+                    omega (arith, same, low, ticket, ap (λ (x : Waiter). x.ticket) (same_Some t w.1 it))
 
 -- a sum over all is that over them in their order
 module _ (f : W → ℕ) where
@@ -429,19 +429,19 @@ module _ (f : W → ℕ) where
 
 -- what a look at a key finds
 module _ (n : ℕ) (ws : List W) (timed : AreTimed n ws) (k : Key) where
-  pub seen_some : (r : Option (Bor Standing)) → option_copied r ≡ at_key k ws → IfSome r (λ s. (at : ℕ) × (slice_get (by_ticket n ws) at ≡ Some (k, s.now)))
+  pub seen_some : (r : Option (Bor Waiter)) → option_copied r ≡ at_key k ws → IfSome r (λ s. (at : ℕ) × (slice_get (by_ticket n ws) at ≡ Some (k, s.now)))
   seen_some None is = tt
   seen_some (Some s) is = in_order n ws timed k s.now (sym is)
 
-  pub seen_none : (r : Option (Bor Standing)) → option_copied r ≡ at_key k ws → IfNone r (IsFree (by_ticket n ws) k)
+  pub seen_none : (r : Option (Bor Waiter)) → option_copied r ≡ at_key k ws → IfNone r (IsFree (by_ticket n ws) k)
   seen_none None is = key_free n ws timed k (sym is)
   seen_none (Some s) is = tt
 
-pub there_mut : (r : Option (MutBor Standing)) (s : Standing) → option_copied_mut r ≡ Some s → IsSome r
+pub there_mut : (r : Option (MutBor Waiter)) (s : Waiter) → option_copied_mut r ≡ Some s → IsSome r
 there_mut None s is = absurd (none-some s is)
 there_mut (Some x) s is = refl
 
-pub there_now : (r : Option Standing) (s : Standing) → r ≡ Some s → IsSome r
+pub there_now : (r : Option Waiter) (s : Waiter) → r ≡ Some s → IsSome r
 there_now None s is = absurd (none-some s is)
 there_now (Some x) s is = refl
 
@@ -461,5 +461,5 @@ ordered n ws timed = record {
       let a = place_is ws n i w at_i in
       let b = place_is ws n j v at_j in
       let there : Some w.1 ≡ Some v.1 = sym (at_its_key n ws timed i w at_i) ∙ ap (λ k. at_key k ws) (key_same w.0 v.0 same) ∙ at_its_key n ws timed j v at_j in
-      a.place ∙ ap (λ (s : Standing). length (by_ticket s.ticket ws)) (same_Some w.1 v.1 there) ∙ sym b.place;
+      a.place ∙ ap (λ (s : Waiter). length (by_ticket s.ticket ws)) (same_Some w.1 v.1 there) ∙ sym b.place;
 }

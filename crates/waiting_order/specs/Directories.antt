@@ -13,22 +13,22 @@ use Rattle.waiting_order.specs.declared.directory.Directory.{Directory}
 use Rattle.waiting_order.specs.declared.group.Group.{Group}
 use Rattle.waiting_order.specs.declared.key.Key.{Key}
 use Rattle.waiting_order.specs.declared.places.Place.{Place}
-use Rattle.waiting_order.specs.declared.standing.Standing.{Standing}
+use Rattle.waiting_order.specs.declared.waiter.Waiter.{Waiter}
 
 -- the subscription is one of that destination, and has no durable name
 abbrev pub is_plain_at : List ℕ → Subscription → Bool
 is_plain_at to sub = not (is_some sub.durable) && bytes_eq sub.destination to
 
 -- where a waiter waits
-abbrev pub place_of : Key × Standing → Place
+abbrev pub place_of : Key × Waiter → Place
 place_of w = record { ticket = w.1.ticket; key = w.0 }
 
 -- whether somebody who stands is of that group
-abbrev pub is_in : ℕ → Standing → Bool
+abbrev pub is_in : ℕ → Waiter → Bool
 is_in group s = s.group == group
 
 -- the places of those waiters who pass, in their order
-abbrev pub members : (Standing → Bool) → List (Key × Standing) → List Place
+abbrev pub members : (Waiter → Bool) → List (Key × Waiter) → List Place
 members passes [] = []
 members passes (w ∷ ws) = if passes w.1 then place_of w ∷ members passes ws else members passes ws
 
@@ -37,18 +37,18 @@ abbrev pub is_behind : Subscription → Bool
 is_behind sub = not (is_none sub.line)
 
 -- how many of a group have something in their own line
-abbrev pub behind_in : ℕ → List (Key × Standing) → ℕ
-behind_in group ws = count_by (λ (w : Key × Standing). is_in group w.1 && is_behind w.1.sub) ws
+abbrev pub behind_in : ℕ → List (Key × Waiter) → ℕ
+behind_in group ws = count_by (λ (w : Key × Waiter). is_in group w.1 && is_behind w.1.sub) ws
 
 -- those who pass are the waiters of that group, and there are some
-pub record AreOfGroup (passes : Subscription → Bool) (ws : List (Key × Standing)) (group : ℕ) : Type 0 where
-  pub alike : AllByRecursion (λ (w : Key × Standing). passes w.1.sub ≡ is_in group w.1) ws
+pub record AreOfGroup (passes : Subscription → Bool) (ws : List (Key × Waiter)) (group : ℕ) : Type 0 where
+  pub alike : AllByRecursion (λ (w : Key × Waiter). passes w.1.sub ≡ is_in group w.1) ws
   pub some : is_none (members (is_in group) ws) ≡ false
 
 -- those who pass are the waiters of a group, or there is none and nobody passes
-abbrev pub IsGroup : (Subscription → Bool) → List (Key × Standing) → Option ℕ → Type 0
+abbrev pub IsGroup : (Subscription → Bool) → List (Key × Waiter) → Option ℕ → Type 0
 IsGroup passes ws group = MatchOption group
-    (AllByRecursion (λ (w : Key × Standing). passes w.1.sub ≡ false) ws)
+    (AllByRecursion (λ (w : Key × Waiter). passes w.1.sub ≡ false) ws)
     (AreOfGroup passes ws)
 
 -- Two subscriptions have the same durable name, or none and the same destination.
@@ -57,15 +57,15 @@ pub record AreAlike (a b : Subscription) : Type 0 where
   pub destination : a.durable ≡ None → a.destination ≡ b.destination
 
 -- those of one group are alike
-abbrev pub GroupsAreAlike : List (Key × Standing) → Type 0
-GroupsAreAlike ws = (i j : ℕ) (w v : Key × Standing) → slice_get ws i ≡ Some w → slice_get ws j ≡ Some v → w.1.group ≡ v.1.group → AreAlike w.1.sub v.1.sub
+abbrev pub GroupsAreAlike : List (Key × Waiter) → Type 0
+GroupsAreAlike ws = (i j : ℕ) (w v : Key × Waiter) → slice_get ws i ≡ Some w → slice_get ws j ≡ Some v → w.1.group ≡ v.1.group → AreAlike w.1.sub v.1.sub
 
 -- the group under a handle, an empty one if there is none
 abbrev pub group_at : Slab Group → ℕ → Group
 group_at groups group = unwrap_or (get groups group) (record { places = []; behind = 0 })
 
 -- the waiters of a group as it has them
-abbrev pub grouped : ℕ → List (Key × Standing) → Group
+abbrev pub grouped : ℕ → List (Key × Waiter) → Group
 grouped group ws = record { places = members (is_in group) ws; behind = behind_in group ws }
 
 -- no group is empty
@@ -73,45 +73,45 @@ abbrev pub AreFilled : Slab Group → Type 0
 AreFilled groups = (group : ℕ) (g : Group) → get groups group ≡ Some g → is_none g.places ≡ false
 
 -- under each key stands the group of those that have it
-abbrev pub IsIndex : {K : Type 0} → (K → K → Ordering) → (K → Subscription → Bool) → List (K × ℕ) → List (Key × Standing) → Type 0
+abbrev pub IsIndex : {K : Type 0} → (K → K → Ordering) → (K → Subscription → Bool) → List (K × ℕ) → List (Key × Waiter) → Type 0
 IsIndex {K} cmp has handles ws = (key : K) → IsGroup (has key) ws (lookup (is_at (cmp key)) handles)
 
 -- A directory of waiters. No group of it is empty.
-pub record IsDirectory (d : Directory) (ws : List (Key × Standing)) : Type 0 where
+pub record IsDirectory (d : Directory) (ws : List (Key × Waiter)) : Type 0 where
   pub groups : (group : ℕ) → group_at d.groups group ≡ grouped group ws
   pub destinations : IsIndex text_cmp is_plain_at d.destinations.entries ws
   pub names : IsIndex name_cmp uses d.names.entries ws
   pub filled : AreFilled d.groups
 
 -- a waiter's key is of its session, and has one of the 16 slots
-abbrev pub IsSlotted : Key × Standing → Type 0
+abbrev pub IsSlotted : Key × Waiter → Type 0
 IsSlotted w = (w.0.session ≡ w.1.sub.session) × (w.0.slot < 16)
 
 -- Each waiter has a slot, and a directory has its place.
-pub record AreFound (d : Directory) (ws : List (Key × Standing)) : Type 0 where
+pub record AreFound (d : Directory) (ws : List (Key × Waiter)) : Type 0 where
   pub slots : AllByRecursion IsSlotted ws
   pub directory : IsDirectory d ws
 
 -- The place is that of the first waiter, from a ticket on, who passes.
-pub record IsFirstFrom (passes : Standing → Bool) (ws : List (Key × Standing)) (from : ℕ) (place : Place) : Type 0 where
+pub record IsFirstFrom (passes : Waiter → Bool) (ws : List (Key × Waiter)) (from : ℕ) (place : Place) : Type 0 where
   pub at : ℕ
-  pub standing : Standing
-  pub there : slice_get ws at ≡ Some (place.key, standing)
-  pub ticket : standing.ticket ≡ place.ticket
+  pub waiter : Waiter
+  pub there : slice_get ws at ≡ Some (place.key, waiter)
+  pub ticket : waiter.ticket ≡ place.ticket
   pub after : from ≤ place.ticket
-  pub passing : passes standing ≡ true
-  pub before : (i : ℕ) (w : Key × Standing) → slice_get ws i ≡ Some w → from ≤ w.1.ticket → i < at → passes w.1 ≡ false
+  pub passing : passes waiter ≡ true
+  pub before : (i : ℕ) (w : Key × Waiter) → slice_get ws i ≡ Some w → from ≤ w.1.ticket → i < at → passes w.1 ≡ false
 
 -- from a ticket on nobody passes
-abbrev pub NoneFrom : (Standing → Bool) → List (Key × Standing) → ℕ → Type 0
-NoneFrom passes ws from = (i : ℕ) (w : Key × Standing) → slice_get ws i ≡ Some w → from ≤ w.1.ticket → passes w.1 ≡ false
+abbrev pub NoneFrom : (Waiter → Bool) → List (Key × Waiter) → ℕ → Type 0
+NoneFrom passes ws from = (i : ℕ) (w : Key × Waiter) → slice_get ws i ≡ Some w → from ≤ w.1.ticket → passes w.1 ≡ false
 
 -- the place of the first waiter, from a ticket on, who passes; none if there is no such one
-abbrev pub IsNext : (Standing → Bool) → List (Key × Standing) → ℕ → Option Place → Type 0
+abbrev pub IsNext : (Waiter → Bool) → List (Key × Waiter) → ℕ → Option Place → Type 0
 IsNext passes ws from next = MatchOption next (NoneFrom passes ws from) (IsFirstFrom passes ws from)
 
 -- A waiter's place stays, with what its subscription is looked for by.
-pub record KeepsPlace (old new : Key × Standing) : Type 0 where
+pub record KeepsPlace (old new : Key × Waiter) : Type 0 where
   pub key : new.0 ≡ old.0
   pub ticket : new.1.ticket ≡ old.1.ticket
   pub group : new.1.group ≡ old.1.group
@@ -120,7 +120,7 @@ pub record KeepsPlace (old new : Key × Standing) : Type 0 where
   pub durable : new.1.sub.durable ≡ old.1.sub.durable
 
 -- each waiter's place stays
-abbrev pub KeepsPlaces : List (Key × Standing) → List (Key × Standing) → Type 0
+abbrev pub KeepsPlaces : List (Key × Waiter) → List (Key × Waiter) → Type 0
 KeepsPlaces [] [] = ⊤
 KeepsPlaces [] (v ∷ vs) = ⊥
 KeepsPlaces (w ∷ ws) [] = ⊥

@@ -5,7 +5,7 @@ use Rattle.broker_state.specs.declared.subscription.Subscription.{Subscription}
 use Rattle.broker_state.specs.Operations.{is_of}
 use Rattle.waiting_order.specs.declared.key.Key.{Key}
 use Rattle.waiting_order.specs.declared.places.Place.{Place}
-use Rattle.waiting_order.specs.declared.standing.Standing.{Standing}
+use Rattle.waiting_order.specs.declared.waiter.Waiter.{Waiter}
 use Rattle.waiting_order.specs.declared.sought.Sought.{Sought}
 use Rattle.waiting_order.specs.declared.sought.Sought.TheVariants.{Any, Id, Delivery}
 
@@ -26,16 +26,16 @@ sooner (Some p) None = Some p
 sooner (Some p) (Some q) = if nat_le p.ticket q.ticket then Some p else Some q
 
 -- A place is that of who stands at a key, with a ticket from that one on, and is sought.
-pub record IsSeenAt (sought : Sought) (ws : List (Key × Standing)) (key : Key) (from : ℕ) (place : Place) : Type 0 where
+pub record IsSeenAt (sought : Sought) (ws : List (Key × Waiter)) (key : Key) (from : ℕ) (place : Place) : Type 0 where
   pub at : ℕ
-  pub standing : Standing
-  pub there : slice_get ws at ≡ Some (key, standing)
-  pub is : place ≡ record { ticket = standing.ticket; key = key }
-  pub after : from ≤ standing.ticket
-  pub passing : is_sought sought standing.sub ≡ true
+  pub waiter : Waiter
+  pub there : slice_get ws at ≡ Some (key, waiter)
+  pub is : place ≡ record { ticket = waiter.ticket; key = key }
+  pub after : from ≤ waiter.ticket
+  pub passing : is_sought sought waiter.sub ≡ true
 
 -- the place of who stands at a key, with a ticket from that one on, and is sought; none if there is no such one
-abbrev pub IsSeen : Sought → List (Key × Standing) → Key → ℕ → Option Place → Type 0
+abbrev pub IsSeen : Sought → List (Key × Waiter) → Key → ℕ → Option Place → Type 0
 IsSeen sought ws key from seen = MatchOption seen
-    ((at : ℕ) (s : Standing) → slice_get ws at ≡ Some (key, s) → from ≤ s.ticket → is_sought sought s.sub ≡ false)
+    ((at : ℕ) (s : Waiter) → slice_get ws at ≡ Some (key, s) → from ≤ s.ticket → is_sought sought s.sub ≡ false)
     (IsSeenAt sought ws key from)

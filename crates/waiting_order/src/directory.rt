@@ -5,7 +5,7 @@ ghost use Rattle.std.specs.List.{AllByRecursion};
 ghost use Rattle.waiting_order.specs.Directories.{IsDirectory};
 ghost use Rattle.waiting_order.specs.Tickets.{IsRising};
 ghost use Rattle.waiting_order.specs.declared.key.Key.{Key};
-ghost use Rattle.waiting_order.specs.declared.standing.Standing.{Standing};
+ghost use Rattle.waiting_order.specs.declared.waiter.Waiter.{Waiter};
 
 use crate::group::Group;
 use crate::groups::{forget, join, leave, move_last};
@@ -47,9 +47,9 @@ impl Directory {
         sub: &Subscription,
         place: Place,
     ) -> Result<usize, AllocError>
-        requires { (ws : List (Key × Standing)) × IsDirectory self.old ws × AllByRecursion (λ (w : Key × Standing). w.1.ticket < place.ticket) ws
+        requires { (ws : List (Key × Waiter)) × IsDirectory self.old ws × AllByRecursion (λ (w : Key × Waiter). w.1.ticket < place.ticket) ws
             × (length ws + 1 < 2 ^ 64) }
-        ensures { IfOk result (λ group. (ws : List (Key × Standing)) → IsDirectory self.old ws
+        ensures { IfOk result (λ group. (ws : List (Key × Waiter)) → IsDirectory self.old ws
             → IsDirectory self.new (ws ++ (place.key, record { ticket = place.ticket; group = group; sub = sub.now }) ∷ [])) }
     {
         let is_behind = !sub.line.is_empty();
@@ -75,9 +75,9 @@ impl Directory {
 
     /// The subscription of that group and ticket leaves.
     pub fn leave(&mut self, sub: &Subscription, group: usize, ticket: u64)
-        requires { (ws : List (Key × Standing)) × (at : ℕ) × (key : Key) × (slice_get ws at ≡ Some (key, record { ticket = ticket; group = group; sub = sub.now }))
+        requires { (ws : List (Key × Waiter)) × (at : ℕ) × (key : Key) × (slice_get ws at ≡ Some (key, record { ticket = ticket; group = group; sub = sub.now }))
             × IsDirectory self.old ws }
-        ensures { (ws : List (Key × Standing)) (at : ℕ) (key : Key) → IsRising (λ (w : Key × Standing). w.1.ticket) ws
+        ensures { (ws : List (Key × Waiter)) (at : ℕ) (key : Key) → IsRising (λ (w : Key × Waiter). w.1.ticket) ws
             → slice_get ws at ≡ Some (key, record { ticket = ticket; group = group; sub = sub.now })
             → IsDirectory self.old ws → IsDirectory self.new (remove ws at) }
     {
@@ -92,9 +92,9 @@ impl Directory {
 
     /// The subscription of that group and ticket moves to a place after all others. No memory is taken.
     pub fn move_last(&mut self, group: usize, ticket: u64, place: Place)
-        requires { (ws : List (Key × Standing)) × (at : ℕ) × (w : Key × Standing) × (slice_get ws at ≡ Some w) × (w.1.ticket ≡ ticket) × (w.1.group ≡ group)
-            × IsDirectory self.old ws × AllByRecursion (λ (w : Key × Standing). w.1.ticket < place.ticket) ws }
-        ensures { (ws : List (Key × Standing)) (at : ℕ) (w : Key × Standing) → IsRising (λ (w : Key × Standing). w.1.ticket) ws
+        requires { (ws : List (Key × Waiter)) × (at : ℕ) × (w : Key × Waiter) × (slice_get ws at ≡ Some w) × (w.1.ticket ≡ ticket) × (w.1.group ≡ group)
+            × IsDirectory self.old ws × AllByRecursion (λ (w : Key × Waiter). w.1.ticket < place.ticket) ws }
+        ensures { (ws : List (Key × Waiter)) (at : ℕ) (w : Key × Waiter) → IsRising (λ (w : Key × Waiter). w.1.ticket) ws
             → slice_get ws at ≡ Some w → w.1.ticket ≡ ticket → w.1.group ≡ group
             → IsDirectory self.old ws → IsDirectory self.new (remove ws at ++ (place.key, record w.1 { ticket = place.ticket }) ∷ []) }
     {

@@ -8,47 +8,47 @@ ghost use Rattle.waiting_order.specs.Keys.{key_eq};
 ghost use Rattle.waiting_order.specs.Soughts.{IsSeen, is_sought_of};
 ghost use Rattle.waiting_order.specs.Waiting.{IsFree, IsOrdered, subs_of};
 ghost use Rattle.waiting_order.specs.declared.key.Key.{Key};
-ghost use Rattle.waiting_order.specs.declared.standing.Standing.{Standing};
+ghost use Rattle.waiting_order.specs.declared.waiter.Waiter.{Waiter};
 
 use crate::key::{Key, SLOTS};
 use crate::places::Place;
 use crate::sought::{Sought, is_sought, sooner};
-use crate::standings::Standings;
+use crate::waiters::Waiters;
 
 /// How many stand at that key: one or none.
-fn count_at(standings: &Standings, key: Key) -> usize
-    ensures count { result ≡ count_by (λ (w : Key × Standing). key_eq key w.0) standings.now.all }
+fn count_at(waiters: &Waiters, key: Key) -> usize
+    ensures count { result ≡ count_by (λ (w : Key × Waiter). key_eq key w.0) waiters.now.all }
     ensures few { result ≤ 1 }
 {
-    match standings.get(key) {
+    match waiters.get(key) {
         Some(_there) => 1,
         None => 0,
     }
 }
 
 /// How many are of that session.
-pub fn count_of(standings: &Standings, session: u64) -> usize
-    requires { AllByRecursion IsSlotted standings.now.all }
-    ensures { result ≡ count_by (is_of session) (subs_of standings.now.all) }
+pub fn count_of(waiters: &Waiters, session: u64) -> usize
+    requires { AllByRecursion IsSlotted waiters.now.all }
+    ensures { result ≡ count_by (is_of session) (subs_of waiters.now.all) }
 {
     let mut count = 0;
     for slot in 0..SLOTS {
-        count += count_at(standings, Key { session, slot });
+        count += count_at(waiters, Key { session, slot });
     }
     count
 }
 
 /// The key of the least slot that is free of a session that has fewer than 16 subscriptions.
-pub fn free_key(standings: &Standings, session: u64) -> Key
-    requires slots { AllByRecursion IsSlotted standings.now.all }
-    requires few { count_by (is_of session) (subs_of standings.now.all) < 16 }
-    ensures free { IsFree standings.now.all result }
+pub fn free_key(waiters: &Waiters, session: u64) -> Key
+    requires slots { AllByRecursion IsSlotted waiters.now.all }
+    requires few { count_by (is_of session) (subs_of waiters.now.all) < 16 }
+    ensures free { IsFree waiters.now.all result }
     ensures session { result.session ≡ session }
     ensures slot { result.slot < 16 }
 {
     for slot in 0..SLOTS {
         let key = Key { session, slot };
-        match standings.get(key) {
+        match waiters.get(key) {
             Some(_taken) => {}
             None => return key,
         }
@@ -57,33 +57,33 @@ pub fn free_key(standings: &Standings, session: u64) -> Key
 }
 
 /// The place at that key, if it has a ticket from that one on, and its subscription is sought.
-fn seen_at(standings: &Standings, key: Key, sought: Sought<'_>, from: u64) -> Option<Place>
-    ensures seen { IsSeen sought.entry standings.now.all key from result }
-    ensures order { IsOrdered standings.now }
+fn seen_at(waiters: &Waiters, key: Key, sought: Sought<'_>, from: u64) -> Option<Place>
+    ensures seen { IsSeen sought.entry waiters.now.all key from result }
+    ensures order { IsOrdered waiters.now }
 {
-    let Some(standing) = standings.get(key) else {
+    let Some(waiter) = waiters.get(key) else {
         return None;
     };
-    if standing.ticket < from {
+    if waiter.ticket < from {
         return None;
     }
-    if !is_sought(sought, &standing.sub) {
+    if !is_sought(sought, &waiter.sub) {
         return None;
     }
     Some(Place {
-        ticket: standing.ticket,
+        ticket: waiter.ticket,
         key,
     })
 }
 
 /// The place of the first one of that session that is sought, from a ticket on.
-pub fn first_of(standings: &Standings, session: u64, sought: Sought<'_>, from: u64) -> Option<Place>
-    requires { AllByRecursion IsSlotted standings.now.all }
-    ensures { IsNext (λ (s : Standing). is_sought_of session sought.entry s.sub) standings.now.all from result }
+pub fn first_of(waiters: &Waiters, session: u64, sought: Sought<'_>, from: u64) -> Option<Place>
+    requires { AllByRecursion IsSlotted waiters.now.all }
+    ensures { IsNext (λ (s : Waiter). is_sought_of session sought.entry s.sub) waiters.now.all from result }
 {
-    let mut first = seen_at(standings, Key { session, slot: 0 }, sought, from);
+    let mut first = seen_at(waiters, Key { session, slot: 0 }, sought, from);
     for slot in 1..SLOTS {
-        let seen = seen_at(standings, Key { session, slot }, sought, from);
+        let seen = seen_at(waiters, Key { session, slot }, sought, from);
         first = sooner(first, seen);
     }
     first

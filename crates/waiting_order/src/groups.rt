@@ -15,11 +15,11 @@ ghost use Rattle.waiting_order.specs.Tickets.{HasTicket, IsRising, without};
 ghost use Rattle.waiting_order.specs.declared.group.Group.{Group};
 ghost use Rattle.waiting_order.specs.declared.key.Key.{Key};
 ghost use Rattle.waiting_order.specs.declared.places.Place.{Place};
-ghost use Rattle.waiting_order.specs.declared.standing.Standing.{Standing};
+ghost use Rattle.waiting_order.specs.declared.waiter.Waiter.{Waiter};
 
 use crate::group::Group;
 use crate::places::Place;
-use crate::standings::Standings;
+use crate::waiters::Waiters;
 use line_core::Message;
 use slab::Slab;
 use std::alloc::{AllocError, Global};
@@ -153,7 +153,7 @@ pub fn count_in(group: Option<&Group>) -> usize
 
 /// The first place of a group from a ticket on, if there is one.
 pub fn next_in(group: Option<&Group>, from: u64) -> Option<Place>
-    ensures { (passes : Standing → Bool) (ws : List (Key × Standing)) → IsRising (λ (w : Key × Standing). w.1.ticket) ws
+    ensures { (passes : Waiter → Bool) (ws : List (Key × Waiter)) → IsRising (λ (w : Key × Waiter). w.1.ticket) ws
         → (unwrap_or (option_copied group.entry) (record { places = []; behind = 0 })).places ≡ members passes ws → IsNext passes ws from result }
 {
     match group {
@@ -163,23 +163,19 @@ pub fn next_in(group: Option<&Group>, from: u64) -> Option<Place>
 }
 
 /// Each one of a group gets a copy of a message into its own line. If memory is refused, some of them may have it.
-fn put_among(
-    standings: &mut Standings,
-    group: &mut Group,
-    message: &Message,
-) -> Result<(), AllocError>
-    requires { (g : ℕ) × (group.old ≡ grouped g standings.old.all) }
-    ensures put { OnOk result ((g : ℕ) → group.old ≡ grouped g standings.old.all
-        → standings.new ≡ record standings.old { all = map (put_in g message.now) standings.old.all }) }
-    ensures group { (g : ℕ) → group.old ≡ grouped g standings.old.all → group.new ≡ grouped g standings.new.all }
-    ensures others { (g other : ℕ) → group.old ≡ grouped g standings.old.all → other ≢ g → grouped other standings.new.all ≡ grouped other standings.old.all }
-    ensures places { KeepsPlaces standings.old.all standings.new.all }
+fn put_among(waiters: &mut Waiters, group: &mut Group, message: &Message) -> Result<(), AllocError>
+    requires { (g : ℕ) × (group.old ≡ grouped g waiters.old.all) }
+    ensures put { OnOk result ((g : ℕ) → group.old ≡ grouped g waiters.old.all
+        → waiters.new ≡ record waiters.old { all = map (put_in g message.now) waiters.old.all }) }
+    ensures group { (g : ℕ) → group.old ≡ grouped g waiters.old.all → group.new ≡ grouped g waiters.new.all }
+    ensures others { (g other : ℕ) → group.old ≡ grouped g waiters.old.all → other ≢ g → grouped other waiters.new.all ≡ grouped other waiters.old.all }
+    ensures places { KeepsPlaces waiters.old.all waiters.new.all }
 {
     for at in 0..group.places.len() {
         let Some(place) = group.places.get(at) else {
             unreachable!()
         };
-        let first = standings.put(place.key, message.clone()?)?;
+        let first = waiters.put(place.key, message.clone()?)?;
         group.count(first);
     }
     Ok(())
@@ -188,21 +184,21 @@ fn put_among(
 /// Each one of the group of that handle gets a copy of a message into its own line. If memory is refused, some of them may
 /// have it.
 pub fn put_all(
-    standings: &mut Standings,
+    waiters: &mut Waiters,
     groups: &mut Slab<Group>,
     handle: usize,
     message: &Message,
 ) -> Result<(), AllocError>
     requires some { is_none (group_at groups.old handle).places ≡ false }
-    requires group { group_at groups.old handle ≡ grouped handle standings.old.all }
-    ensures put { OnOk result (standings.new ≡ record standings.old { all = map (put_in handle message.now) standings.old.all }) }
-    ensures group { group_at groups.new handle ≡ grouped handle standings.new.all }
+    requires group { group_at groups.old handle ≡ grouped handle waiters.old.all }
+    ensures put { OnOk result (waiters.new ≡ record waiters.old { all = map (put_in handle message.now) waiters.old.all }) }
+    ensures group { group_at groups.new handle ≡ grouped handle waiters.new.all }
     ensures groups { OthersStay groups.old groups.new handle }
-    ensures others { (other : ℕ) → other ≢ handle → grouped other standings.new.all ≡ grouped other standings.old.all }
-    ensures places { KeepsPlaces standings.old.all standings.new.all }
+    ensures others { (other : ℕ) → other ≢ handle → grouped other waiters.new.all ≡ grouped other waiters.old.all }
+    ensures places { KeepsPlaces waiters.old.all waiters.new.all }
 {
     let Some(group) = groups.get_mut(handle) else {
         unreachable!()
     };
-    put_among(standings, group, message)
+    put_among(waiters, group, message)
 }

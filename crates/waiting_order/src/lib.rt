@@ -10,11 +10,11 @@ mod key;
 mod order;
 mod places;
 mod sought;
-mod standing;
-mod standings;
+mod waiter;
+mod waiters;
 
 pub use key::Key;
 pub use order::Order;
 pub use places::Place;
 pub use sought::Sought;
-pub use standing::Standing;
+pub use waiter::Waiter;

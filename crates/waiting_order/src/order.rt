@@ -12,7 +12,7 @@ ghost use Rattle.waiting_order.specs.Directories.{AreFound, GroupsAreAlike, IsGr
 ghost use Rattle.waiting_order.specs.Keeping.{kept_by, put_where, settled_at, taken_from};
 ghost use Rattle.waiting_order.specs.Soughts.{is_sought_of};
 ghost use Rattle.waiting_order.specs.Waiting.{IsOrdered, Stands, subs_of};
-ghost use Rattle.waiting_order.specs.declared.standing.Standing.{Standing};
+ghost use Rattle.waiting_order.specs.declared.waiter.Waiter.{Waiter};
 
 use crate::directory::Directory;
 use crate::finding::{count_of, first_of, free_key};
@@ -20,8 +20,8 @@ use crate::groups::{catch_up, count_in, next_in, put_all};
 use crate::key::Key;
 use crate::places::Place;
 use crate::sought::Sought;
-use crate::standing::Standing;
-use crate::standings::Standings;
+use crate::waiter::Waiter;
+use crate::waiters::Waiters;
 use broker_state::{DurableName, Subscription};
 use command_core::Dest;
 use indexmap::map::Slice;
@@ -33,7 +33,7 @@ use std::marker::Model;
 /// the list of them, each at its key and with its ticket, and the next ticket.
 #[derive(Drop)]
 pub struct Order {
-    standings: Standings,
+    waiters: Waiters,
     directory: Directory,
 }
 
@@ -43,29 +43,29 @@ impl Model for Order {
 
     ghost Value = { Waiting };
 
-    ghost view = { λ a. a.standings };
+    ghost view = { λ a. a.waiters };
 
-    ghost invariant = { λ a. AreFound a.directory a.standings.all };
+    ghost invariant = { λ a. AreFound a.directory a.waiters.all };
 }
 
 /// A subscription gets a key, and waits last. If memory is refused, part of it may be done.
 fn enter(
     alloc: Global,
-    standings: &mut Standings,
+    waiters: &mut Waiters,
     directory: &mut Directory,
     sub: Subscription,
 ) -> Result<(), AllocError>
-    requires found { AreFound directory.old standings.old.all }
-    requires few { count_by (is_of sub.session) (subs_of standings.old.all) < 16 }
-    requires number { standings.old.next + 1 < 2 ^ 64 }
-    ensures added { OnOk result (subs_of standings.new.all ≡ subs_of standings.old.all ++ sub ∷ []) }
-    ensures number { OnOk result (standings.new.next ≡ standings.old.next + 1) }
-    ensures found { OnOk result (AreFound directory.new standings.new.all) }
+    requires found { AreFound directory.old waiters.old.all }
+    requires few { count_by (is_of sub.session) (subs_of waiters.old.all) < 16 }
+    requires number { waiters.old.next + 1 < 2 ^ 64 }
+    ensures added { OnOk result (subs_of waiters.new.all ≡ subs_of waiters.old.all ++ sub ∷ []) }
+    ensures number { OnOk result (waiters.new.next ≡ waiters.old.next + 1) }
+    ensures found { OnOk result (AreFound directory.new waiters.new.all) }
 {
-    let key = free_key(standings, sub.session);
-    let ticket = standings.next();
+    let key = free_key(waiters, sub.session);
+    let ticket = waiters.next();
     let group = directory.join(alloc, &sub, Place { ticket, key })?;
-    standings.insert(key, group, sub)
+    waiters.insert(key, group, sub)
 }
 
 /// From this ticket on all get new ones before one more subscription is added. So a served one always finds a ticket.
@@ -77,7 +77,7 @@ impl Order {
         ensures { result ≡ record { all = []; next = 0 } }
     {
         Order {
-            standings: Standings::new(alloc),
+            waiters: Waiters::new(alloc),
             directory: Directory::new(alloc),
         }
     }
@@ -89,22 +89,19 @@ impl Order {
         ensures number { IfOk result (λ order. order.next ≡ length order.all) }
         ensures small { IfOk result (λ order. order.next < 2 ^ 63) }
     {
-        let mut standings = Standings::new(alloc);
+        let mut waiters = Waiters::new(alloc);
         let mut directory = Directory::new(alloc);
         for sub in subscriptions {
-            enter(alloc, &mut standings, &mut directory, sub)?;
+            enter(alloc, &mut waiters, &mut directory, sub)?;
         }
-        Ok(Order {
-            standings,
-            directory,
-        })
+        Ok(Order { waiters, directory })
     }
 
     /// No session has more than 16. Nothing changes.
     fn have_few(&self)
         ensures { (session : ℕ) → count_by (is_of session) (subs_of self.now.all) ≤ 16 }
     {
-        let _next = self.standings.next();
+        let _next = self.waiters.next();
     }
 
     /// Takes all out in their order. If memory is refused, some may be gone.
@@ -112,7 +109,7 @@ impl Order {
         ensures subs { IfOk result (λ subs. subs.items ≡ subs_of self.old.all) }
         ensures none { OnOk result (self.new ≡ record self.old { all = [] }) }
     {
-        let keys = self.standings.in_order(alloc)?;
+        let keys = self.waiters.in_order(alloc)?;
         let mut subs = Vec::new(alloc);
         for key in keys {
             let sub = self.remove(key);
@@ -160,9 +157,9 @@ impl Order {
         ensures small { OnOk result (length self.new.all < 2 ^ 63) }
         ensures err { OnErr result (self.new.all ≡ []) }
     {
-        match enter(alloc, &mut self.standings, &mut self.directory, sub) {
+        match enter(alloc, &mut self.waiters, &mut self.directory, sub) {
             Ok(()) => {
-                let _count = self.standings.len();
+                let _count = self.waiters.len();
                 Ok(())
             }
             Err(refused) => {
@@ -179,7 +176,7 @@ impl Order {
         ensures number { OnOk result (self.new.next < 2 ^ 63) }
         ensures err { OnErr result (self.new.all ≡ []) }
     {
-        if self.standings.next() < TICKETS {
+        if self.waiters.next() < TICKETS {
             return self.enter(alloc, sub);
         }
         match self.number_anew(alloc) {
@@ -195,7 +192,7 @@ impl Order {
     pub fn in_order(&self, alloc: Global) -> Result<Vec<&Subscription>, AllocError>
         ensures { IfOk result (λ subs. map (λ sub. sub.now) subs.items ≡ subs_of self.now.all) }
     {
-        let keys = self.standings.in_order(alloc)?;
+        let keys = self.waiters.in_order(alloc)?;
         let mut subs = Vec::new(alloc);
         for key in keys {
             subs.push(self.get(key))?;
@@ -204,10 +201,10 @@ impl Order {
     }
 
     /// All of them, in any order.
-    pub fn as_slice(&self) -> Slice<'_, Key, Standing>
+    pub fn as_slice(&self) -> Slice<'_, Key, Waiter>
         ensures { (f : Subscription → ℕ) → sum_by f (subs_of result) ≡ sum_by f (subs_of self.now.all) }
     {
-        self.standings.as_slice()
+        self.waiters.as_slice()
     }
 
     /// How many there are.
@@ -215,7 +212,7 @@ impl Order {
         ensures len { result ≡ length self.now.all }
         ensures small { result < 2 ^ 63 }
     {
-        self.standings.len()
+        self.waiters.len()
     }
 
     /// They stand by rising ticket, each once, and those of a group are alike. Nothing changes.
@@ -223,28 +220,28 @@ impl Order {
         ensures order { IsOrdered self.now }
         ensures groups { GroupsAreAlike self.now.all }
     {
-        let _next = self.standings.next();
+        let _next = self.waiters.next();
     }
 
     /// The one at that key.
     pub fn get(&self, key: Key) -> &Subscription
         requires { Stands self.now.all key }
-        ensures sub { (at : ℕ) (s : Standing) → slice_get self.now.all at ≡ Some (key, s) → result.now ≡ s.sub }
+        ensures sub { (at : ℕ) (s : Waiter) → slice_get self.now.all at ≡ Some (key, s) → result.now ≡ s.sub }
         ensures order { IsOrdered self.now }
     {
-        let Some(standing) = self.standings.get(key) else {
+        let Some(waiter) = self.waiters.get(key) else {
             unreachable!()
         };
-        &standing.sub
+        &waiter.sub
     }
 
     /// Takes out the one at that key. No memory is taken.
     pub fn remove(&mut self, key: Key) -> Subscription
         requires { Stands self.old.all key }
-        ensures { (at : ℕ) (s : Standing) → slice_get self.old.all at ≡ Some (key, s)
+        ensures { (at : ℕ) (s : Waiter) → slice_get self.old.all at ≡ Some (key, s)
             → (result ≡ s.sub) × (self.new ≡ record self.old { all = remove self.old.all at }) }
     {
-        let Standing { ticket, group, sub } = self.standings.remove(key);
+        let Waiter { ticket, group, sub } = self.waiters.remove(key);
         self.directory.leave(&sub, group, ticket);
         sub
     }
@@ -253,11 +250,11 @@ impl Order {
     pub fn move_last(&mut self, key: Key)
         requires there { Stands self.old.all key }
         requires number { self.old.next + 1 < 2 ^ 64 }
-        ensures { (at : ℕ) (s : Standing) → slice_get self.old.all at ≡ Some (key, s)
+        ensures { (at : ℕ) (s : Waiter) → slice_get self.old.all at ≡ Some (key, s)
             → self.new ≡ record { all = remove self.old.all at ++ (key, record s { ticket = self.old.next }) ∷ []; next = self.old.next + 1 } }
     {
-        let next = self.standings.next();
-        let (group, ticket) = self.standings.move_last(key);
+        let next = self.waiters.next();
+        let (group, ticket) = self.waiters.move_last(key);
         self.directory
             .move_last(group, ticket, Place { ticket: next, key });
     }
@@ -271,7 +268,7 @@ impl Order {
             return Ok(());
         };
         put_all(
-            &mut self.standings,
+            &mut self.waiters,
             &mut self.directory.groups,
             *handle,
             message,
@@ -281,10 +278,10 @@ impl Order {
     /// Takes the least message out of the own line of the one at that key.
     pub fn take(&mut self, key: Key) -> Option<Message>
         requires { Stands self.old.all key }
-        ensures { (at : ℕ) (s : Standing) → slice_get self.old.all at ≡ Some (key, s)
+        ensures { (at : ℕ) (s : Waiter) → slice_get self.old.all at ≡ Some (key, s)
             → (result ≡ first_of s.sub.line) × (self.new ≡ record self.old { all = changed at taken_from self.old.all }) }
     {
-        let (message, caught_up) = self.standings.take(key);
+        let (message, caught_up) = self.waiters.take(key);
         let Some(group) = caught_up else {
             return message;
         };
@@ -294,32 +291,32 @@ impl Order {
 
     /// A message becomes unacknowledged at that key, by that number of its delivery. If memory is refused, nothing changes.
     pub fn keep(&mut self, key: Key, delivery: u64, message: Message) -> Result<(), AllocError>
-        requires { (at : ℕ) × (s : Standing) × (slice_get self.old.all at ≡ Some (key, s)) × IsOver delivery s.sub.unacknowledged }
-        ensures ok { OnOk result ((at : ℕ) (s : Standing) → slice_get self.old.all at ≡ Some (key, s)
+        requires { (at : ℕ) × (s : Waiter) × (slice_get self.old.all at ≡ Some (key, s)) × IsOver delivery s.sub.unacknowledged }
+        ensures ok { OnOk result ((at : ℕ) (s : Waiter) → slice_get self.old.all at ≡ Some (key, s)
             → self.new ≡ record self.old { all = changed at (kept_by delivery message) self.old.all }) }
         ensures same { OnErr result (self.new ≡ self.old) }
     {
-        self.standings.keep(key, delivery, message)
+        self.waiters.keep(key, delivery, message)
     }
 
     /// The one at that key has a delivery acknowledged, with the others that its mode settles. It gives what is settled. If
     /// memory is refused, nothing changes.
     pub fn settle(&mut self, key: Key, delivery: u64) -> Result<Vec<(u64, Message)>, AllocError>
-        requires { (at : ℕ) × (s : Standing) × (slice_get self.old.all at ≡ Some (key, s)) × (has_delivery delivery s.sub.unacknowledged ≡ true) }
-        ensures settled { IfOk result (λ out. (at : ℕ) (s : Standing) → slice_get self.old.all at ≡ Some (key, s)
+        requires { (at : ℕ) × (s : Waiter) × (slice_get self.old.all at ≡ Some (key, s)) × (has_delivery delivery s.sub.unacknowledged ≡ true) }
+        ensures settled { IfOk result (λ out. (at : ℕ) (s : Waiter) → slice_get self.old.all at ≡ Some (key, s)
             → out.items ≡ settled s.sub.mode delivery s.sub.unacknowledged) }
-        ensures unsettled { OnOk result ((at : ℕ) (s : Standing) → slice_get self.old.all at ≡ Some (key, s)
+        ensures unsettled { OnOk result ((at : ℕ) (s : Waiter) → slice_get self.old.all at ≡ Some (key, s)
             → self.new ≡ record self.old { all = changed at (settled_at delivery) self.old.all }) }
         ensures same { OnErr result (self.new ≡ self.old) }
     {
-        self.standings.settle(key, delivery)
+        self.waiters.settle(key, delivery)
     }
 
     /// How many are of that session.
     pub fn count_of(&self, session: u64) -> usize
         ensures { result ≡ count_by (is_of session) (subs_of self.now.all) }
     {
-        count_of(&self.standings, session)
+        count_of(&self.waiters, session)
     }
 
     /// The handle of the group of that destination's subscriptions without a durable name, if there are any.
@@ -375,18 +372,18 @@ impl Order {
 
     /// The place of the first one of that session that is sought, from a ticket on.
     pub fn next_of(&self, session: u64, sought: Sought<'_>, from: u64) -> Option<Place>
-        ensures next { IsNext (λ (s : Standing). is_sought_of session sought.entry s.sub) self.now.all from result }
+        ensures next { IsNext (λ (s : Waiter). is_sought_of session sought.entry s.sub) self.now.all from result }
         ensures order { IsOrdered self.now }
     {
-        let _next = self.standings.next();
-        first_of(&self.standings, session, sought, from)
+        let _next = self.waiters.next();
+        first_of(&self.waiters, session, sought, from)
     }
 
     /// The place of the first one of a group, from a ticket on.
     pub fn next_in(&self, group: usize, from: u64) -> Option<Place>
         ensures { IsNext (is_in group) self.now.all from result }
     {
-        let _next = self.standings.next();
+        let _next = self.waiters.next();
         next_in(self.directory.groups.get(group), from)
     }
 }

@@ -12,10 +12,10 @@ pub returns-then-is_user : goal.returns-then-is_user
 returns-then-is_user c s same =
     let first = c.in-Some.ensures in
     beside_user c.args.name.now s c.args.session c.args.id.now c.args.order.now.all same c.in-Some.key first c.count_under-users.result c.count_under-users.ensures
-    (ap (uses c.args.name.now) (sym (c.get.ensures.sub first.at first.standing first.there)) ∙ sym c.is_user.ensures ∙ c.if-is_user.true)
+    (ap (uses c.args.name.now) (sym (c.get.ensures.sub first.at first.waiter first.there)) ∙ sym c.is_user.ensures ∙ c.if-is_user.true)
 
 pub returns : goal.returns
 returns c s same =
     let first = c.in-Some.ensures in
     beside_other c.args.name.now s c.args.session c.args.id.now c.args.order.now.all same c.in-Some.key first c.count_under-users.result c.count_under-users.ensures
-    (ap (uses c.args.name.now) (sym (c.get.ensures.sub first.at first.standing first.there)) ∙ sym c.is_user.ensures ∙ c.if-is_user.false)
+    (ap (uses c.args.name.now) (sym (c.get.ensures.sub first.at first.waiter first.there)) ∙ sym c.is_user.ensures ∙ c.if-is_user.false)

@@ -2,7 +2,7 @@ use Rattle.std.proofs.Common.{◌≡◌, ◌-◌, ◌++◌, ◌∷◌, ◌∙◌
 use Rattle.broker_state.specs.declared.subscription.Subscription.{Subscription}
 use Rattle.broker_state.specs.HandOut.{delivered, is_auto}
 use Rattle.broker_state.specs.States.{bytes}
-use Rattle.waiting_order.specs.declared.standing.Standing.{Standing}
+use Rattle.waiting_order.specs.declared.waiter.Waiter.{Waiter}
 use Rattle.waiting_order.specs.Keeping.{kept_by, with_sub}
 use Rattle.broker_tables.proofs.Waiters.{both_ok, changed_alike, changed_none, on_ok}
 use Rattle.broker_tables.proofs.hand_out.deliver.Goals as goal
@@ -22,7 +22,7 @@ returns c =
     let m = c.args.message in
     let d = c.args.delivery in
     let held = c.args.held.now in
-    let auto : (at : ℕ) (s : Standing) → slice_get o.all at ≡ Some (c.args.key, s) → is_auto s.sub.mode ≡ false = λ at s there. ap (λ (x : Subscription). is_auto x.mode) (sym (c.get-sub.ensures.sub at s there)) ∙ sym c.is_auto.ensures ∙ c.if-is_auto.false in
+    let auto : (at : ℕ) (s : Waiter) → slice_get o.all at ≡ Some (c.args.key, s) → is_auto s.sub.mode ≡ false = λ at s there. ap (λ (x : Subscription). is_auto x.mode) (sym (c.get-sub.ensures.sub at s there)) ∙ sym c.is_auto.ensures ∙ c.if-is_auto.false in
     record {
       answers = c.hand_over.ensures.answers;
       delivered = both_ok c.hand_over.result _ _ _ (λ kept _ at s there.

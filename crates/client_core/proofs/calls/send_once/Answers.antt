@@ -2,7 +2,7 @@ use Rattle.std.proofs.Common.{None}
 use Rattle.frame_core.specs.Written.{written}
 use Rattle.client_core.specs.Answers.{said}
 use Rattle.client_core.specs.Requests.{connect_frame, send_frame}
-use Rattle.client_core.specs.declared.stage.Stage.TheVariants.{Connect, Disconnect, Send}
+use Rattle.client_core.specs.declared.probe.Probe.TheVariants.{Connect, Disconnect, Send}
 use Rattle.client_core.proofs.Turns.{has_reason, have_reason, three}
 use Rattle.client_core.proofs.calls.send_once.Goals as goal
 

@@ -1,4 +1,4 @@
-use Rattle.client_core.specs.declared.stage.Stage.TheVariants.{Disconnect, Send}
+use Rattle.client_core.specs.declared.probe.Probe.TheVariants.{Disconnect, Send}
 use Rattle.client_core.specs.Talks.{Converses}
 use Rattle.client_core.proofs.Turns.{breaks_later, closed, converses, led_to_disconnect, led_to_send}
 use Rattle.client_core.proofs.conversation.converse.Goals as goal

@@ -1,7 +1,7 @@
 use Rattle.std.proofs.Common.{◌∷◌, [], rules}
 use Rattle.client_core.specs.Answers.{said}
 use Rattle.client_core.specs.Talks.{Adds, Said}
-use Rattle.client_core.specs.declared.stage.Stage.TheVariants.{Disconnect}
+use Rattle.client_core.specs.declared.probe.Probe.TheVariants.{Disconnect}
 use Rattle.client_core.proofs.Leaving.{said_first}
 use Rattle.client_core.proofs.farewell.hear_farewell.Goals as goal
 

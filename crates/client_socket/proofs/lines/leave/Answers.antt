@@ -1,6 +1,6 @@
 use Rattle.std.proofs.Common.{None}
 use Rattle.client_core.specs.Answers.{said}
-use Rattle.client_core.specs.declared.stage.Stage.TheVariants.{Disconnect}
+use Rattle.client_core.specs.declared.probe.Probe.TheVariants.{Disconnect}
 use Rattle.client_core.proofs.Turns.{has_reason}
 use Rattle.client_socket.proofs.lines.leave.Goals as goal
 

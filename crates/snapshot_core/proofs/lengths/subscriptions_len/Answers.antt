@@ -5,7 +5,7 @@ use Rattle.std.proofs.lemmas.Option.{get_or_from_slice_get, slice_get_within}
 use Rattle.broker_state.specs.declared.subscription.Subscription.{Subscription}
 use Rattle.broker_state.proofs.Weights.{sum_by-part}
 use Rattle.waiting_order.specs.declared.key.Key.{Key}
-use Rattle.waiting_order.specs.declared.standing.Standing.{Standing}
+use Rattle.waiting_order.specs.declared.waiter.Waiter.{Waiter}
 use Rattle.waiting_order.specs.Waiting.{subs_of}
 use Rattle.broker_tables.proofs.Waiters.{length_subs, sub_at}
 use Rattle.snapshot_core.specs.Snapshots.{subscription}
@@ -18,7 +18,7 @@ subscription_len-requires c =
     let s = c.args.broker.now.state in
     let at = c.loop-at.at in
     let subs = c.subscriptions_by_key-subs.result in
-    let w : Key × Standing = (c.in-Some._key.now, c.in-Some.standing.now) in
+    let w : Key × Waiter = (c.in-Some._key.now, c.in-Some.waiter.now) in
     let there : slice_get subs at ≡ Some w = sym c.in-Some.ensures.entry in
     let sub = w.1.sub in
     let is = sub_at subs at w there in
@@ -30,7 +30,7 @@ loop-at-preserved c =
     let s = c.args.broker.now.state in
     let at = c.loop-at.at in
     let subs = c.subscriptions_by_key-subs.result in
-    let w : Key × Standing = (c.in-Some._key.now, c.in-Some.standing.now) in
+    let w : Key × Waiter = (c.in-Some._key.now, c.in-Some.waiter.now) in
     let there : slice_get subs at ≡ Some w = sym c.in-Some.ensures.entry in
     let sub = w.1.sub in
     let is = sub_at subs at w there in

@@ -4,11 +4,11 @@ use Rattle.waiting_order.proofs.finding.count_of.Goals as goal
 
 pub loop-slot-preserved : goal.loop-slot-preserved
 loop-slot-preserved c = record {
-  counted = omega (arith, c.loop-slot.invariant.counted, c.count_at-count.ensures.count, total_more c.args.session c.loop-slot.slot c.args.standings.now.all);
+  counted = omega (arith, c.loop-slot.invariant.counted, c.count_at-count.ensures.count, total_more c.args.session c.loop-slot.slot c.args.waiters.now.all);
   few = omega (arith, c.loop-slot.invariant.few, c.count_at-count.ensures.few);
 }
 
 pub returns : goal.returns
 returns c =
     let end : c.loop-slot.slot ≡ 16 = omega arith in
-    c.loop-slot.invariant.counted ∙ ap (λ (n : ℕ). total c.args.session n c.args.standings.now.all) end ∙ total_all c.args.session c.args.standings.now.all c.requires
+    c.loop-slot.invariant.counted ∙ ap (λ (n : ℕ). total c.args.session n c.args.waiters.now.all) end ∙ total_all c.args.session c.args.waiters.now.all c.requires

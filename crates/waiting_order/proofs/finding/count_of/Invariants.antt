@@ -4,6 +4,6 @@ use Rattle.waiting_order.proofs.finding.count_of.Given as goal
 
 abbrev pub invariant-loop-slot : goal.invariant-loop-slot
 invariant-loop-slot l = record {
-  counted : l.count ≡ total l.session l.slot l.standings.all;
+  counted : l.count ≡ total l.session l.slot l.waiters.all;
   few : l.count ≤ l.slot;
 }

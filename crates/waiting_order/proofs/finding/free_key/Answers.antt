@@ -5,10 +5,10 @@ use Rattle.waiting_order.proofs.finding.free_key.Goals as goal
 pub loop-slot-preserved : goal.loop-slot-preserved
 loop-slot-preserved c =
     let it = c.in-Some.ensures.some in
-    let ws = c.args.standings.now.all in
-    omega (arith, c.loop-slot.invariant, total_more c.args.session c.loop-slot.slot ws, one_there c.args.standings.now c.get.ensures.order (key_of c.args.session c.loop-slot.slot) it.0 c.in-Some._taken.now it.1)
+    let ws = c.args.waiters.now.all in
+    omega (arith, c.loop-slot.invariant, total_more c.args.session c.loop-slot.slot ws, one_there c.args.waiters.now c.get.ensures.order (key_of c.args.session c.loop-slot.slot) it.0 c.in-Some._taken.now it.1)
 
 pub unreachable-requires : goal.unreachable-requires
 unreachable-requires c =
     let end : c.loop-slot.slot ≡ 16 = omega arith in
-    omega (ap (λ (n : ℕ). total c.args.session n c.args.standings.now.all) end, end, arith, c.requires.few, c.loop-slot.invariant, total_all c.args.session c.args.standings.now.all c.requires.slots)
+    omega (ap (λ (n : ℕ). total c.args.session n c.args.waiters.now.all) end, end, arith, c.requires.few, c.loop-slot.invariant, total_all c.args.session c.args.waiters.now.all c.requires.slots)

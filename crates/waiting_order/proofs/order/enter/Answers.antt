@@ -11,19 +11,19 @@ use Rattle.waiting_order.proofs.order.enter.Goals as goal
 
 pub join-requires : goal.join-requires
 join-requires c =
-    let o = c.args.standings.now in
+    let o = c.args.waiters.now in
     let order = c.next-ticket.ensures.order in
     (o.all, c.requires.found.directory, subst (λ (n : ℕ). AllByRecursion (λ (w : W). w.1.ticket < n) o.all) (sym c.next-ticket.ensures.next) order.under, omega (arith, rising_few ticket_of o.all o.next order.rising order.under, c.requires.number))
 
 pub returns-clause-added : goal.returns-clause-added
 returns-clause-added c =
-    let o = c.args.standings.now in
+    let o = c.args.waiters.now in
     let w : W = (c.free_key-key.result, record { ticket = o.next; group = c.in_ok-group.group; sub = c.args.sub }) in
     on_ok_weaker c.insert.result (λ is. ap (λ (x : Waiting). subs_of x.all) is ∙ subs_pushed o.all w) c.insert.ensures.ok
 
 pub returns-clause-found : goal.returns-clause-found
 returns-clause-found c =
-    let o = c.args.standings.now in
+    let o = c.args.waiters.now in
     let group = c.in_ok-group.group in
     let w : W = (c.free_key-key.result, record { ticket = o.next; group = group; sub = c.args.sub }) in
     let d = c.join.new.self in

@@ -42,7 +42,7 @@ serve_or_pass-requires-clause-cursor c =
 pub serve_or_pass-requires-clause-there : goal.serve_or_pass-requires-clause-there
 serve_or_pass-requires-clause-there c =
     let w = c.in-Some.ensures in
-    record { at = w.at; standing = w.standing; there = w.there; ticket = w.ticket }
+    record { at = w.at; waiter = w.waiter; there = w.there; ticket = w.ticket }
 
 pub serve_or_pass-requires-clause-least : goal.serve_or_pass-requires-clause-least
 serve_or_pass-requires-clause-least c =
@@ -91,7 +91,7 @@ returns-then-can_serve-clause-ready c =
     let awaited : AreAwaited c.move_on-2.new.cursors.items stock =
     subst (λ (l : List Cursor). AreAwaited l stock) (sym c.move_on-2.ensures) (awaited_moved stock cursors c.args.at cursor c.in-Some.place.ticket found c.requires.awaited (idle_waits stock cursor.scope cursor.from c.in-Some.place.ticket c.in-Some.ensures.idle)) in
     let all = subst (λ (l : List Cursor). AllByRecursion (λ (d : Cursor). c.in-Some.place.ticket ≤ d.from) l) c.as_slice.ensures.value (c.are_from.ensures c.if-not-are_from.false) in
-    ready_at stock c.move_on-2.new.cursors.items c.in-Some.place w.at w.standing c.stand_in_order.ensures.order awaited all w.there w.ticket (sym (c.can_serve.ensures w.at w.standing w.there) ∙ c.if-can_serve.true)
+    ready_at stock c.move_on-2.new.cursors.items c.in-Some.place w.at w.waiter c.stand_in_order.ensures.order awaited all w.there w.ticket (sym (c.can_serve.ensures w.at w.waiter w.there) ∙ c.if-can_serve.true)
 
 pub returns-then-can_serve-clause-awaited : goal.returns-then-can_serve-clause-awaited
 returns-then-can_serve-clause-awaited c =

@@ -6,7 +6,7 @@ use Rattle.broker_state.specs.States.{bytes, one, weight_of_subscription}
 use Rattle.broker_state.specs.Waiting.{left_line, line_for}
 use Rattle.broker_state.proofs.Served.{number_of_ready}
 use Rattle.broker_state.proofs.Weights.{all_at, sum_by-part}
-use Rattle.waiting_order.specs.declared.standing.Standing.{Standing}
+use Rattle.waiting_order.specs.declared.waiter.Waiter.{Waiter}
 use Rattle.waiting_order.specs.Keeping.{with_sub}
 use Rattle.waiting_order.specs.Waiting.{Waiting, subs_of}
 use Rattle.broker_tables.specs.Stocks.{stocked}
@@ -19,7 +19,7 @@ deliver-requires-clause-over c =
     let ready = c.requires.ready in
     let stock = c.args.self.now in
     let at = ready.at in
-    let s = ready.standing in
+    let s = ready.waiter in
     let taken = c.in_ok-message.ensures.order at s ready.there in
     let f : Subscription → Subscription = λ x. left_line x (drop 1 (line_for stock.shared s.sub)) in
     let over = all_at (λ x. IsOver stock.next_delivery x.unacknowledged) (subs_of stock.order.all) at s.sub (sub_at stock.order.all at (c.args.key, s) ready.there) c.requires.stocked.next in
@@ -30,7 +30,7 @@ deliver-requires-clause-held c =
     let ready = c.requires.ready in
     let stock = c.args.self.now in
     let at = ready.at in
-    let s = ready.standing in
+    let s = ready.waiter in
     let kept = c.requires.stocked in
     let there = sub_at stock.order.all at (c.args.key, s) ready.there in
     let line = line_for stock.shared s.sub in
@@ -46,10 +46,10 @@ move_last-requires-clause-there c =
     let ready = c.requires.ready in
     let stock = c.args.self.now in
     let at = ready.at in
-    let s = ready.standing in
+    let s = ready.waiter in
     let f : Subscription → Subscription = λ x. left_line x (drop 1 (line_for stock.shared s.sub)) in
     let g : Subscription → Subscription = λ x. delivered x stock.next_delivery c.in_ok-message.message in
-    let s1 : Standing = record s { sub = f s.sub } in
+    let s1 : Waiter = record s { sub = f s.sub } in
     let taken = c.in_ok-message.ensures.order at s ready.there in
     let there : slice_get c.take_for.new.order.all at ≡ Some (c.args.key, s1) = ap (λ (o : Waiting). slice_get o.all at) taken ∙ changed_there (with_sub f) stock.order.all at (c.args.key, s) ready.there in
     (at, record s { sub = g (f s.sub) }, ap (λ (o : Waiting). slice_get o.all at) (c.in_ok-deliver.ensures.delivered at s1 there) ∙ changed_there (with_sub g) c.take_for.new.order.all at (c.args.key, s1) there)
@@ -59,9 +59,9 @@ move_last-requires-clause-number c =
     let ready = c.requires.ready in
     let stock = c.args.self.now in
     let at = ready.at in
-    let s = ready.standing in
+    let s = ready.waiter in
     let f : Subscription → Subscription = λ x. left_line x (drop 1 (line_for stock.shared s.sub)) in
-    let s1 : Standing = record s { sub = f s.sub } in
+    let s1 : Waiter = record s { sub = f s.sub } in
     let taken = c.in_ok-message.ensures.order at s ready.there in
     let there : slice_get c.take_for.new.order.all at ≡ Some (c.args.key, s1) = ap (λ (o : Waiting). slice_get o.all at) taken ∙ changed_there (with_sub f) stock.order.all at (c.args.key, s) ready.there in
     let few = number_of_ready (stocked stock) s.sub (ready.first.passing s.sub (sub_at stock.order.all at (c.args.key, s) ready.there)) in
@@ -72,12 +72,12 @@ returns c =
     let ready = c.requires.ready in
     let stock = c.args.self.now in
     let at = ready.at in
-    let s = ready.standing in
+    let s = ready.waiter in
     let m = c.in_ok-message.message in
     let f : Subscription → Subscription = λ x. left_line x (drop 1 (line_for stock.shared s.sub)) in
     let g : Subscription → Subscription = λ x. delivered x stock.next_delivery m in
-    let s1 : Standing = record s { sub = f s.sub } in
-    let s2 : Standing = record s { sub = g (f s.sub) } in
+    let s1 : Waiter = record s { sub = f s.sub } in
+    let s2 : Waiter = record s { sub = g (f s.sub) } in
     let taken = c.in_ok-message.ensures.order at s ready.there in
     let there : slice_get c.take_for.new.order.all at ≡ Some (c.args.key, s1) = ap (λ (o : Waiting). slice_get o.all at) taken ∙ changed_there (with_sub f) stock.order.all at (c.args.key, s) ready.there in
     let given = c.in_ok-deliver.ensures.delivered at s1 there in
@@ -91,7 +91,7 @@ returns c =
         out = message_out c.args.number (f s.sub) stock.next_delivery m;
         served = record {
           at = at;
-          standing = s;
+          waiter = s;
           sub = s2.sub;
           there = ready.there;
           first = ready.first;

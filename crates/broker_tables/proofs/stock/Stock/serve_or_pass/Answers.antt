@@ -13,13 +13,13 @@ use Rattle.broker_tables.proofs.stock.Stock.serve_or_pass.Goals as goal
 pub returns-then-can_serve-clause-ready : goal.returns-then-can_serve-clause-ready
 returns-then-can_serve-clause-ready c =
     let k = c.requires.there.at in
-    let s = c.requires.there.standing in
+    let s = c.requires.there.waiter in
     let there = c.requires.there.there in
     ready_at c.args.self.now c.args.cursors.now.items c.args.place k s c.stand_in_order.ensures.order c.requires.awaited c.requires.least there c.requires.there.ticket (sym (c.can_serve.ensures k s there) ∙ c.if-can_serve.true)
 
 pub overflow_add-place : goal.overflow_add-place
 overflow_add-place c =
-    let under = all_at (λ (v : W). v.1.ticket < c.args.self.now.order.next) c.args.self.now.order.all c.requires.there.at (c.args.place.key, c.requires.there.standing) c.requires.there.there c.stand_in_order.ensures.order.under in
+    let under = all_at (λ (v : W). v.1.ticket < c.args.self.now.order.next) c.args.self.now.order.all c.requires.there.at (c.args.place.key, c.requires.there.waiter) c.requires.there.there c.stand_in_order.ensures.order.under in
     omega (arith, under, c.requires.there.ticket, c.requires.tickets)
 
 pub move_on-requires : goal.move_on-requires
@@ -30,7 +30,7 @@ returns-clause-awaited c =
     let stock = c.args.self.now in
     let cursors = c.args.cursors.now.items in
     let k = c.requires.there.at in
-    let s = c.requires.there.standing in
+    let s = c.requires.there.waiter in
     let there = c.requires.there.there in
     let ticket = c.args.place.ticket + 1 in
     let fails : can_take (stocked stock) s.sub ≡ false = sym (c.can_serve.ensures k s there) ∙ c.if-can_serve.false in
@@ -41,5 +41,5 @@ returns-clause-awaited c =
 
 pub returns-clause-nearer : goal.returns-clause-nearer
 returns-clause-nearer c =
-    let under = all_at (λ (v : W). v.1.ticket < c.args.self.now.order.next) c.args.self.now.order.all c.requires.there.at (c.args.place.key, c.requires.there.standing) c.requires.there.there c.stand_in_order.ensures.order.under in
+    let under = all_at (λ (v : W). v.1.ticket < c.args.self.now.order.next) c.args.self.now.order.all c.requires.there.at (c.args.place.key, c.requires.there.waiter) c.requires.there.there c.stand_in_order.ensures.order.under in
     subst (λ (l : List Cursor). tickets_left l < tickets_left c.args.cursors.now.items) (sym c.move_on.ensures) (nearer c.args.cursors.now.items c.args.at c.requires.cursor.0 (c.args.place.ticket + 1) c.requires.cursor.1 (omega (arith, c.requires.cursor.2)) (omega (arith, c.requires.cursor.2, under, c.requires.there.ticket, c.requires.tickets)))

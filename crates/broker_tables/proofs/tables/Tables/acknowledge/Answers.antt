@@ -22,27 +22,27 @@ pub settle-requires : goal.settle-requires
 settle-requires c =
     let first = c.in-Some.ensures in
     let ws = c.self.inside.stock.order.all in
-    let sub = first.standing.sub in
-    let there = sub_at ws first.at (c.in-Some.key, first.standing) first.there in
-    (first.at, first.standing, first.there, (and_parts (is_of c.args.session sub) (has_delivery c.args.delivery sub.unacknowledged) (first.first.passing sub there)).1)
+    let sub = first.waiter.sub in
+    let there = sub_at ws first.at (c.in-Some.key, first.waiter) first.there in
+    (first.at, first.waiter, first.there, (and_parts (is_of c.args.session sub) (has_delivery c.args.delivery sub.unacknowledged) (first.first.passing sub there)).1)
 
 pub let_deliveries_go-requires-clause-messages : goal.let_deliveries_go-requires-clause-messages
 let_deliveries_go-requires-clause-messages c =
     let kept = (c.self.invariant (ap (λ (b : TablesValue). b.broken) c.self.view_is ∙ c.requires.whole)).whole in
     let first = c.in-Some.ensures in
     let ws = c.self.inside.stock.order.all in
-    let there = sub_at ws first.at (c.in-Some.key, first.standing) first.there in
-    let given = c.as_slice.ensures.value ∙ c.in_ok-settled.ensures.settled first.at first.standing first.there in
-    omega (arith, weight-settled_by one c.args.delivery first.standing.sub, sum_by-part (weight_of_subscription one) (subs_of ws) first.at first.standing.sub there, ap (sum_by (λ delivery. one delivery.1)) given, kept.messages)
+    let there = sub_at ws first.at (c.in-Some.key, first.waiter) first.there in
+    let given = c.as_slice.ensures.value ∙ c.in_ok-settled.ensures.settled first.at first.waiter first.there in
+    omega (arith, weight-settled_by one c.args.delivery first.waiter.sub, sum_by-part (weight_of_subscription one) (subs_of ws) first.at first.waiter.sub there, ap (sum_by (λ delivery. one delivery.1)) given, kept.messages)
 
 pub let_deliveries_go-requires-clause-bytes : goal.let_deliveries_go-requires-clause-bytes
 let_deliveries_go-requires-clause-bytes c =
     let kept = (c.self.invariant (ap (λ (b : TablesValue). b.broken) c.self.view_is ∙ c.requires.whole)).whole in
     let first = c.in-Some.ensures in
     let ws = c.self.inside.stock.order.all in
-    let there = sub_at ws first.at (c.in-Some.key, first.standing) first.there in
-    let given = c.as_slice.ensures.value ∙ c.in_ok-settled.ensures.settled first.at first.standing first.there in
-    omega (arith, weight-settled_by bytes c.args.delivery first.standing.sub, sum_by-part (weight_of_subscription bytes) (subs_of ws) first.at first.standing.sub there, ap (sum_by (λ delivery. bytes delivery.1)) given, kept.bytes)
+    let there = sub_at ws first.at (c.in-Some.key, first.waiter) first.there in
+    let given = c.as_slice.ensures.value ∙ c.in_ok-settled.ensures.settled first.at first.waiter first.there in
+    omega (arith, weight-settled_by bytes c.args.delivery first.waiter.sub, sum_by-part (weight_of_subscription bytes) (subs_of ws) first.at first.waiter.sub there, ap (sum_by (λ delivery. bytes delivery.1)) given, kept.bytes)
 
 pub invariant_of-self-2 : goal.invariant_of-self-2
 invariant_of-self-2 c _ =
@@ -53,10 +53,10 @@ invariant_of-self-2 c _ =
     let ws = a.stock.order.all in
     let subs = subs_of ws in
     let at = first.at in
-    let sub = first.standing.sub in
-    let there = sub_at ws at (c.in-Some.key, first.standing) first.there in
-    let given = c.as_slice.ensures.value ∙ c.in_ok-settled.ensures.settled at first.standing first.there in
-    let changes = c.in_ok-settled.ensures.unsettled at first.standing first.there in
+    let sub = first.waiter.sub in
+    let there = sub_at ws at (c.in-Some.key, first.waiter) first.there in
+    let given = c.as_slice.ensures.value ∙ c.in_ok-settled.ensures.settled at first.waiter first.there in
+    let changes = c.in_ok-settled.ensures.unsettled at first.waiter first.there in
     let left = ap (λ (o : Waiting). subs_of o.all) changes ∙ subs_changed (settled_by c.args.delivery) ws at in
     let IsUnder = λ (x : Subscription). IsOver a.stock.next_delivery x.unacknowledged in
     record {
@@ -80,5 +80,5 @@ pub returns-clause-acknowledged : goal.returns-clause-acknowledged
 returns-clause-acknowledged c =
     let first = c.in-Some.ensures in
     let ws = c.self.inside.stock.order.all in
-    let left = ap (λ (o : Waiting). subs_of o.all) (c.in_ok-settled.ensures.unsettled first.at first.standing first.there) ∙ subs_changed (settled_by c.args.delivery) ws first.at in
+    let left = ap (λ (o : Waiting). subs_of o.all) (c.in_ok-settled.ensures.unsettled first.at first.waiter first.there) ∙ subs_changed (settled_by c.args.delivery) ws first.at in
     rw (← c.self.view_is) (acknowledged_first _ c.args.session c.args.delivery first.at (subs_of c.settle.new.self.all) first.first left)

@@ -23,14 +23,14 @@ returns-in_default-clause-ended c =
 pub remove-sub-requires : goal.remove-sub-requires
 remove-sub-requires c =
     let next = c.in-Some.ensures.next in
-    (next.at, next.standing, next.there)
+    (next.at, next.waiter, next.there)
 
 pub let_go-requires : goal.let_go-requires
 let_go-requires c =
     let next = c.in-Some.ensures.next in
     let ws = c.self.inside.stock.order.all in
-    let removed = c.remove-sub.ensures next.at next.standing next.there in
-    let there = sub_at ws next.at (c.in-Some.place.key, next.standing) next.there ∙ ap (λ (x : Subscription). Some x) (sym removed.0) in
+    let removed = c.remove-sub.ensures next.at next.waiter next.there in
+    let there = sub_at ws next.at (c.in-Some.place.key, next.waiter) next.there ∙ ap (λ (x : Subscription). Some x) (sym removed.0) in
     let part = λ (weight : Message → ℕ). sum_by-removed (weight_of_subscription weight) (subs_of ws) next.at c.remove-sub.result there in
     let kept = (c.self.invariant (ap (λ (b : TablesValue). b.broken) c.self.view_is ∙ c.requires.whole)).whole in
     record {
@@ -47,8 +47,8 @@ invariant_of-self-2 c _ =
     let next = c.in-Some.ensures.next in
     let ws = a.stock.order.all in
     let subs = subs_of ws in
-    let removed = c.remove-sub.ensures next.at next.standing next.there in
-    let there = sub_at ws next.at (c.in-Some.place.key, next.standing) next.there ∙ ap (λ (x : Subscription). Some x) (sym removed.0) in
+    let removed = c.remove-sub.ensures next.at next.waiter next.there in
+    let there = sub_at ws next.at (c.in-Some.place.key, next.waiter) next.there ∙ ap (λ (x : Subscription). Some x) (sym removed.0) in
     let part = λ (weight : Message → ℕ). sum_by-removed (weight_of_subscription weight) subs next.at c.remove-sub.result there in
     let others = ap (λ (o : Waiting). subs_of o.all) removed.1 ∙ subs_removed ws next.at in
     let kept = c.self.invariant (ap (λ (b : TablesValue). b.broken) c.self.view_is ∙ c.requires.whole) in
@@ -76,8 +76,8 @@ returns-clause-ended c =
     let a = c.self.inside in
     let next = c.in-Some.ensures.next in
     let ws = a.stock.order.all in
-    let removed = c.remove-sub.ensures next.at next.standing next.there in
-    let there = sub_at ws next.at (c.in-Some.place.key, next.standing) next.there ∙ ap (λ (x : Subscription). Some x) (sym removed.0) in
+    let removed = c.remove-sub.ensures next.at next.waiter next.there in
+    let there = sub_at ws next.at (c.in-Some.place.key, next.waiter) next.there ∙ ap (λ (x : Subscription). Some x) (sym removed.0) in
     let others = ap (λ (o : Waiting). subs_of o.all) removed.1 ∙ subs_removed ws next.at in
     rw (← c.self.view_is) (
       next.at,

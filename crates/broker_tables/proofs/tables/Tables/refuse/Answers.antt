@@ -29,27 +29,27 @@ returns-in_default-clause-nacked c =
 pub get-requires : goal.get-requires
 get-requires c =
     let first = c.in-Some.ensures in
-    (first.at, first.standing, first.there)
+    (first.at, first.waiter, first.there)
 
 pub get-requires-2 : goal.get-requires-2
 get-requires-2 c =
     let first = c.in-Some.ensures in
-    (first.at, first.standing, first.there)
+    (first.at, first.waiter, first.there)
 
 pub take_refused-requires : goal.take_refused-requires
 take_refused-requires c =
     let first = c.in-Some.ensures in
     let ws = c.self.inside.stock.order.all in
-    let sub = first.standing.sub in
-    let there = sub_at ws first.at (c.in-Some.key, first.standing) first.there in
-    record { known = (first.at, first.standing, first.there, (and_parts (is_of c.args.session sub) (has_delivery c.args.delivery sub.unacknowledged) (first.first.passing sub there)).1) }
+    let sub = first.waiter.sub in
+    let there = sub_at ws first.at (c.in-Some.key, first.waiter) first.there in
+    record { known = (first.at, first.waiter, first.there, (and_parts (is_of c.args.session sub) (has_delivery c.args.delivery sub.unacknowledged) (first.first.passing sub there)).1) }
 
 pub finds_room-requires-clause-few : goal.finds_room-requires-clause-few
 finds_room-requires-clause-few c =
     let first = c.in-Some.ensures in
     let ws = c.self.inside.stock.order.all in
-    let is_sub = c.get.ensures.sub first.at first.standing first.there in
-    let there = sub_at ws first.at (c.in-Some.key, first.standing) first.there ∙ ap (λ (x : Subscription). Some x) (sym is_sub) in
+    let is_sub = c.get.ensures.sub first.at first.waiter first.there in
+    let there = sub_at ws first.at (c.in-Some.key, first.waiter) first.there ∙ ap (λ (x : Subscription). Some x) (sym is_sub) in
     let whole = ap (λ (b : TablesValue). b.broken) c.self.view_is ∙ c.requires.whole in
     let kept = c.self.invariant whole in
     let sub = c.get.result.now in
@@ -59,8 +59,8 @@ pub finds_room-requires-clause-part : goal.finds_room-requires-clause-part
 finds_room-requires-clause-part c =
     let first = c.in-Some.ensures in
     let ws = c.self.inside.stock.order.all in
-    let is_sub = c.get.ensures.sub first.at first.standing first.there in
-    let there = sub_at ws first.at (c.in-Some.key, first.standing) first.there ∙ ap (λ (x : Subscription). Some x) (sym is_sub) in
+    let is_sub = c.get.ensures.sub first.at first.waiter first.there in
+    let there = sub_at ws first.at (c.in-Some.key, first.waiter) first.there ∙ ap (λ (x : Subscription). Some x) (sym is_sub) in
     let whole = ap (λ (b : TablesValue). b.broken) c.self.view_is ∙ c.requires.whole in
     let kept = c.self.invariant whole in
     let a = c.self.inside in
@@ -71,8 +71,8 @@ pub returns-then-not-finds_room-clause-nacked : goal.returns-then-not-finds_room
 returns-then-not-finds_room-clause-nacked c =
     let first = c.in-Some.ensures in
     let ws = c.self.inside.stock.order.all in
-    let is_sub = c.get.ensures.sub first.at first.standing first.there in
-    let there = sub_at ws first.at (c.in-Some.key, first.standing) first.there ∙ ap (λ (x : Subscription). Some x) (sym is_sub) in
+    let is_sub = c.get.ensures.sub first.at first.waiter first.there in
+    let there = sub_at ws first.at (c.in-Some.key, first.waiter) first.there ∙ ap (λ (x : Subscription). Some x) (sym is_sub) in
     let whole = ap (λ (b : TablesValue). b.broken) c.self.view_is ∙ c.requires.whole in
     let kept = c.self.invariant whole in
     let a = c.self.inside in
@@ -87,29 +87,29 @@ pub move_refused-requires-clause-places : goal.move_refused-requires-clause-plac
 move_refused-requires-clause-places c =
     let first = c.in-Some.ensures in
     let ws = c.self.inside.stock.order.all in
-    let is_sub = c.get.ensures.sub first.at first.standing first.there in
-    let there = sub_at ws first.at (c.in-Some.key, first.standing) first.there ∙ ap (λ (x : Subscription). Some x) (sym is_sub) in
+    let is_sub = c.get.ensures.sub first.at first.waiter first.there in
+    let there = sub_at ws first.at (c.in-Some.key, first.waiter) first.there ∙ ap (λ (x : Subscription). Some x) (sym is_sub) in
     let whole = ap (λ (b : TablesValue). b.broken) c.self.view_is ∙ c.requires.whole in
     let kept = c.self.invariant whole in
     let a = c.self.inside in
     let s = shown a.count a.sessions.entries a.durables a.stock in
     let sub = c.get.result.now in
     let items = c.in_ok-settled.settled.items in
-    let given = c.in_ok-settled.ensures.settled first.at first.standing first.there ∙ ap (λ (x : Subscription). settled x.mode c.args.delivery x.unacknowledged) (sym is_sub) in
+    let given = c.in_ok-settled.ensures.settled first.at first.waiter first.there ∙ ap (λ (x : Subscription). settled x.mode c.args.delivery x.unacknowledged) (sym is_sub) in
     omega (arith, c.requires.few, ones items, part_of s c.args.session c.args.member c.args.delivery first.at sub first.first there one, ap (sum_by (λ delivery. one delivery.1)) given, kept.whole.messages, kept.whole.few)
 
 pub move_refused-requires-clause-part : goal.move_refused-requires-clause-part
 move_refused-requires-clause-part c =
     let first = c.in-Some.ensures in
     let ws = c.self.inside.stock.order.all in
-    let is_sub = c.get.ensures.sub first.at first.standing first.there in
-    let there = sub_at ws first.at (c.in-Some.key, first.standing) first.there ∙ ap (λ (x : Subscription). Some x) (sym is_sub) in
+    let is_sub = c.get.ensures.sub first.at first.waiter first.there in
+    let there = sub_at ws first.at (c.in-Some.key, first.waiter) first.there ∙ ap (λ (x : Subscription). Some x) (sym is_sub) in
     let whole = ap (λ (b : TablesValue). b.broken) c.self.view_is ∙ c.requires.whole in
     let kept = c.self.invariant whole in
     let a = c.self.inside in
     let s = shown a.count a.sessions.entries a.durables a.stock in
     let sub = c.get.result.now in
-    let given = c.in_ok-settled.ensures.settled first.at first.standing first.there ∙ ap (λ (x : Subscription). settled x.mode c.args.delivery x.unacknowledged) (sym is_sub) in
+    let given = c.in_ok-settled.ensures.settled first.at first.waiter first.there ∙ ap (λ (x : Subscription). settled x.mode c.args.delivery x.unacknowledged) (sym is_sub) in
     let part = part_of s c.args.session c.args.member c.args.delivery first.at sub first.first there in
     record {
       messages = omega (arith, part one, ap (sum_by (λ delivery. one delivery.1)) given, kept.whole.messages);
@@ -120,16 +120,16 @@ pub move_refused-requires-clause-small : goal.move_refused-requires-clause-small
 move_refused-requires-clause-small c =
     let first = c.in-Some.ensures in
     let ws = c.self.inside.stock.order.all in
-    let is_sub = c.get.ensures.sub first.at first.standing first.there in
-    let there = sub_at ws first.at (c.in-Some.key, first.standing) first.there ∙ ap (λ (x : Subscription). Some x) (sym is_sub) in
-    let there_again = sub_at ws first.at (c.in-Some.key, first.standing) first.there ∙ ap (λ (x : Subscription). Some x) (sym (c.get-2.ensures.sub first.at first.standing first.there)) in
+    let is_sub = c.get.ensures.sub first.at first.waiter first.there in
+    let there = sub_at ws first.at (c.in-Some.key, first.waiter) first.there ∙ ap (λ (x : Subscription). Some x) (sym is_sub) in
+    let there_again = sub_at ws first.at (c.in-Some.key, first.waiter) first.there ∙ ap (λ (x : Subscription). Some x) (sym (c.get-2.ensures.sub first.at first.waiter first.there)) in
     let whole = ap (λ (b : TablesValue). b.broken) c.self.view_is ∙ c.requires.whole in
     let kept = c.self.invariant whole in
     let a = c.self.inside in
     let s = shown a.count a.sessions.entries a.durables a.stock in
     let sub = c.get.result.now in
     let items = c.in_ok-settled.settled.items in
-    let given = c.in_ok-settled.ensures.settled first.at first.standing first.there ∙ ap (λ (x : Subscription). settled x.mode c.args.delivery x.unacknowledged) (sym is_sub) in
+    let given = c.in_ok-settled.ensures.settled first.at first.waiter first.there ∙ ap (λ (x : Subscription). settled x.mode c.args.delivery x.unacknowledged) (sym is_sub) in
     let own : c.has_own_line-own.result ≡ is_own sub = c.has_own_line-own.ensures ∙ ap is_own (same_Some c.get-2.result.now sub (sym there_again ∙ there)) in
     let fits : c.finds_room.result ≡ true = search rules in
     let gone = sum_by (λ (delivery : ℕ × Message). bytes delivery.1) items in
@@ -141,16 +141,16 @@ pub invariant_of-self-2 : goal.invariant_of-self-2
 invariant_of-self-2 c _ =
     let first = c.in-Some.ensures in
     let ws = c.self.inside.stock.order.all in
-    let is_sub = c.get.ensures.sub first.at first.standing first.there in
-    let there = sub_at ws first.at (c.in-Some.key, first.standing) first.there ∙ ap (λ (x : Subscription). Some x) (sym is_sub) in
-    let there_again = sub_at ws first.at (c.in-Some.key, first.standing) first.there ∙ ap (λ (x : Subscription). Some x) (sym (c.get-2.ensures.sub first.at first.standing first.there)) in
+    let is_sub = c.get.ensures.sub first.at first.waiter first.there in
+    let there = sub_at ws first.at (c.in-Some.key, first.waiter) first.there ∙ ap (λ (x : Subscription). Some x) (sym is_sub) in
+    let there_again = sub_at ws first.at (c.in-Some.key, first.waiter) first.there ∙ ap (λ (x : Subscription). Some x) (sym (c.get-2.ensures.sub first.at first.waiter first.there)) in
     let whole = ap (λ (b : TablesValue). b.broken) c.self.view_is ∙ c.requires.whole in
     let kept = c.self.invariant whole in
     let a = c.self.inside in
     let s = shown a.count a.sessions.entries a.durables a.stock in
     let sub = c.get.result.now in
     let items = c.in_ok-settled.settled.items in
-    let given = c.in_ok-settled.ensures.settled first.at first.standing first.there ∙ ap (λ (x : Subscription). settled x.mode c.args.delivery x.unacknowledged) (sym is_sub) in
+    let given = c.in_ok-settled.ensures.settled first.at first.waiter first.there ∙ ap (λ (x : Subscription). settled x.mode c.args.delivery x.unacknowledged) (sym is_sub) in
     let tallied = kept.whole in
     let at = first.at in
     let own_given = c.has_own_line-own.result in
@@ -168,7 +168,7 @@ invariant_of-self-2 c _ =
     let counts = nack_counts s c.args.session c.args.member c.args.delivery at sub first.first there queues few own_given items a.stock.held.messages a.stock.held.bytes (a.stock.held.messages - gone) (a.stock.held.bytes - gone_bytes) c.move_refused.new.held.messages c.move_refused.new.held.bytes own given tallied.messages tallied.bytes less less_bytes (omega (arith, done.held.messages, less)) (omega (arith, done.held.bytes, less_bytes)) in
     let small = nack_small s c.args.session c.args.member c.args.delivery at sub first.first there own_given items a.stock.held.bytes (a.stock.held.bytes - gone_bytes) own given less_bytes (sym c.finds_room.ensures ∙ fits) in
     let lines = nack_lines s c.args.session c.args.member c.args.delivery at sub first.first there own_given items c.move_refused.new.shared own given done.lines in
-    let changes = c.in_ok-settled.ensures.unsettled first.at first.standing first.there in
+    let changes = c.in_ok-settled.ensures.unsettled first.at first.waiter first.there in
     let left = ap (λ (o : Waiting). subs_of o.all) changes ∙ subs_changed (settled_by c.args.delivery) ws first.at in
     let state = nack_state s c.args.session c.args.member c.args.delivery at sub first.first there (subs_of c.take_refused.new.order.all) c.move_refused.new.shared left lines in
     let IsUnder = λ (sub : Subscription). IsOver a.stock.next_delivery sub.unacknowledged in
@@ -194,9 +194,9 @@ pub returns-clause-nacked : goal.returns-clause-nacked
 returns-clause-nacked c =
     let first = c.in-Some.ensures in
     let ws = c.self.inside.stock.order.all in
-    let is_sub = c.get.ensures.sub first.at first.standing first.there in
-    let there = sub_at ws first.at (c.in-Some.key, first.standing) first.there ∙ ap (λ (x : Subscription). Some x) (sym is_sub) in
-    let there_again = sub_at ws first.at (c.in-Some.key, first.standing) first.there ∙ ap (λ (x : Subscription). Some x) (sym (c.get-2.ensures.sub first.at first.standing first.there)) in
+    let is_sub = c.get.ensures.sub first.at first.waiter first.there in
+    let there = sub_at ws first.at (c.in-Some.key, first.waiter) first.there ∙ ap (λ (x : Subscription). Some x) (sym is_sub) in
+    let there_again = sub_at ws first.at (c.in-Some.key, first.waiter) first.there ∙ ap (λ (x : Subscription). Some x) (sym (c.get-2.ensures.sub first.at first.waiter first.there)) in
     let whole = ap (λ (b : TablesValue). b.broken) c.self.view_is ∙ c.requires.whole in
     let kept = c.self.invariant whole in
     let a = c.self.inside in
@@ -205,11 +205,11 @@ returns-clause-nacked c =
     let sub = c.get.result.now in
     let gone = gone_of s c.args.session c.args.member c.args.delivery at sub first.first there in
     let own_given = c.has_own_line-own.result in
-    let given = c.in_ok-settled.ensures.settled first.at first.standing first.there ∙ ap (λ (x : Subscription). settled x.mode c.args.delivery x.unacknowledged) (sym is_sub) in
+    let given = c.in_ok-settled.ensures.settled first.at first.waiter first.there ∙ ap (λ (x : Subscription). settled x.mode c.args.delivery x.unacknowledged) (sym is_sub) in
     let own : own_given ≡ is_own sub = c.has_own_line-own.ensures ∙ ap is_own (same_Some c.get-2.result.now sub (sym there_again ∙ there)) in
     let fits : c.finds_room.result ≡ true = search rules in
     let room = ap (λ n. nat_le (n - sum_by (λ delivery. bytes delivery.1) gone + all_kept_bytes (is_own sub) gone) 16777216) (sym kept.whole.bytes) ∙ sym c.finds_room.ensures ∙ fits in
     let lines = nack_lines s c.args.session c.args.member c.args.delivery at sub first.first there own_given c.in_ok-settled.settled.items c.move_refused.new.shared own given c.in_ok-move_refused.ensures.lines in
-    let state = nack_state s c.args.session c.args.member c.args.delivery at sub first.first there (subs_of c.take_refused.new.order.all) c.move_refused.new.shared (ap (λ (o : Waiting). subs_of o.all) (c.in_ok-settled.ensures.unsettled first.at first.standing first.there) ∙ subs_changed (settled_by c.args.delivery) ws first.at) lines in
+    let state = nack_state s c.args.session c.args.member c.args.delivery at sub first.first there (subs_of c.take_refused.new.order.all) c.move_refused.new.shared (ap (λ (o : Waiting). subs_of o.all) (c.in_ok-settled.ensures.unsettled first.at first.waiter first.there) ∙ subs_changed (settled_by c.args.delivery) ws first.at) lines in
     rw (← c.self.view_is) (nack_by s c.args.session c.args.member c.args.delivery at sub first.first there c.stand_in_order.ensures.queues (omega (arith, kept.whole.messages, kept.whole.few)) true room
     ∙ ap (λ t. Ok t) (sym state))

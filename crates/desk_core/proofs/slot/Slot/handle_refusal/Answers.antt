@@ -1,6 +1,6 @@
 use Rattle.std.proofs.Common.{◌≡◌, ◌∙◌, Some, None, inl, inr, ap, refl, sym, subst}
 use Rattle.desk_core.specs.Connections.{ConnectionValue}
-use Rattle.desk_core.specs.declared.step.Step.TheVariants.{Rest}
+use Rattle.desk_core.specs.declared.outcome.Outcome.TheVariants.{Rest}
 use Rattle.desk_core.specs.Halting.{IsFinal}
 use Rattle.desk_core.specs.Refusals.{WaitsIfFull}
 use Rattle.desk_core.proofs.Going.{stopped_so}

@@ -1,6 +1,6 @@
 use Rattle.std.proofs.Common.{◌≡◌, ◌<◌, ◌-◌, cond, take, drop, length, subst, sym, ap, ◌∙◌, arith}
 use Rattle.std.proofs.lemmas.Result.{err_from_is_err_and, on_ok_weaker}
-use Rattle.frame_core.specs.declared.partial.Stage.TheVariants.{HeaderLines}
+use Rattle.frame_core.specs.declared.partial.Section.TheVariants.{HeaderLines}
 use Rattle.frame_core.specs.Stops.{IsCommandFault}
 use Rattle.frame_core.proofs.OpenLines.{text_is}
 use Rattle.frame_core.proofs.HeadSteps.{gap_reads, gap_kept, command_ends}
@@ -13,7 +13,7 @@ returns-then-end-eq0-clause-ok c =
     let p = c.args.self.now in
     let h = c.requires.kept in
     let empty : length p.head.items - cond p.with_cr 1 0 ≡ 0 = sym c.text_end-end.ensures ∙ c.if-end-eq0.true in
-    rw (c.clear.ensures.items, c.requires.stage) (
+    rw (c.clear.ensures.items, c.requires.section) (
       gap_reads p.head.items p.line p.with_cr p.headers.items p.body.items h empty,
       gap_kept p.head.items p.line p.with_cr p.headers.items p.body.items h,
     )

@@ -1,6 +1,6 @@
 use Rattle.std.proofs.Common.{List, ℕ, MatchOption, ◌∷◌, [], ◌++◌, ◌+◌, false, ◌<◌, ◌-◌, take, drop, length, subst, sym, ap, ◌∙◌, arith}
 use Rattle.std.proofs.lemmas.Result.{err_from_is_err_and, on_ok_weaker}
-use Rattle.frame_core.specs.declared.partial.Stage.TheVariants.{HeaderLines, Body}
+use Rattle.frame_core.specs.declared.partial.Section.TheVariants.{HeaderLines, Body}
 use Rattle.frame_core.specs.declared.partial.Partial.{Partial}
 use Rattle.frame_core.specs.Partials.{IsAt}
 use Rattle.frame_core.specs.Parts.{Plans}

@@ -45,5 +45,5 @@ returns-clause-ok c =
       within = within;
       frames = sym (append-nil c.args.frames.now.items);
       reads = rw c.in_ok-extend_from_slice.ensures.items (body_reads p.head.items p.body.items (take count piece));
-      kept = rw (c.requires.stage, c.in_ok-extend_from_slice.ensures.items) (c.requires.kept.0, c.requires.kept.1, fits);
+      kept = rw (c.requires.section, c.in_ok-extend_from_slice.ensures.items) (c.requires.kept.0, c.requires.kept.1, fits);
     }

@@ -24,11 +24,11 @@ returns-then-count-len-clause-fault c =
     let count = c.run_in_line-count.result in
     let n : ℕ = 8192 - length p.head.items in
     let within = c.run_in_line-count.ensures.within in
-    let part = part_of_head p.stage p.head.items p.line p.with_cr p.headers.items p.body.items c.requires.in_head c.requires.kept in
+    let part = part_of_head p.section p.head.items p.line p.with_cr p.headers.items p.body.items c.requires.in_head c.requires.kept in
     let run : AllByRecursion IsInLine (take n piece) = shorter_run IsInLine piece count n (omega arith) c.run_in_line-count.ensures.run in
     let full : length p.head.items + length (take n piece) ≡ 8192 = omega (arith, length-take-le n piece (omega arith), part.0.size) in
     fails_at (bytes_of p) piece n TooLarge (omega arith)
-    (long_run p.stage p.head.items p.line p.with_cr p.headers.items p.body.items (take n piece) (get_or piece n 0) c.requires.in_head c.requires.kept c.if-self.false run full)
+    (long_run p.section p.head.items p.line p.with_cr p.headers.items p.body.items (take n piece) (get_or piece n 0) c.requires.in_head c.requires.kept c.if-self.false run full)
 
 pub returns-clause-ok : goal.returns-clause-ok
 returns-clause-ok c =
@@ -37,13 +37,13 @@ returns-clause-ok c =
     let count = c.run_in_line-count.result in
     let run = c.run_in_line-count.ensures.run in
     let within = c.run_in_line-count.ensures.within in
-    let none = no_body p.stage p.head.items p.line p.with_cr p.headers.items p.body.items c.requires.in_head c.requires.kept in
-    let P : Bool → Type 0 = λ cr. IsAt p.stage (p.head.items ++ take count piece) p.line cr p.headers.items p.body.items in
+    let none = no_body p.section p.head.items p.line p.with_cr p.headers.items p.body.items c.requires.in_head c.requires.kept in
+    let P : Bool → Type 0 = λ cr. IsAt p.section (p.head.items ++ take count piece) p.line cr p.headers.items p.body.items in
     let fits : length p.head.items + length (take count piece) ≤ 8192 = omega (arith, length-take-le count piece within) in
     record {
       some_byte = omega arith;
       within = within;
       reads = rw c.in_ok-extend_from_slice.ensures.items (run_reads p.head.items p.body.items (take count piece) none);
       kept = rw c.in_ok-extend_from_slice.ensures.items (subst P (sym c.if-self.false)
-          (run_kept p.stage p.head.items p.line p.with_cr p.headers.items p.body.items (take count piece) c.requires.in_head c.requires.kept c.if-self.false run fits));
+          (run_kept p.section p.head.items p.line p.with_cr p.headers.items p.body.items (take count piece) c.requires.in_head c.requires.kept c.if-self.false run fits));
     }

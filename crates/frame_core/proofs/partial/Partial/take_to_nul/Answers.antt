@@ -71,6 +71,6 @@ returns-clause-ok c =
       within = within;
       frames = sym (append-nil c.args.frames.now.items);
       reads = rw c.in_ok-extend_from_slice.ensures.items (body_reads p.head.items p.body.items (take count piece));
-      kept = rw (c.requires.stage, c.in_ok-extend_from_slice.ensures.items)
+      kept = rw (c.requires.section, c.in_ok-extend_from_slice.ensures.items)
           (c.requires.kept.0, c.requires.kept.1, run_kept c.args.verb p.body.items (take count piece) c.requires.kept.2 run fits allowed);
     }

@@ -10,7 +10,7 @@ returns-in-Ok-clause-fed c =
     let p = c.read_piece.new.partial in
     let rest : bytes_of c.self.inside.partial ≡ c.args.self.now.rest = ap (λ v. v.rest) c.self.view_is in
     let P : List ℕ → Type 0 = λ x. Frames (x ++ c.args.piece.now) c.read_piece.new.frames.items (bytes_of p) in
-    ((subst P rest h.0, unfinished p.stage p.head.items p.line p.with_cr p.headers.items p.body.items h.1), refl)
+    ((subst P rest h.0, unfinished p.section p.head.items p.line p.with_cr p.headers.items p.body.items h.1), refl)
 
 pub returns-in-Err-Fault-clause-fed : goal.returns-in-Err-Fault-clause-fed
 returns-in-Err-Fault-clause-fed c =

@@ -1,6 +1,6 @@
 use Rattle.std.proofs.Common.{ap}
 use Rattle.waiting_order.specs.Keys.{key_eq}
-use Rattle.waiting_order.specs.declared.standing.Standing.{Standing}
+use Rattle.waiting_order.specs.declared.waiter.Waiter.{Waiter}
 use Rattle.waiting_order.proofs.Seeking.{same_there}
 use Rattle.waiting_order.proofs.Timed.{clash, key_itself}
 use Rattle.waiting_order.proofs.order.Order.get.Goals as goal
@@ -13,4 +13,4 @@ unreachable-requires c =
 pub returns-clause-sub : goal.returns-clause-sub
 returns-clause-sub c =
     let it = c.in-Some.ensures.some in
-    rw (← c.self.view_is) (λ at s is. ap (λ (x : Standing). x.sub) (same_there c.self.inside.standings c.get.ensures.order c.args.key it.0 at c.in-Some.standing.now s it.1 is))
+    rw (← c.self.view_is) (λ at s is. ap (λ (x : Waiter). x.sub) (same_there c.self.inside.waiters c.get.ensures.order c.args.key it.0 at c.in-Some.waiter.now s it.1 is))

@@ -10,7 +10,7 @@ pub enter-requires-clause-few : goal.enter-requires-clause-few
 enter-requires-clause-few c =
     let sub = c.in-Some.sub in
     let q = is_of sub.session in
-    let done = subs_of c.loop-sub.standings.all in
+    let done = subs_of c.loop-sub.waiters.all in
     let rest = c.next.new.self.rest.items in
     let steps = c.in-Some.ensures.steps.0 in
     let all = ap (λ (l : List Subscription). count_by q (done ++ l)) (sym steps) ∙ ap (count_by q) c.loop-sub.invariant.joined in

@@ -5,7 +5,7 @@ use Rattle.waiting_order.proofs.order.Order.of.Given as goal
 
 abbrev pub invariant-loop-sub : goal.invariant-loop-sub
 invariant-loop-sub l = record {
-  found : AreFound l.directory l.standings.all;
-  joined : subs_of l.standings.all ++ l.sub-iterator.rest.items ≡ l.fn.subscriptions.items;
-  number : l.standings.next + length l.sub-iterator.rest.items ≡ length l.fn.subscriptions.items;
+  found : AreFound l.directory l.waiters.all;
+  joined : subs_of l.waiters.all ++ l.sub-iterator.rest.items ≡ l.fn.subscriptions.items;
+  number : l.waiters.next + length l.sub-iterator.rest.items ≡ length l.fn.subscriptions.items;
 }

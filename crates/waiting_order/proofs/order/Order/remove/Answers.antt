@@ -1,6 +1,6 @@
 use Rattle.std.proofs.Common.{◌≡◌, ◌∙◌, Some, ap, slice_get, subst, sym}
 use Rattle.broker_state.proofs.Weights.{all_removed}
-use Rattle.waiting_order.specs.declared.standing.Standing.{Standing}
+use Rattle.waiting_order.specs.declared.waiter.Waiter.{Waiter}
 use Rattle.waiting_order.specs.Directories.{AreFound, IsSlotted}
 use Rattle.waiting_order.specs.Waiting.{Waiting}
 use Rattle.waiting_order.proofs.order.Order.remove.Goals as goal
@@ -10,7 +10,7 @@ leave-requires c =
     let a = c.self.inside in
     let r = rw (← c.self.view_is) at c.requires in
     let is = c.remove-ticket.ensures.removed r.0 r.1 r.2 in
-    (a.standings.all, r.0, c.args.key, r.2 ∙ ap (λ (s : Standing). Some (c.args.key, s)) (sym is.0), c.self.invariant.directory)
+    (a.waiters.all, r.0, c.args.key, r.2 ∙ ap (λ (s : Waiter). Some (c.args.key, s)) (sym is.0), c.self.invariant.directory)
 
 pub invariant_of-self : goal.invariant_of-self
 invariant_of-self c =
@@ -18,6 +18,6 @@ invariant_of-self c =
     let r = rw (← c.self.view_is) at c.requires in
     let is = c.remove-ticket.ensures.removed r.0 r.1 r.2 in
     subst (AreFound c.leave.new.self) (sym (ap (λ (x : Waiting). x.all) is.1)) (record {
-      slots = all_removed IsSlotted a.standings.all r.0 c.self.invariant.slots;
-      directory = c.leave.ensures a.standings.all r.0 c.args.key c.remove-ticket.ensures.order.rising (r.2 ∙ ap (λ (s : Standing). Some (c.args.key, s)) (sym is.0)) c.self.invariant.directory;
+      slots = all_removed IsSlotted a.waiters.all r.0 c.self.invariant.slots;
+      directory = c.leave.ensures a.waiters.all r.0 c.args.key c.remove-ticket.ensures.order.rising (r.2 ∙ ap (λ (s : Waiter). Some (c.args.key, s)) (sym is.0)) c.self.invariant.directory;
     })

@@ -20,7 +20,7 @@ catch_up-requires c =
     let is = c.take-message.ensures r.0 s r.2 in
     let last = caught_by (length s.sub.line) s.group c.take-message.result.1 c.in-Some.group is.1 c.in-Some.is in
     let behind : is_behind s.sub ≡ true = ap not (last_taken s.sub.line last.0).0 in
-    subst (λ g. 1 ≤ (group_at a.directory.groups g).behind) last.1 (omega (arith, behind_within a.standings.all r.0 (c.args.key, s) r.2, ap one behind, ap (λ (g : Group). g.behind) (c.self.invariant.directory.groups s.group)))
+    subst (λ g. 1 ≤ (group_at a.directory.groups g).behind) last.1 (omega (arith, behind_within a.waiters.all r.0 (c.args.key, s) r.2, ap one behind, ap (λ (g : Group). g.behind) (c.self.invariant.directory.groups s.group)))
 
 pub invariant_of-self : goal.invariant_of-self
 invariant_of-self c =
@@ -29,7 +29,7 @@ invariant_of-self c =
     let s = r.1 in
     let is = c.take-message.ensures r.0 s r.2 in
     let more = not_caught (length s.sub.line) s.group c.take-message.result.1 is.1 c.in_default.is in
-    subst (AreFound a.directory) (sym (ap (λ (o : Waiting). o.all) is.2)) (found_changed a.directory taken_from each a.standings.all r.0 (c.args.key, s) r.2 (ap not (more_taken s.sub.line more)) c.self.invariant)
+    subst (AreFound a.directory) (sym (ap (λ (o : Waiting). o.all) is.2)) (found_changed a.directory taken_from each a.waiters.all r.0 (c.args.key, s) r.2 (ap not (more_taken s.sub.line more)) c.self.invariant)
 
 pub invariant_of-self-2 : goal.invariant_of-self-2
 invariant_of-self-2 c =
@@ -43,7 +43,7 @@ invariant_of-self-2 c =
     let after = record d { groups = c.catch_up.new.groups } in
     let caught = subst (λ g. group_at after.groups g ≡ record (group_at d.groups g) { behind = (group_at d.groups g).behind - 1 }) (sym last.1) c.catch_up.ensures.caught in
     let others = subst (OthersStay d.groups after.groups) (sym last.1) c.catch_up.ensures.others in
-    subst (AreFound after) (sym (ap (λ (o : Waiting). o.all) is.2)) (found_caught_up d after taken_from each a.standings.all r.0 (c.args.key, s) r.2 (ap not taken.0) (ap not taken.1) refl refl caught others c.self.invariant)
+    subst (AreFound after) (sym (ap (λ (o : Waiting). o.all) is.2)) (found_caught_up d after taken_from each a.waiters.all r.0 (c.args.key, s) r.2 (ap not taken.0) (ap not taken.1) refl refl caught others c.self.invariant)
 
 pub returns-in_default : goal.returns-in_default
 returns-in_default c = rw (← c.self.view_is) (λ at s there.

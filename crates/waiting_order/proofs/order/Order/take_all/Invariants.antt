@@ -1,12 +1,12 @@
 use Rattle.std.proofs.Common.{◌≡◌, ◌++◌, map}
 use Rattle.waiting_order.specs.declared.key.Key.{Key}
-use Rattle.waiting_order.specs.declared.standing.Standing.{Standing}
+use Rattle.waiting_order.specs.declared.waiter.Waiter.{Waiter}
 use Rattle.waiting_order.specs.Waiting.{subs_of}
 use Rattle.waiting_order.proofs.order.Order.take_all.Given as goal
 
 abbrev pub invariant-loop-key : goal.invariant-loop-key
 invariant-loop-key l = record {
-  keys : l.key-iterator.rest.items ≡ map (λ (w : Key × Standing). w.0) l.self.all;
+  keys : l.key-iterator.rest.items ≡ map (λ (w : Key × Waiter). w.0) l.self.all;
   next : l.self.next ≡ l.fn.self.next;
   joined : l.subs.items ++ subs_of l.self.all ≡ subs_of l.fn.self.all;
 }

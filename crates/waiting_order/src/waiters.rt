@@ -1,0 +1,200 @@
+//! What stands at each key.
+
+ghost use Rattle.std.specs.Prelude.{◌≡◌, ◌==◌, ◌+◌, ◌++◌, ◌∷◌, ◌<◌, ◌^◌, [], ℕ, IfNone, IfOk, IfSome, MatchOption, None, OnErr, OnOk, Some, drop, length, map, remove, slice_get, true, if◌then◌else◌};
+ghost use Rattle.std.specs.List.{sum_by};
+ghost use Rattle.broker_state.specs.declared.subscription.Subscription.{Subscription};
+ghost use Rattle.waiting_order.specs.declared.key.Key.{Key};
+ghost use Rattle.line_core.specs.Flights.{IsOver, has_delivery, settled};
+ghost use Rattle.line_core.specs.Lines.{first_of, inserted};
+ghost use Rattle.broker_state.specs.Lists.{changed, is_none};
+ghost use Rattle.broker_state.specs.Operations.{settled_by};
+ghost use Rattle.waiting_order.specs.Keeping.{kept_by, put_into, settled_at, taken_from};
+ghost use Rattle.waiting_order.specs.Waiting.{IsFree, IsOrdered, Stands, subs_of};
+ghost use Rattle.waiting_order.specs.declared.waiter.Waiter.{Waiter};
+
+use crate::key::Key;
+use crate::waiter::Waiter;
+use broker_state::Subscription;
+use indexmap::IndexMap;
+use indexmap::map::Slice;
+use line_core::Message;
+use std::alloc::{AllocError, Global};
+use std::collections::BTreeMap;
+use std::marker::Model;
+
+/// The subscriptions by their keys, with their tickets. Contracts see them by rising ticket, and the next ticket.
+#[derive(Drop)]
+pub struct Waiters {
+    all: IndexMap<Key, Waiter>,
+    next: u64,
+}
+
+impl Model for Waiters {
+    ghost use Rattle.waiting_order.specs.Waiting.{AreTimed, Waiting, by_ticket};
+
+    ghost Value = { Waiting };
+
+    ghost view = { λ a. record { all = by_ticket a.next a.all.entries; next = a.next } };
+
+    ghost invariant = { λ a. AreTimed a.next a.all.entries };
+}
+
+impl Waiters {
+    /// Nobody. No memory is taken.
+    pub fn new(alloc: Global) -> Waiters
+        ensures { result ≡ record { all = []; next = 0 } }
+    {
+        Waiters {
+            all: IndexMap::new(alloc),
+            next: 0,
+        }
+    }
+
+    /// How many there are.
+    pub fn len(&self) -> usize
+        ensures len { result ≡ length self.now.all }
+        ensures small { result < 2 ^ 63 }
+    {
+        self.all.len()
+    }
+
+    /// The next ticket.
+    pub fn next(&self) -> u64
+        ensures next { result ≡ self.now.next }
+        ensures order { IsOrdered self.now }
+    {
+        self.next
+    }
+
+    /// What stands at that key, if anything does.
+    pub fn get(&self, key: Key) -> Option<&Waiter>
+        ensures some { IfSome result (λ s. (at : ℕ) × (slice_get self.now.all at ≡ Some (key, s.now))) }
+        ensures none { IfNone result (IsFree self.now.all key) }
+        ensures order { IsOrdered self.now }
+    {
+        self.all.get(&key)
+    }
+
+    /// The keys by ticket.
+    fn by_ticket(&self, alloc: Global) -> Result<BTreeMap<u64, Key>, AllocError>
+        ensures { IfOk result (λ keys. keys.entries ≡ map (λ (w : Key × Waiter). (w.1.ticket, w.0)) self.now.all) }
+    {
+        let mut keys = BTreeMap::new(alloc);
+        let mut left = self.all.len();
+        while left > 0 {
+            left -= 1;
+            let Some((key, waiter)) = self.all.get_index(left) else {
+                unreachable!()
+            };
+            keys.insert(waiter.ticket, *key)?;
+        }
+        Ok(keys)
+    }
+
+    /// The keys in waiting order.
+    pub fn in_order(&self, alloc: Global) -> Result<Vec<Key>, AllocError>
+        ensures { IfOk result (λ keys. keys.items ≡ map (λ (w : Key × Waiter). w.0) self.now.all) }
+    {
+        let mut by_ticket = self.by_ticket(alloc)?;
+        let mut keys = Vec::new(alloc);
+        while let Some((_ticket, key)) = by_ticket.pop_first() {
+            keys.push(key)?;
+        }
+        Ok(keys)
+    }
+
+    /// All of them, in any order.
+    pub fn as_slice(&self) -> Slice<'_, Key, Waiter>
+        ensures { (f : Subscription → ℕ) → sum_by f (subs_of result) ≡ sum_by f (subs_of self.now.all) }
+    {
+        self.all.as_slice()
+    }
+
+    /// A subscription at a free key, which waits last. If memory is refused, nothing changes.
+    pub fn insert(&mut self, key: Key, group: usize, sub: Subscription) -> Result<(), AllocError>
+        requires free { IsFree self.old.all key }
+        requires number { self.old.next + 1 < 2 ^ 64 }
+        ensures ok { OnOk result (self.new ≡ record { all = self.old.all ++ (key, record { ticket = self.old.next; group = group; sub = sub }) ∷ []; next = self.old.next + 1 }) }
+        ensures same { OnErr result (self.new ≡ self.old) }
+    {
+        let ticket = self.next;
+        self.all.insert(key, Waiter { ticket, group, sub })?;
+        self.next = ticket + 1;
+        Ok(())
+    }
+
+    /// Takes out what stands at that key. No memory is taken.
+    pub fn remove(&mut self, key: Key) -> Waiter
+        requires { Stands self.old.all key }
+        ensures order { IsOrdered self.old }
+        ensures removed { (at : ℕ) (s : Waiter) → slice_get self.old.all at ≡ Some (key, s)
+            → (result ≡ s) × (self.new ≡ record self.old { all = remove self.old.all at }) }
+    {
+        self.all.swap_remove(&key).unwrap()
+    }
+
+    /// What stands at that key waits last. Its group and the ticket that it had are given. No memory is taken.
+    pub fn move_last(&mut self, key: Key) -> (usize, u64)
+        requires there { Stands self.old.all key }
+        requires number { self.old.next + 1 < 2 ^ 64 }
+        ensures { (at : ℕ) (s : Waiter) → slice_get self.old.all at ≡ Some (key, s)
+            → (result ≡ (s.group, s.ticket)) × (self.new ≡ record { all = remove self.old.all at ++ (key, record s { ticket = self.old.next }) ∷ []; next = self.old.next + 1 }) }
+    {
+        let ticket = self.next;
+        let waiter = self.all.get_mut(&key).unwrap();
+        let place = (waiter.group, waiter.ticket);
+        waiter.ticket = ticket;
+        self.next = ticket + 1;
+        place
+    }
+
+    /// The own line of the one at that key gets a message. It answers whether that had none. If memory is refused, nothing
+    /// changes.
+    pub fn put(&mut self, key: Key, message: Message) -> Result<bool, AllocError>
+        requires { Stands self.old.all key }
+        ensures first { IfOk result (λ first. (at : ℕ) (s : Waiter) → slice_get self.old.all at ≡ Some (key, s) → first ≡ is_none s.sub.line) }
+        ensures ok { OnOk result ((at : ℕ) (s : Waiter) → slice_get self.old.all at ≡ Some (key, s)
+            → self.new ≡ record self.old { all = changed at (put_into message) self.old.all }) }
+        ensures same { OnErr result (self.new ≡ self.old) }
+    {
+        let waiter = self.all.get_mut(&key).unwrap();
+        waiter.put(message)
+    }
+
+    /// Takes the least message out of the own line of the one at that key. If it was the last one, the group of that one is
+    /// given too.
+    pub fn take(&mut self, key: Key) -> (Option<Message>, Option<usize>)
+        requires { Stands self.old.all key }
+        ensures { (at : ℕ) (s : Waiter) → slice_get self.old.all at ≡ Some (key, s)
+            → (result.0 ≡ first_of s.sub.line) × (result.1 ≡ (if length s.sub.line == 1 then Some s.group else None))
+            × (self.new ≡ record self.old { all = changed at taken_from self.old.all }) }
+    {
+        let waiter = self.all.get_mut(&key).unwrap();
+        waiter.take()
+    }
+
+    /// A message becomes unacknowledged at that key, by that number of its delivery. If memory is refused, nothing changes.
+    pub fn keep(&mut self, key: Key, delivery: u64, message: Message) -> Result<(), AllocError>
+        requires { (at : ℕ) × (s : Waiter) × (slice_get self.old.all at ≡ Some (key, s)) × IsOver delivery s.sub.unacknowledged }
+        ensures ok { OnOk result ((at : ℕ) (s : Waiter) → slice_get self.old.all at ≡ Some (key, s)
+            → self.new ≡ record self.old { all = changed at (kept_by delivery message) self.old.all }) }
+        ensures same { OnErr result (self.new ≡ self.old) }
+    {
+        let waiter = self.all.get_mut(&key).unwrap();
+        waiter.keep(delivery, message)
+    }
+
+    /// The one at that key has a delivery acknowledged, with the others that its mode settles, and gives what is settled. If
+    /// memory is refused, nothing changes.
+    pub fn settle(&mut self, key: Key, delivery: u64) -> Result<Vec<(u64, Message)>, AllocError>
+        requires { (at : ℕ) × (s : Waiter) × (slice_get self.old.all at ≡ Some (key, s)) × (has_delivery delivery s.sub.unacknowledged ≡ true) }
+        ensures settled { IfOk result (λ out. (at : ℕ) (s : Waiter) → slice_get self.old.all at ≡ Some (key, s)
+            → out.items ≡ settled s.sub.mode delivery s.sub.unacknowledged) }
+        ensures unsettled { OnOk result ((at : ℕ) (s : Waiter) → slice_get self.old.all at ≡ Some (key, s)
+            → self.new ≡ record self.old { all = changed at (settled_at delivery) self.old.all }) }
+        ensures same { OnErr result (self.new ≡ self.old) }
+    {
+        let waiter = self.all.get_mut(&key).unwrap();
+        waiter.settle(delivery)
+    }
+}
