@@ -1,13 +1,19 @@
-use Rattle.std.proofs.Common.{◌≡◌, ◌==◌, ◌<◌, ◌≤◌, ◌+◌, ◌-◌, ◌^◌, ◌&&◌, ◌||◌, ◌⊎◌, ◌++◌, List, [], ◌∷◌, ℕ, suc, zero, Bool, true, false, Some, inl, inr, nat_le, refl, remove, slice_get, sym, ap, subst, ◌∙◌, arith}
+use Rattle.std.proofs.Common.{◌≡◌, ◌==◌, ◌<◌, ◌≤◌, ◌+◌, ◌-◌, ◌^◌, ◌&&◌, ◌||◌, ◌⊎◌, ◌++◌, List, [], ◌∷◌, ℕ, suc, zero, Bool, true, false, Some, inl, inr, cond, nat_le, nat_lt, refl, remove, slice_get, sym, ap, subst, ◌∙◌, arith}
+use Rattle.std.specs.BinaryHeap.{IsUpperBound}
 use Rattle.std.specs.List.{AllByRecursion, list_any}
+use Rattle.std.specs.List.Sorted.{IsPermutation}
+use Rattle.std.specs.Ordering.{is_lt}
+use Rattle.std.specs.declared.cmp.Ordering.TheVariants.{Equal, Greater, Less}
 use Rattle.std.proofs.lemmas.Bool.{and_parts, cases_lt}
 use Rattle.std.proofs.lemmas.Bool.Decides.{nat_tests}
+use Rattle.std.proofs.lemmas.List.Elements.{All-from_recursion, recursion_from_All}
+use Rattle.std.proofs.lemmas.List.Sorted.{All-permutation, IsPermutation-sym, sum_by-IsPermutation}
 use Rattle.std.proofs.lemmas.List.Sums.{sum_by-cons}
 use Rattle.std.proofs.lemmas.Option.{none-some, same_Some, slice_get_within}
 use Rattle.line_core.specs.declared.message.Message.{Message}
 use Rattle.broker_state.specs.declared.subscription.Subscription.{Subscription}
 use Rattle.broker_state.specs.HandOut.{can_take}
-use Rattle.broker_state.specs.Lists.{changed, is_none}
+use Rattle.broker_state.specs.Lists.{is_none}
 use Rattle.broker_state.specs.Waiting.{left_shared, line_for}
 use Rattle.broker_state.proofs.Weights.{all_at}
 use Rattle.waiting_order.specs.declared.places.Place.{Place}
@@ -19,7 +25,8 @@ use Rattle.broker_tables.specs.declared.due.Due.{Due}
 use Rattle.broker_tables.specs.declared.scope.Scope.{Scope}
 use Rattle.broker_tables.specs.declared.scope.Scope.TheVariants.{Session, Group}
 use Rattle.broker_tables.specs.declared.stock.Stock.{Stock}
-use Rattle.broker_tables.specs.Cursors.{AreAwaited, AwaitAllDue, IsReady, NoneReady, at_ticket, is_ahead, is_awaited, tickets_left}
+use Rattle.broker_tables.specs.CursorOrder.{cursor_cmp}
+use Rattle.broker_tables.specs.Cursors.{AreAwaited, AwaitAllDue, IsReady, NoneReady, is_ahead, is_awaited, tickets_left}
 use Rattle.broker_tables.specs.Dues.{AreDue, is_due}
 use Rattle.broker_tables.specs.Scopes.{IdleUntil, is_within}
 use Rattle.broker_tables.specs.Stocks.{stocked}
@@ -63,71 +70,125 @@ none_awaited (c ∷ cs) bound s all less =
 abbrev pub IsPassed : Cursor → ℕ → Waiter → Type 0
 IsPassed c ticket s = (c.from ≤ s.ticket) × (s.ticket < ticket) × (is_within c.scope s ≡ true)
 
--- Where a cursor moves on, who was awaited is so still, or that one has passed him.
-pub moved_on : (cursors : List Cursor) (at : ℕ) (c : Cursor) (ticket : ℕ) (s : Waiter) → slice_get cursors at ≡ Some c → is_awaited cursors s ≡ true
-    → (is_awaited (changed at (at_ticket ticket) cursors) s ≡ true) ⊎ IsPassed c ticket s
-moved_on [] at c ticket s there is = absurd (none-some c there)
-moved_on (x ∷ xs) zero c ticket s there is =
-    by (nat_le x.from s.ticket) refl (is_within x.scope s) refl (cases_lt s.ticket ticket) is
+-- Where a cursor moves on, who was awaited is so still, or it has passed him.
+moved_on : (c : Cursor) (cs : List Cursor) (ticket : ℕ) (s : Waiter) → is_awaited (c ∷ cs) s ≡ true → (is_awaited (record c { from = ticket } ∷ cs) s ≡ true) ⊎ IsPassed c ticket s
+moved_on c cs ticket s is = by (nat_le c.from s.ticket) refl (is_within c.scope s) refl (cases_lt s.ticket ticket) is
   where
-    same : x ≡ c
-    same = same_Some x c there
-
-    by : (a : Bool) → nat_le x.from s.ticket ≡ a → (u : Bool) → is_within x.scope s ≡ u → (s.ticket < ticket) ⊎ (ticket ≤ s.ticket) → ((a && u) || is_awaited xs s) ≡ true
-        → (is_awaited (at_ticket ticket x ∷ xs) s ≡ true) ⊎ IsPassed c ticket s
+    by : (a : Bool) → nat_le c.from s.ticket ≡ a → (u : Bool) → is_within c.scope s ≡ u → (s.ticket < ticket) ⊎ (ticket ≤ s.ticket) → ((a && u) || is_awaited cs s) ≡ true
+        → (is_awaited (record c { from = ticket } ∷ cs) s ≡ true) ⊎ IsPassed c ticket s
     by true before true within (inl less) so =
-        let le : x.from ≤ s.ticket = grind (arith, nat_tests) in
-        inr (subst (λ (y : Cursor). y.from ≤ s.ticket) same le, less, ap (λ (y : Cursor). is_within y.scope s) (sym same) ∙ within)
+        let le : c.from ≤ s.ticket = grind (arith, nat_tests) in
+        inr (le, less, within)
     by true before true within (inr over) so =
         let yes : nat_le ticket s.ticket ≡ true = grind (arith, nat_tests) in
-        inl (or_left (nat_le ticket s.ticket && is_within x.scope s) (is_awaited xs s) (rw (yes, within) refl))
-    by true before false within o so = inl (or_right (is_ahead s (at_ticket ticket x)) (is_awaited xs s) so)
-    by false before u within o so = inl (or_right (is_ahead s (at_ticket ticket x)) (is_awaited xs s) so)
-moved_on (x ∷ xs) (suc at) c ticket s there is = by (is_ahead s x) refl is (λ rest. moved_on xs at c ticket s there rest)
+        inl (or_left (nat_le ticket s.ticket && is_within c.scope s) (is_awaited cs s) (rw (yes, within) refl))
+    by true before false within o so = inl (or_right (is_ahead s (record c { from = ticket })) (is_awaited cs s) so)
+    by false before u within o so = inl (or_right (is_ahead s (record c { from = ticket })) (is_awaited cs s) so)
+
+-- Where a cursor goes, who was awaited is so still, or was ahead of it.
+gone : (c : Cursor) (cs : List Cursor) (s : Waiter) → is_awaited (c ∷ cs) s ≡ true → (is_awaited cs s ≡ true) ⊎ ((c.from ≤ s.ticket) × (is_within c.scope s ≡ true))
+gone c cs s is = by (nat_le c.from s.ticket) refl (is_within c.scope s) refl is
   where
-    by : (b : Bool) → is_ahead s x ≡ b → (b || is_awaited xs s) ≡ true
-        → (is_awaited xs s ≡ true → (is_awaited (changed at (at_ticket ticket) xs) s ≡ true) ⊎ IsPassed c ticket s)
-        → (is_awaited (x ∷ changed at (at_ticket ticket) xs) s ≡ true) ⊎ IsPassed c ticket s
-    by true first so rest = inl (or_left (is_ahead s x) (is_awaited (changed at (at_ticket ticket) xs) s) first)
-    by false first so rest =
-        elim (rest so) [
-          | inl still ↦ inl (or_right (is_ahead s x) (is_awaited (changed at (at_ticket ticket) xs) s) still)
-          | inr passed ↦ inr passed
-        ]
+    by : (a : Bool) → nat_le c.from s.ticket ≡ a → (u : Bool) → is_within c.scope s ≡ u → ((a && u) || is_awaited cs s) ≡ true → (is_awaited cs s ≡ true) ⊎ ((c.from ≤ s.ticket) × (is_within c.scope s ≡ true))
+    by true before true within so =
+        let le : c.from ≤ s.ticket = grind (arith, nat_tests) in
+        inr (le, within)
+    by true before false within so = inl so
+    by false before u within so = inl so
+
+none_of : {X : Type 0} (p : X → Bool) (xs : List X) → list_any p xs ≡ false → AllByRecursion (λ x. p x ≡ false) xs
+none_of p [] is = tt
+none_of {X} p (x ∷ xs) is = by (p x) refl is (λ rest. none_of p xs rest)
+  where
+    by : (b : Bool) → p x ≡ b → (b || list_any p xs) ≡ false → (list_any p xs ≡ false → AllByRecursion (λ y. p y ≡ false) xs) → (p x ≡ false) × AllByRecursion (λ y. p y ≡ false) xs
+    by true passes none rest = absurd cc
+    by false fails none rest = (fails, rest none)
+
+any_none : {X : Type 0} (p : X → Bool) (xs : List X) → AllByRecursion (λ x. p x ≡ false) xs → list_any p xs ≡ false
+any_none p [] all = refl
+any_none p (x ∷ xs) all = rw (all.0) (any_none p xs all.1)
+
+-- Who is awaited is so by the same cursors in another order.
+awaited_alike : (cs ds : List Cursor) (s : Waiter) → IsPermutation cs ds → is_awaited cs s ≡ true → is_awaited ds s ≡ true
+awaited_alike cs ds s same is = by (is_awaited ds s) refl
+  where
+    Fails : Cursor → Type 0
+    Fails c = is_ahead s c ≡ false
+
+    by : (b : Bool) → is_awaited ds s ≡ b → is_awaited ds s ≡ true
+    by true still = still
+    by false fails =
+        let back = All-permutation Fails ds cs (IsPermutation-sym cs ds same) (All-from_recursion Fails ds (none_of (is_ahead s) ds fails)) in
+        absurd (clash (is_awaited cs s) is (any_none (is_ahead s) cs (recursion_from_All Fails cs back)))
+
+-- each who is due is awaited by the same cursors in another order
+pub due_alike : (cs ds : List Cursor) (marks : List Due) (ws : List W) → IsPermutation cs ds → AwaitAllDue cs marks ws → AwaitAllDue ds marks ws
+due_alike cs ds marks ws same all =
+    each_weaker (λ (w : W). is_due marks w.1.sub ≡ true → is_awaited cs w.1 ≡ true) (λ (w : W). is_due marks w.1.sub ≡ true → is_awaited ds w.1 ≡ true) (λ w so due. awaited_alike cs ds w.1 same (so due)) ws all
+
+-- what is left before cursors, in any order
+pub left_alike : (cs ds : List Cursor) → IsPermutation cs ds → tickets_left ds ≡ tickets_left cs
+left_alike cs ds same = sum_by-IsPermutation (λ (c : Cursor). 2 ^ 64 - c.from) cs ds same
 
 -- A cursor that moves on has fewer tickets before it.
-pub nearer : (cursors : List Cursor) (at : ℕ) (c : Cursor) (ticket : ℕ) → slice_get cursors at ≡ Some c → c.from < ticket → c.from < 2 ^ 64 → tickets_left (changed at (at_ticket ticket) cursors) < tickets_left cursors
-nearer [] at c ticket there more small = absurd (none-some c there)
-nearer (x ∷ xs) zero c ticket there more small =
-    let same : x.from ≡ c.from = ap (λ (y : Cursor). y.from) (same_Some x c there) in
-    omega (arith, more, small, same, sum_by-cons (λ (y : Cursor). 2 ^ 64 - y.from) (at_ticket ticket x) xs, sum_by-cons (λ (y : Cursor). 2 ^ 64 - y.from) x xs)
-nearer (x ∷ xs) (suc at) c ticket there more small =
-    omega (arith, nearer xs at c ticket there more small, sum_by-cons (λ (y : Cursor). 2 ^ 64 - y.from) x (changed at (at_ticket ticket) xs), sum_by-cons (λ (y : Cursor). 2 ^ 64 - y.from) x xs)
+pub nearer : (c : Cursor) (cs ds : List Cursor) (ticket : ℕ) → IsPermutation (record c { from = ticket } ∷ cs) ds → c.from < ticket → c.from < 2 ^ 64 → tickets_left ds < tickets_left (c ∷ cs)
+nearer c cs ds ticket same more small =
+    let d = record c { from = ticket } in
+    omega (arith, more, small, left_alike (d ∷ cs) ds same, sum_by-cons (λ (x : Cursor). 2 ^ 64 - x.from) d cs, sum_by-cons (λ (x : Cursor). 2 ^ 64 - x.from) c cs)
 
--- all stand from a ticket on, if the one that moved does
-pub all_from : (cursors : List Cursor) (at : ℕ) (c : Cursor) (bound ticket : ℕ) → slice_get cursors at ≡ Some c → bound ≤ ticket → AllByRecursion (λ (d : Cursor). bound ≤ d.from) cursors → AllByRecursion (λ (d : Cursor). bound ≤ d.from) (changed at (at_ticket ticket) cursors)
-all_from [] at c bound ticket there le all = tt
-all_from (x ∷ xs) zero c bound ticket there le all = (le, all.1)
-all_from (x ∷ xs) (suc at) c bound ticket there le all = (all.0, all_from xs at c bound ticket there le all.1)
+-- One that goes has some.
+pub nearer_gone : (c : Cursor) (cs : List Cursor) → c.from < 2 ^ 64 → tickets_left cs < tickets_left (c ∷ cs)
+nearer_gone c cs small = omega (arith, small, sum_by-cons (λ (x : Cursor). 2 ^ 64 - x.from) c cs)
+
+-- No cursor of a heap is before its first one.
+pub least_of : (c : Cursor) (cs : List Cursor) → IsUpperBound cursor_cmp c cs → AllByRecursion (λ (d : Cursor). c.from ≤ d.from) cs
+least_of c [] all = tt
+least_of c (d ∷ cs) all = (by (nat_lt d.from c.from) refl all.0, least_of c cs all.1)
+  where
+    by : (b : Bool) → nat_lt d.from c.from ≡ b → is_lt (cond b Less (cond (d.from == c.from) Equal Greater)) ≡ false → c.from ≤ d.from
+    by true less is = absurd cc
+    by false over is = grind (arith, nat_tests)
 
 module _ (stock : Stock) where
   abbrev IsAwaitedIn : List Cursor → W → Type 0
   IsAwaitedIn cursors w = can_take (stocked stock) w.1.sub ≡ true → is_awaited cursors w.1 ≡ true
 
-  -- Each is awaited still where those that were awaited by the cursor that moved can't be served.
-  pub awaited_moved : (cursors : List Cursor) (at : ℕ) (c : Cursor) (ticket : ℕ) → slice_get cursors at ≡ Some c → AreAwaited cursors stock
+  -- the same cursors in another order
+  pub awaited_permuted : (cs ds : List Cursor) → IsPermutation cs ds → AreAwaited cs stock → AreAwaited ds stock
+  awaited_permuted cs ds same all = each_weaker (IsAwaitedIn cs) (IsAwaitedIn ds) (λ w so can. awaited_alike cs ds w.1 same (so can)) stock.order.all all
+
+  -- Each is awaited still where those whom the cursor has passed can't be served.
+  pub awaited_moved : (c : Cursor) (cs : List Cursor) (ticket : ℕ) → AreAwaited (c ∷ cs) stock
       → ((i : ℕ) (w : W) → slice_get stock.order.all i ≡ Some w → c.from ≤ w.1.ticket → w.1.ticket < ticket → is_within c.scope w.1 ≡ true → can_take (stocked stock) w.1.sub ≡ false)
-      → AreAwaited (changed at (at_ticket ticket) cursors) stock
-  awaited_moved cursors at c ticket there all passed = go stock.order.all all passed
+      → AreAwaited (record c { from = ticket } ∷ cs) stock
+  awaited_moved c cs ticket all passed = go stock.order.all all passed
     where
-      go : (ws : List W) → AllByRecursion (IsAwaitedIn cursors) ws
+      go : (ws : List W) → AllByRecursion (IsAwaitedIn (c ∷ cs)) ws
           → ((i : ℕ) (w : W) → slice_get ws i ≡ Some w → c.from ≤ w.1.ticket → w.1.ticket < ticket → is_within c.scope w.1 ≡ true → can_take (stocked stock) w.1.sub ≡ false)
-          → AllByRecursion (IsAwaitedIn (changed at (at_ticket ticket) cursors)) ws
+          → AllByRecursion (IsAwaitedIn (record c { from = ticket } ∷ cs)) ws
       go [] all passed = tt
       go (w ∷ ws) all passed = (
-        λ can. elim (moved_on cursors at c ticket w.1 there (all.0 can)) [
+        λ can. elim (moved_on c cs ticket w.1 (all.0 can)) [
           | inl still ↦ still
           | inr by ↦ absurd (clash (can_take (stocked stock) w.1.sub) can (passed 0 w refl by.0 by.1 by.2))
+        ],
+        go ws all.1 (λ i v is. passed (suc i) v is),
+      )
+
+  -- Each is awaited still where nobody ahead of the cursor that goes can be served.
+  awaited_gone : (c : Cursor) (cs : List Cursor) → AreAwaited (c ∷ cs) stock
+      → ((i : ℕ) (w : W) → slice_get stock.order.all i ≡ Some w → c.from ≤ w.1.ticket → is_within c.scope w.1 ≡ true → can_take (stocked stock) w.1.sub ≡ false)
+      → AreAwaited cs stock
+  awaited_gone c cs all passed = go stock.order.all all passed
+    where
+      go : (ws : List W) → AllByRecursion (IsAwaitedIn (c ∷ cs)) ws
+          → ((i : ℕ) (w : W) → slice_get ws i ≡ Some w → c.from ≤ w.1.ticket → is_within c.scope w.1 ≡ true → can_take (stocked stock) w.1.sub ≡ false)
+          → AllByRecursion (IsAwaitedIn cs) ws
+      go [] all passed = tt
+      go (w ∷ ws) all passed = (
+        λ can. elim (gone c cs w.1 (all.0 can)) [
+          | inl still ↦ still
+          | inr by ↦ absurd (clash (can_take (stocked stock) w.1.sub) can (passed 0 w refl by.0 by.1))
         ],
         go ws all.1 (λ i v is. passed (suc i) v is),
       )
@@ -140,6 +201,11 @@ module _ (stock : Stock) where
       by : (b : Bool) → can_take (stocked stock) w.1.sub ≡ b → can_take (stocked stock) w.1.sub ≡ false
       by true can = absurd (clash (is_none (line_for stock.shared w.1.sub)) (idle i w is after before within) (can_parts (stocked stock) w.1.sub can).line)
       by false can = can
+
+  -- a cursor goes behind which nothing waits
+  pub awaited_without : (c : Cursor) (cs : List Cursor) → AreAwaited (c ∷ cs) stock → ((until : ℕ) → IdleUntil c.scope stock.shared stock.order.all c.from until) → AreAwaited cs stock
+  awaited_without c cs all idle =
+      awaited_gone c cs all (λ i w is after within. idle_waits c.scope c.from (suc w.1.ticket) (idle (suc w.1.ticket)) i w is after (omega arith) within)
 
   -- none before all cursors can be served
   pub none_before : (cursors : List Cursor) (bound : ℕ) → AreAwaited cursors stock → AllByRecursion (λ (c : Cursor). bound ≤ c.from) cursors
@@ -164,11 +230,11 @@ module _ (stock : Stock) where
     };
   }
 
-  -- where all cursors are at the end, none can be served
-  pub none_ready_at : (cursors : List Cursor) → IsOrdered stock.order → stock.order.next < 2 ^ 64 → AreAwaited cursors stock → AllByRecursion (λ (c : Cursor). 2 ^ 64 - 1 ≤ c.from) cursors → NoneReady stock
-  none_ready_at cursors ordered small all from =
+  -- where no cursor is left, none can be served
+  pub none_ready_at : IsOrdered stock.order → AreAwaited [] stock → NoneReady stock
+  none_ready_at ordered all =
       all_subs (λ x. can_take (stocked stock) x ≡ false) stock.order.all (places stock.order.all (λ i w is.
-      none_before cursors (2 ^ 64 - 1) all from i w is (omega (arith, small, all_at (λ (v : W). v.1.ticket < stock.order.next) stock.order.all i w is ordered.under))))
+      none_before [] stock.order.next all tt i w is (all_at (λ (v : W). v.1.ticket < stock.order.next) stock.order.all i w is ordered.under)))
     where
       places : (ws : List W) → ((i : ℕ) (w : W) → slice_get ws i ≡ Some w → can_take (stocked stock) w.1.sub ≡ false) → AllByRecursion (λ (w : W). can_take (stocked stock) w.1.sub ≡ false) ws
       places [] each = tt

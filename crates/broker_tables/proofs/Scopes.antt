@@ -119,18 +119,6 @@ any_upto p (y ∷ xs) (suc k) x there is = by (p y) is (λ rest. any_upto p xs k
     by false is rest = rest is
 
 -- a cursor more awaits whom the others do
-any_more : (s : Waiter) (cursors : List Cursor) (c : Cursor) → is_awaited cursors s ≡ true → is_awaited (cursors ++ c ∷ []) s ≡ true
-any_more s [] c is = absurd cc
-any_more s (x ∷ cursors) c is = by (is_ahead s x) is (λ rest. any_more s cursors c rest)
-  where
-    by : (b : Bool) → (b || is_awaited cursors s) ≡ true → (is_awaited cursors s ≡ true → is_awaited (cursors ++ c ∷ []) s ≡ true) → (b || is_awaited (cursors ++ c ∷ []) s) ≡ true
-    by true is rest = refl
-    by false is rest = rest is
-
-any_last : (s : Waiter) (cursors : List Cursor) (c : Cursor) → is_ahead s c ≡ true → is_awaited (cursors ++ c ∷ []) s ≡ true
-any_last s [] c is = or_left (is_ahead s c) false is
-any_last s (x ∷ cursors) c is = or_right (is_ahead s x) (is_awaited (cursors ++ c ∷ []) s) (any_last s cursors c is)
-
 abbrev start : Scope → Cursor
 start scope = record { from = 0; scope = scope }
 
@@ -147,12 +135,12 @@ module _ (marks : List Due) (k : ℕ) (due : Due) (there : slice_get marks k ≡
   )
 
   -- or they are those of a scope
-  pub await_some : (scope : Scope) (ws : List W) → IsScope due ws (Some scope) → AwaitAllDue cursors (take k marks) ws → AwaitAllDue (cursors ++ start scope ∷ []) (take (suc k) marks) ws
+  pub await_some : (scope : Scope) (ws : List W) → IsScope due ws (Some scope) → AwaitAllDue cursors (take k marks) ws → AwaitAllDue (start scope ∷ cursors) (take (suc k) marks) ws
   await_some scope [] same all = tt
   await_some scope (w ∷ ws) same all = (
     λ is. elim (any_upto (λ (mark : Due). is_under mark w.1.sub) marks k due there is) [
-      | inl before ↦ any_more w.1 cursors (start scope) (all.0 before)
-      | inr under ↦ any_last w.1 cursors (start scope) (begins (sym same.0 ∙ under))
+      | inl before ↦ or_right (is_ahead w.1 (start scope)) (is_awaited cursors w.1) (all.0 before)
+      | inr under ↦ or_left (is_ahead w.1 (start scope)) (is_awaited cursors w.1) (begins (sym same.0 ∙ under))
     ],
     await_some scope ws same.1 all.1,
   )

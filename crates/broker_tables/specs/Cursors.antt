@@ -1,8 +1,10 @@
-use Rattle.std.specs.Prelude.{◌≡◌, ◌-◌, ◌&&◌, ◌^◌, List, ℕ, Bool, true, nat_le}
+use Rattle.std.specs.Prelude.{◌≡◌, ◌-◌, ◌<◌, ◌≤◌, ◌&&◌, ◌^◌, List, ◌∷◌, ℕ, Bool, true, nat_le, None, Option}
 use Rattle.std.specs.List.{AllByRecursion, list_any, sum_by}
+use Rattle.std.specs.BinaryHeap.{heap_items}
 use Rattle.broker_state.specs.HandOut.{can_take}
 use Rattle.broker_state.specs.Parts.{NonePass}
 use Rattle.broker_tables.specs.declared.cursors.Cursor.{Cursor}
+use Rattle.broker_tables.specs.declared.cursors.Cursors.{Cursors}
 use Rattle.broker_tables.specs.declared.due.Due.{Due}
 use Rattle.broker_tables.specs.declared.stock.Stock.{Stock}
 use Rattle.broker_tables.specs.Dues.{is_due}
@@ -12,6 +14,10 @@ use Rattle.broker_tables.specs.Stocks.{stocked}
 use Rattle.waiting_order.specs.declared.key.Key.{Key}
 use Rattle.waiting_order.specs.declared.waiter.Waiter.{Waiter}
 use Rattle.waiting_order.specs.Waiting.{subs_of}
+
+-- cursors, in no particular order
+abbrev pub cursors_in : Cursors → List Cursor
+cursors_in cursors = heap_items cursors.heap
 
 -- whether somebody of a cursor's scope is still ahead of it
 abbrev pub is_ahead : Waiter → Cursor → Bool
@@ -30,10 +36,6 @@ AreAwaited cursors stock =
 abbrev pub AwaitAllDue : List Cursor → List Due → List (Key × Waiter) → Type 0
 AwaitAllDue cursors marks ws = AllByRecursion (λ (w : Key × Waiter). is_due marks w.1.sub ≡ true → is_awaited cursors w.1 ≡ true) ws
 
--- a cursor at another ticket
-abbrev pub at_ticket : ℕ → Cursor → Cursor
-at_ticket ticket cursor = record cursor { from = ticket }
-
 -- how many tickets cursors have before them
 abbrev pub tickets_left : List Cursor → ℕ
 tickets_left cursors = sum_by (λ (cursor : Cursor). 2 ^ 64 - cursor.from) cursors
@@ -45,3 +47,11 @@ IsReady stock key = IsFirstAt (can_take (stocked stock)) stock.order.all key
 -- none can be served
 abbrev pub NoneReady : Stock → Type 0
 NoneReady stock = NonePass (can_take (stocked stock)) (subs_of stock.order.all)
+
+-- none of the others has a lesser ticket
+abbrev pub IsLeast : Cursor → Cursors → Type 0
+IsLeast cursor others = AllByRecursion (λ (d : Cursor). cursor.from ≤ d.from) (cursors_in others)
+
+-- Unless a key was found, fewer tickets are left than with that cursor.
+abbrev pub IsNearer : Option Key → Cursor → Cursors → Cursors → Type 0
+IsNearer found cursor old new = found ≡ None → tickets_left (cursors_in new) < tickets_left (cursor ∷ cursors_in old)

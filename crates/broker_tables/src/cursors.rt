@@ -1,137 +1,197 @@
 //! From which tickets on subscriptions may be served, while what waits is handed out.
 
-ghost use Rattle.std.specs.Prelude.{◌≡◌, ◌<◌, ◌≤◌, ◌^◌, ◌-◌, IfNone, IfOk, IfSome, MatchOption, Some, length, slice_get, true};
-ghost use Rattle.std.specs.List.{AllByRecursion};
-ghost use Rattle.broker_state.specs.Lists.{changed};
-ghost use Rattle.broker_tables.specs.Cursors.{AreAwaited, AwaitAllDue, IsReady, NoneReady, at_ticket, tickets_left};
+ghost use Rattle.std.specs.Prelude.{◌==◌};
+ghost use Rattle.std.specs.BinaryHeap.{IsHeap, heap_items};
+ghost use Rattle.std.specs.Ordering.{as_partial_cmp, on};
+ghost use Rattle.std.proofs.Common.{rules};
+ghost use Rattle.std.proofs.Props.{props};
+ghost use Rattle.broker_tables.specs.CursorOrder.{cursor_cmp};
 ghost use Rattle.broker_tables.specs.declared.cursors.Cursor.{Cursor};
-ghost use Rattle.broker_tables.specs.Places.{IsPlaceOf};
 
 use crate::due::Due;
 use crate::scope::{Scope, next_waiting, scope_of};
 use crate::stock::Stock;
 use std::alloc::{AllocError, Global};
+use std::cmp::Ordering;
+use std::collections::BinaryHeap;
 use waiting_order::{Key, Order, Place};
 
-/// Nobody of a scope with a lesser ticket can be served.
+/// Nobody of a scope with a lesser ticket can be served. The one with the least ticket is the greatest, since a heap has that first.
 #[derive(Clone, Copy, Drop)]
 pub struct Cursor {
     pub from: u64,
     pub scope: Scope,
 }
 
-/// The ticket of a cursor behind which nothing waits. No subscription has it.
-const END: u64 = u64::MAX;
+impl PartialEq for Cursor {
+    ghost use Rattle.std.specs.Cmp.Rules.{comparing};
 
-/// A cursor for those of each mark, at the first ticket. No memory is taken if nobody is marked.
-pub fn cursors_of(alloc: Global, order: &Order, marked: &[Due]) -> Result<Vec<Cursor>, AllocError>
-    ensures { IfOk result (λ cursors. AwaitAllDue cursors.items marked.now order.now.all) }
-{
-    let mut cursors = Vec::new(alloc);
-    for due in marked {
-        if let Some(scope) = scope_of(order, due) {
-            cursors.push(Cursor { from: 0, scope })?;
+    ghost eq = { on (λ (cursor : Cursor). cursor.from) ◌==◌ };
+
+    ghost laws = { Prim.search (comparing, rules) };
+
+    fn eq(&self, other: &Cursor) -> bool {
+        self.from == other.from
+    }
+}
+
+impl Eq for Cursor {
+    ghost use Rattle.std.specs.Cmp.Rules.{comparing};
+
+    ghost laws = { Prim.search (comparing, rules) };
+}
+
+impl PartialOrd for Cursor {
+    ghost use Rattle.std.specs.Cmp.{partial_order_from_own_ties};
+    ghost use Rattle.std.specs.Cmp.Rules.{comparing};
+
+    ghost partial_cmp = { as_partial_cmp cursor_cmp };
+
+    ghost laws = { partial_order_from_own_ties (Prim.search (comparing, rules)) (Prim.search (comparing, rules)) };
+
+    fn partial_cmp(&self, other: &Cursor) -> Option<Ordering> {
+        Some(self.cmp(other))
+    }
+}
+
+impl Ord for Cursor {
+    ghost use Rattle.std.specs.Cmp.Rules.{comparing};
+
+    ghost cmp = { cursor_cmp };
+
+    ghost total = { Prim.search (comparing, rules) };
+
+    ghost matches_partial_cmp = { Prim.search (comparing, rules) };
+
+    ghost matches_eq = { Prim.search (comparing, rules) };
+
+    fn cmp(&self, other: &Cursor) -> Ordering {
+        other.from.cmp(&self.from)
+    }
+}
+
+/// Cursors, of which the one with the least ticket is found at once. Contracts see them in no particular order.
+#[derive(Drop)]
+pub struct Cursors {
+    heap: BinaryHeap<Cursor>,
+    ghost ordered: { IsHeap cursor_cmp (heap_items heap) } by { Prim.hlevel props },
+}
+
+impl Cursors {
+    ghost use Rattle.std.specs.Prelude.{◌≡◌, ◌∷◌, [], IfNone, IfOk, IfSome, IsPermutation, OnOk};
+    ghost use Rattle.broker_tables.specs.Cursors.{AwaitAllDue, IsLeast, cursors_in};
+
+    /// None. No memory is taken.
+    fn new(alloc: Global) -> Cursors
+        ensures { cursors_in result ≡ [] }
+    {
+        Cursors {
+            heap: BinaryHeap::new(alloc),
         }
     }
-    Ok(cursors)
-}
 
-/// The index of a cursor with the least ticket; none if all are at the end.
-fn least(cursors: &[Cursor]) -> Option<usize>
-    ensures some { IfSome result (λ at. (c : Cursor) × (slice_get cursors.now at ≡ Some c) × (c.from < 2 ^ 64 - 1)
-        × AllByRecursion (λ (d : Cursor). c.from ≤ d.from) cursors.now) }
-    ensures none { IfNone result (AllByRecursion (λ (c : Cursor). 2 ^ 64 - 1 ≤ c.from) cursors.now) }
-{
-    let mut least = None;
-    let mut from = END;
-    for at in 0..cursors.len() {
-        if cursors[at].from < from {
-            from = cursors[at].from;
-            least = Some(at);
-        }
+    /// One more. If memory is refused, nothing changes.
+    fn put(&mut self, cursor: Cursor) -> Result<(), AllocError>
+        ensures { OnOk result (IsPermutation (cursor ∷ cursors_in self.old) (cursors_in self.new)) }
+    {
+        self.heap.push(cursor)?;
+        Ok(())
     }
-    least
-}
 
-/// Whether no cursor has a ticket under that one.
-fn are_from(cursors: &[Cursor], ticket: u64) -> bool
-    ensures { result ≡ true → AllByRecursion (λ (c : Cursor). ticket ≤ c.from) cursors.now }
-{
-    cursors.iter().all(|cursor| ticket <= cursor.from)
-}
+    /// Takes out one with the least ticket; none if there are none.
+    fn take(&mut self) -> Option<Cursor>
+        ensures taken { IfSome result (λ cursor. IsPermutation (cursors_in self.old) (cursor ∷ cursors_in self.new)) }
+        ensures least { IfSome result (λ cursor. IsLeast cursor self.new) }
+        ensures none { IfNone result ((cursors_in self.old ≡ []) × (cursors_in self.new ≡ [])) }
+    {
+        self.heap.pop()
+    }
 
-/// A cursor moves on to a ticket.
-fn move_on(cursors: &mut Vec<Cursor>, at: usize, ticket: u64)
-    requires { at < length cursors.old.items }
-    ensures { cursors.new.items ≡ changed at (at_ticket ticket) cursors.old.items }
-{
-    let cursor = &mut cursors[at];
-    cursor.from = ticket;
+    /// A cursor for those of each mark, at the first ticket. No memory is taken if nobody is marked.
+    pub fn of(alloc: Global, order: &Order, marked: &[Due]) -> Result<Cursors, AllocError>
+        ensures { IfOk result (λ cursors. AwaitAllDue (cursors_in cursors) marked.now order.now.all) }
+    {
+        let mut cursors = Cursors::new(alloc);
+        for due in marked {
+            if let Some(scope) = scope_of(order, due) {
+                cursors.put(Cursor { from: 0, scope })?;
+            }
+        }
+        Ok(cursors)
+    }
 }
 
 impl Stock {
-    /// The key of the first subscription in waiting order that can be served, if there is one. Cursors move on meanwhile.
-    pub fn next_ready(&self, cursors: &mut Vec<Cursor>) -> Option<Key>
-        requires awaited { AreAwaited cursors.old.items self.now }
+    ghost use Rattle.std.specs.Prelude.{◌≡◌, ◌<◌, ◌^◌, ◌∷◌, IfOk, IfSome, MatchOption, OnOk};
+    ghost use Rattle.broker_tables.specs.Cursors.{AreAwaited, IsLeast, IsNearer, IsReady, NoneReady, cursors_in};
+    ghost use Rattle.broker_tables.specs.Places.{IsPlaceOf};
+
+    /// The key of the first subscription in waiting order that can be served, if there is one. Cursors move on meanwhile. If memory is
+    /// refused, one of them may be gone.
+    pub fn next_ready(&self, cursors: &mut Cursors) -> Result<Option<Key>, AllocError>
+        requires awaited { AreAwaited (cursors_in cursors.old) self.now }
         requires tickets { self.now.order.next < 2 ^ 64 }
-        ensures ready { MatchOption result (NoneReady self.now) (IsReady self.now) }
-        ensures awaited { AreAwaited cursors.new.items self.now }
+        ensures ready { IfOk result (λ found. MatchOption found (NoneReady self.now) (IsReady self.now)) }
+        ensures awaited { OnOk result (AreAwaited (cursors_in cursors.new) self.now) }
     {
         self.order.stand_in_order();
-        while let Some(at) = least(cursors.as_slice()) {
-            if let Some(key) = self.advance(cursors, at) {
-                return Some(key);
+        while let Some(cursor) = cursors.take() {
+            if let Some(key) = self.advance(cursors, cursor)? {
+                return Ok(Some(key));
             }
         }
-        None
+        Ok(None)
     }
 
-    /// A cursor with the least ticket moves on to the first subscription for which something may wait. Its key is given if it
-    /// can be served and none can that waits before it.
-    fn advance(&self, cursors: &mut Vec<Cursor>, at: usize) -> Option<Key>
-        requires least { (c : Cursor) × (slice_get cursors.old.items at ≡ Some c) × (c.from < 2 ^ 64 - 1)
-            × AllByRecursion (λ (d : Cursor). c.from ≤ d.from) cursors.old.items }
-        requires awaited { AreAwaited cursors.old.items self.now }
+    /// The cursor with the least ticket moves on to the first subscription for which something may wait, or is done if there is none.
+    /// If it stands there already, that one's key is given if it can be served; else the cursor goes by.
+    fn advance(&self, cursors: &mut Cursors, cursor: Cursor) -> Result<Option<Key>, AllocError>
+        requires least { IsLeast cursor cursors.old }
+        requires awaited { AreAwaited (cursor ∷ cursors_in cursors.old) self.now }
         requires tickets { self.now.order.next < 2 ^ 64 }
-        ensures ready { IfSome result (IsReady self.now) }
-        ensures awaited { AreAwaited cursors.new.items self.now }
-        ensures nearer { IfNone result (tickets_left cursors.new.items < tickets_left cursors.old.items) }
+        ensures ready { IfOk result (λ found. IfSome found (IsReady self.now)) }
+        ensures awaited { OnOk result (AreAwaited (cursors_in cursors.new) self.now) }
+        ensures nearer { IfOk result (λ found. IsNearer found cursor cursors.old cursors.new) }
     {
         self.order.stand_in_order();
-        let Cursor { from, scope } = cursors[at];
-        let Some(place) = next_waiting(&self.order, &self.shared, scope, from) else {
-            move_on(cursors, at, END);
-            return None;
+        let Some(place) = next_waiting(&self.order, &self.shared, cursor.scope, cursor.from) else {
+            return Ok(None);
         };
-        if from == place.ticket {
-            return self.serve_or_pass(cursors, at, place);
+        if cursor.from == place.ticket {
+            return self.serve_or_pass(cursors, cursor, place);
         }
-        move_on(cursors, at, place.ticket);
-        if !are_from(cursors.as_slice(), place.ticket) {
-            return None;
-        }
-        if self.can_serve(place.key) {
-            return Some(place.key);
-        }
-        None
+        cursors.put(Cursor {
+            from: place.ticket,
+            scope: cursor.scope,
+        })?;
+        Ok(None)
     }
 
     /// The key of a place that no cursor is before, if the subscription there can be served. Else the cursor goes by.
-    fn serve_or_pass(&self, cursors: &mut Vec<Cursor>, at: usize, place: Place) -> Option<Key>
-        requires cursor { (c : Cursor) × (slice_get cursors.old.items at ≡ Some c) × (c.from ≡ place.ticket) }
+    fn serve_or_pass(
+        &self,
+        cursors: &mut Cursors,
+        cursor: Cursor,
+        place: Place,
+    ) -> Result<Option<Key>, AllocError>
+        requires here { cursor.from ≡ place.ticket }
         requires there { IsPlaceOf self.now.order.all place }
-        requires least { AllByRecursion (λ (d : Cursor). place.ticket ≤ d.from) cursors.old.items }
-        requires awaited { AreAwaited cursors.old.items self.now }
+        requires least { IsLeast cursor cursors.old }
+        requires awaited { AreAwaited (cursor ∷ cursors_in cursors.old) self.now }
         requires tickets { self.now.order.next < 2 ^ 64 }
-        ensures ready { IfSome result (IsReady self.now) }
-        ensures awaited { AreAwaited cursors.new.items self.now }
-        ensures nearer { IfNone result (tickets_left cursors.new.items < tickets_left cursors.old.items) }
+        ensures ready { IfOk result (λ found. IfSome found (IsReady self.now)) }
+        ensures awaited { OnOk result (AreAwaited (cursors_in cursors.new) self.now) }
+        ensures nearer { IfOk result (λ found. IsNearer found cursor cursors.old cursors.new) }
     {
         self.order.stand_in_order();
         if self.can_serve(place.key) {
-            return Some(place.key);
+            cursors.put(cursor)?;
+            return Ok(Some(place.key));
         }
-        move_on(cursors, at, place.ticket + 1);
-        None
+        cursors.put(Cursor {
+            from: place.ticket + 1,
+            scope: cursor.scope,
+        })?;
+        Ok(None)
     }
 }

@@ -7,7 +7,7 @@ ghost use Rattle.broker_state.specs.Lists.{changed, is_none};
 ghost use Rattle.broker_state.specs.States.{bytes, one};
 ghost use Rattle.broker_state.specs.Waiting.{left_line, line_for};
 ghost use Rattle.broker_tables.specs.Answers.{with_outs};
-ghost use Rattle.broker_tables.specs.Cursors.{AreAwaited, IsReady, NoneReady};
+ghost use Rattle.broker_tables.specs.Cursors.{AreAwaited, IsReady, NoneReady, cursors_in};
 ghost use Rattle.broker_tables.specs.Handing.{IsTold, LeavesLine, LetsGoIfAuto, MayGet, Serves};
 ghost use Rattle.broker_tables.specs.Places.{HoldsAtKey, StandsSo, with_changed};
 ghost use Rattle.broker_tables.specs.Stocks.{HandsAll, IsStocked};
@@ -15,7 +15,7 @@ ghost use Rattle.broker_state.specs.declared.subscription.Subscription.{Subscrip
 ghost use Rattle.waiting_order.specs.Keeping.{kept_by};
 
 use crate::answers::Answers;
-use crate::cursors::{Cursor, cursors_of};
+use crate::cursors::Cursors;
 use crate::sending::share;
 use crate::shared_lines::SharedLines;
 use crate::stock::Stock;
@@ -181,16 +181,16 @@ impl Stock {
         &mut self,
         alloc: Global,
         number: u64,
-        cursors: &mut Vec<Cursor>,
+        cursors: &mut Cursors,
         answers: &mut Answers,
     ) -> Result<(), AllocError>
-        requires awaited { AreAwaited cursors.old.items self.old }
+        requires awaited { AreAwaited (cursors_in cursors.old) self.old }
         requires stocked { IsStocked self.old }
         ensures settled { OnOk result (HandsAll number self.old answers.old self.new answers.new) }
         ensures stocked { OnOk result (IsStocked self.new) }
         ensures none { OnOk result (NoneReady self.new) }
     {
-        while let Some(key) = self.next_ready(cursors) {
+        while let Some(key) = self.next_ready(cursors)? {
             self.order.stand_in_order();
             self.serve(alloc, number, key, answers)?;
         }
@@ -208,7 +208,7 @@ impl Tables {
         ensures due { OnOk result (self.new.due ≡ 0) }
         ensures whole { OnOk result (self.new.broken ≡ false) }
     {
-        let mut cursors = cursors_of(alloc, &self.stock.order, self.due.as_slice())?;
+        let mut cursors = Cursors::of(alloc, &self.stock.order, self.due.as_slice())?;
         self.broken = true;
         self.stock
             .hand_out(alloc, self.count, &mut cursors, answers)?;

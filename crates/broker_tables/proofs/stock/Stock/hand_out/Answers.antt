@@ -1,7 +1,9 @@
-use Rattle.std.proofs.Common.{◌++◌, ◌∷◌, ◌∙◌, [], List, ap, arith, refl, sym}
+use Rattle.std.proofs.Common.{◌++◌, ◌∷◌, ◌∙◌, [], List, MatchOption, Option, ap, arith, refl, subst, sym}
 use Rattle.command_core.specs.Outs.{OutValue}
 use Rattle.broker_tables.specs.Answers.{with_outs}
+use Rattle.broker_tables.specs.Cursors.{IsReady, NoneReady, cursors_in}
 use Rattle.broker_tables.specs.Stocks.{shown}
+use Rattle.waiting_order.specs.declared.key.Key.{Key}
 use Rattle.broker_tables.proofs.Answering.{with_more, with_none}
 use Rattle.broker_tables.proofs.Settling.{fewer_wait, settles_all, settles_on, still_awaited, still_stocked}
 use Rattle.broker_tables.proofs.stock.Stock.hand_out.Goals as goal
@@ -32,7 +34,7 @@ loop-key-preserved c =
     let kept = c.loop-key.invariant.stocked in
     let way = c.loop-key.invariant.way in
     record {
-      awaited = still_awaited c.args.number old new key out served kept c.next_ready.new.cursors.items c.stand_in_order.ensures.order c.next_ready.ensures.awaited;
+      awaited = still_awaited c.args.number old new key out served kept (cursors_in c.next_ready.new.cursors) c.stand_in_order.ensures.order c.in_ok-key.ensures.awaited;
       stocked = still_stocked c.args.number old new key out served kept;
       way = record {
         outs = way.outs ++ out ∷ [];
@@ -45,5 +47,5 @@ loop-key-preserved c =
 pub returns-clause-settled : goal.returns-clause-settled
 returns-clause-settled c sessions durables =
     let way = c.loop-key.invariant.way in
-    let all = settles_all (shown c.args.number sessions durables c.args.self.now) (shown c.args.number sessions durables c.loop-key.self) [] way.outs (way.settles sessions durables) c.in_default.ensures.ready in
+    let all = settles_all (shown c.args.number sessions durables c.args.self.now) (shown c.args.number sessions durables c.loop-key.self) [] way.outs (way.settles sessions durables) (subst (λ (o : Option Key). MatchOption o (NoneReady c.loop-key.self) (IsReady c.loop-key.self)) c.in_default.is c.in_ok-key.ensures.ready) in
     (all.0, way.answers ∙ ap (λ (outs : List OutValue). with_outs outs c.args.answers.now) all.1)

@@ -1,8 +1,8 @@
-use Rattle.broker_tables.specs.Cursors.{AreAwaited, tickets_left}
+use Rattle.broker_tables.specs.Cursors.{AreAwaited, cursors_in, tickets_left}
 use Rattle.broker_tables.proofs.stock.Stock.next_ready.Given as goal
 
-abbrev pub invariant-loop-at : goal.invariant-loop-at
-invariant-loop-at l = AreAwaited l.cursors.items l.self
+abbrev pub invariant-loop-cursor : goal.invariant-loop-cursor
+invariant-loop-cursor l = AreAwaited (cursors_in l.cursors) l.self
 
-abbrev pub decreases-loop-at : goal.decreases-loop-at
-decreases-loop-at l = tickets_left l.cursors.items
+abbrev pub decreases-loop-cursor : goal.decreases-loop-cursor
+decreases-loop-cursor l = tickets_left (cursors_in l.cursors)

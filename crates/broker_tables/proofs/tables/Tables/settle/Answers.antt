@@ -3,7 +3,7 @@ use Rattle.waiting_order.specs.Waiting.{subs_of}
 use Rattle.broker_tables.specs.declared.due.Due.{Due}
 use Rattle.broker_state.specs.HandOut.{settled}
 use Rattle.broker_tables.specs.Answers.{with_outs}
-use Rattle.broker_tables.specs.Cursors.{AwaitAllDue}
+use Rattle.broker_tables.specs.Cursors.{AwaitAllDue, cursors_in}
 use Rattle.broker_tables.specs.Dues.{AreDue}
 use Rattle.broker_tables.specs.Stocks.{stocked}
 use Rattle.broker_tables.specs.Tables.{TablesValue}
@@ -15,8 +15,8 @@ pub hand_out-requires-clause-awaited : goal.hand_out-requires-clause-awaited
 hand_out-requires-clause-awaited c =
     let a = c.self.inside in
     let marks = a.due.items in
-    awaited_due c.in_ok-cursors.cursors.items marks a.stock (c.self.invariant (ap (λ (b : TablesValue). b.broken) c.self.view_is ∙ c.requires.whole)).ready
-    (subst (λ (l : List Due). AwaitAllDue c.in_ok-cursors.cursors.items l a.stock.order.all) c.as_slice.ensures.value c.in_ok-cursors.ensures)
+    awaited_due (cursors_in c.in_ok-cursors.cursors) marks a.stock (c.self.invariant (ap (λ (b : TablesValue). b.broken) c.self.view_is ∙ c.requires.whole)).ready
+    (subst (λ (l : List Due). AwaitAllDue (cursors_in c.in_ok-cursors.cursors) l a.stock.order.all) c.as_slice.ensures.value c.in_ok-cursors.ensures)
 
 pub invariant_of-self-2 : goal.invariant_of-self-2
 invariant_of-self-2 c _ =
