@@ -80,7 +80,7 @@ SCRIPTS = [
     Script("tests/program/rooms.py"),
     Script("tests/program/crowd.py", light=""),
     Script("tests/program/crowd.py", "--many"),
-    Script("tests/program/slow_reader.py"),
+    Script("tests/program/slow_reader.py", light="--few"),
     Script("tests/program/steady_readers.py", light="", waits=True),
     Script("tests/program/starved_readers.py"),
     Script("tests/program/waiting_queue.py", light=""),

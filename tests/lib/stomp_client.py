@@ -100,6 +100,21 @@ class WebSocket(Stream):
             self.fill()
         return frame
 
+    def has_message(self):
+        """Whether a message, or the end, has come so far. Pings before it are answered."""
+        while True:
+            if self.buffer and self.buffer[0] & 0x0F != PING:
+                return True
+            if self.buffer:
+                self.send_message(PONG, self.take_frame()[2])
+            elif not self.hears_within(0):
+                return False
+            else:
+                try:
+                    self.fill()
+                except Closed:
+                    return True
+
     def receive_message(self):
         """The next message: its opcode and its payload. A ping is answered."""
         opcode, payload = None, b""

@@ -1,7 +1,9 @@
 #!/usr/bin/env python3
 """A subscriber that stops reading, while another sends to its topic: its outbox of 32 MiB is cut, and nobody else waits.
 
-    python3 tests/program/slow_reader.py [PROGRAM]
+    python3 tests/program/slow_reader.py [PROGRAM] [--few]
+
+With --few it reads again, and the one that doesn't for two minutes is left out.
 """
 
 import sys
@@ -114,7 +116,7 @@ def reads_never(broker, checks):
     checks.same("another that subscribes is handed nothing yet", waiting, [])
     start = time.perf_counter()
     sent = 0
-    while not other.hears_within(0) and time.perf_counter() - start < 2 * LONGEST_WRITE + 20:
+    while not other.has_message() and time.perf_counter() - start < 2 * LONGEST_WRITE + 20:
         flood.send(sent)
         sent += 1
         time.sleep(0 if sent < MESSAGES else 0.25)
@@ -133,4 +135,7 @@ def reads_never(broker, checks):
 
 
 if __name__ == "__main__":
-    sys.exit(scenario.run(__doc__, [reads_again, answers_no_close, reads_never]))
+    words = scenario.words_of(__doc__)
+    words.add_argument("--few", action="store_true", help="without the one that never reads again")
+    given = words.parse_args()
+    sys.exit(scenario.run_over(given.program, [reads_again, answers_no_close, *(() if given.few else (reads_never,))]))

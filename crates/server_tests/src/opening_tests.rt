@@ -1,5 +1,4 @@
 use crate::journals::make_journal;
-use crate::servers::free_port;
 use disk_core::OpenError;
 use recover_core::OpenFault;
 use server_core::{Reception, ServeFault, Server, Unopened};
@@ -10,6 +9,19 @@ use std::net::{Net, TcpListener, TcpStream};
 use std::rt::Files;
 use std::sync::Wait;
 use std::test::Fail;
+
+// A port of 127.0.0.1 at which nobody listens: the system names one, and it is free again. Another program may take it meanwhile, which
+// fails the test.
+fn free_port(rt: &HostRuntime) -> Option<u16> {
+    match TcpListener::bind(rt, ("127.0.0.1", 0)) {
+        Ok(listener) => {
+            let port = listener.local_addr().ok()?.port();
+            drop(listener);
+            Some(port)
+        }
+        Err(_) => None,
+    }
+}
 
 // What is told of a server over that file at that port.
 fn fault_at<R>(rt: &R, alloc: Global, path: &str, port: u16) -> Option<ServeFault>
