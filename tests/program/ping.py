@@ -317,6 +317,13 @@ def full(program, checks):
         checks.same("a server whose places for pings are taken is alive", ping(program, broker.port)[0], untold(NO_HANDSHAKE + "HTTP status 503", 3))
         for client in clients:
             client.close()
+        # Its workers look at their sockets one after another.
+        taken, end = False, time.monotonic() + 10
+        while not taken and time.monotonic() < end:
+            with contextlib.suppress(Refused, Closed):
+                Client(broker.port).close()
+                taken = True
+        checks.check("a server that was full takes another client", taken)
     with serving(program, journal_bytes=8_224) as broker:
         client = Client(broker.port).connect()
         with contextlib.suppress(Closed, BrokenPipeError, ConnectionResetError):
