@@ -6,8 +6,7 @@ use outbox_core::{Bell, BoxSize, OutSender, OutTaker, Silent, Taken, outbox};
 use std::alloc::{AllocError, Global};
 use std::cell::{Cell, RefCell};
 use std::mem::size_of;
-use std::sync::Arc;
-use std::sync::atomic::{AtomicU64, Ordering};
+use std::process::Abort;
 use std::test::Fail;
 
 /// A box of 512 outputs, whatever they count for.
@@ -66,17 +65,18 @@ pub fn fill<B: Bell>(alloc: Global, sender: &mut OutSender<B>, most: u64) -> Res
     Ok(most)
 }
 
-// The number of an output of `bytes` bytes, if it comes back.
-fn back<B: Bell>(
+// Whether the box takes an output of `bytes` bytes; nothing if another one comes back.
+fn is_taken<B: Bell>(
     alloc: Global,
     sender: &mut OutSender<B>,
     number: u64,
     bytes: usize,
-) -> Result<Option<u64>, AllocError> {
+) -> Result<Option<bool>, AllocError> {
     let out = output(alloc, number, bytes)?;
     match sender.give(out) {
-        Ok(()) => Ok(None),
-        Err(out) => Ok(Some(out.number())),
+        Ok(()) => Ok(Some(true)),
+        Err(out) if out.number() == number => Ok(Some(false)),
+        Err(_) => Ok(None),
     }
 }
 
@@ -98,48 +98,143 @@ fn takes_all(taker: &mut OutTaker, count: u64) -> bool {
     true
 }
 
+// Whether `count` outputs of 100 bytes are each taken before the next is given.
+fn takes_each(
+    alloc: Global,
+    sender: &mut OutSender<Silent>,
+    taker: &mut OutTaker,
+    count: u64,
+) -> Result<bool, AllocError> {
+    for number in 0..count {
+        if is_taken(alloc, sender, number, 100)? != Some(true) || look(taker) != Got::Item(number) {
+            return Ok(false);
+        }
+    }
+    Ok(true)
+}
+
+// What is done at a box, and what is to come of it.
+#[derive(Clone, Copy)]
+enum BoxStep {
+    // Outputs of 100 bytes with the numbers from 0 on: so many are given, of which the box takes so many.
+    Fill(u64, u64),
+    // An output of that number and so many bytes is given, and the box takes it.
+    Give(u64, usize),
+    // It comes back.
+    Back(u64, usize),
+    // So many outputs are taken, with the numbers from 0 on.
+    TakeAll(u64),
+    // So many outputs of 100 bytes are given, each of which is taken before the next.
+    TakeEach(u64),
+    // The taker gets that.
+    Look(Got),
+}
+
+fn is_done(
+    alloc: Global,
+    sender: &mut OutSender<Silent>,
+    taker: &mut OutTaker,
+    step: BoxStep,
+) -> Result<bool, AllocError> {
+    match step {
+        BoxStep::Fill(most, wanted) => Ok(fill(alloc, sender, most)? == wanted),
+        BoxStep::Give(number, bytes) => Ok(is_taken(alloc, sender, number, bytes)? == Some(true)),
+        BoxStep::Back(number, bytes) => Ok(is_taken(alloc, sender, number, bytes)? == Some(false)),
+        BoxStep::TakeAll(count) => Ok(takes_all(taker, count)),
+        BoxStep::TakeEach(count) => takes_each(alloc, sender, taker, count),
+        BoxStep::Look(wanted) => Ok(look(taker) == wanted),
+    }
+}
+
+// The place of the first step of which something else came.
+fn first_wrong(
+    alloc: Global,
+    sender: &mut OutSender<Silent>,
+    taker: &mut OutTaker,
+    steps: &[BoxStep],
+) -> Result<Option<usize>, AllocError> {
+    for (place, step) in steps.iter().enumerate() {
+        if !is_done(alloc, sender, taker, *step)? {
+            return Ok(Some(place));
+        }
+    }
+    Ok(None)
+}
+
+// Ends a box, and answers how many outputs wait in it then, unless it was cut.
+fn waiting_at_the_end(sender: OutSender<Silent>, taker: &mut OutTaker) -> Option<u64> {
+    sender.finish()?;
+    for count in 0..5_000u64 {
+        if look(taker) == Got::Cut {
+            return Some(count);
+        }
+    }
+    Some(5_000)
+}
+
+// Makes these steps at a new box. So many outputs wait when it ends, unless it was cut.
+fn play(
+    rt: &impl Abort,
+    alloc: Global,
+    size: BoxSize,
+    steps: &[BoxStep],
+    waiting: Option<u64>,
+) -> Result<(), AllocError> {
+    let (mut sender, mut taker) = outbox(alloc, Silent, size)?;
+    let wrong = first_wrong(alloc, &mut sender, &mut taker, steps);
+    let left = waiting_at_the_end(sender, &mut taker);
+    drop(taker);
+    assert_eq!(rt; wrong?, None);
+    assert_eq!(rt; left, waiting);
+    Ok(())
+}
+
 #[test]
 fn the_513th_output_comes_back_and_cuts_the_box(rt: HostRuntime) -> Result<(), Fail> {
-    let alloc = rt.alloc();
-    let (mut sender, mut taker) = outbox(alloc, Silent, MANY)?;
-    assert_eq!(rt; fill(alloc, &mut sender, 512)?, 512);
-    assert_eq!(rt; back(alloc, &mut sender, 512, 0)?, Some(512));
-    assert_eq!(rt; back(alloc, &mut sender, 513, 0)?, Some(513));
-    assert!(rt; takes_all(&mut taker, 512));
-    assert_eq!(rt; look(&mut taker), Got::Cut);
-    assert_eq!(rt; back(alloc, &mut sender, 514, 0)?, Some(514));
-    assert!(rt; sender.finish().is_none());
+    let steps = [
+        BoxStep::Fill(512, 512),
+        BoxStep::Back(512, 0),
+        BoxStep::Back(513, 0),
+        BoxStep::TakeAll(512),
+        BoxStep::Look(Got::Cut),
+        BoxStep::Back(514, 0),
+    ];
+    play(&rt, rt.alloc(), MANY, &steps, None)?;
     Ok(())
 }
 
 #[test]
 fn a_server_has_boxes_of_4608_outputs_and_32_mib(rt: HostRuntime) -> Result<(), Fail> {
-    let alloc = rt.alloc();
     assert_eq!(rt; BoxSize::SERVER.bytes, 33_554_432);
-    let (mut sender, mut taker) = outbox(alloc, Silent, BoxSize::SERVER)?;
-    assert_eq!(rt; fill(alloc, &mut sender, 4_608)?, 4_608);
-    assert_eq!(rt; back(alloc, &mut sender, 4_608, 0)?, Some(4_608));
-    assert!(rt; takes_all(&mut taker, 4_608));
-    assert_eq!(rt; look(&mut taker), Got::Cut);
+    let steps = [
+        BoxStep::Fill(4_608, 4_608),
+        BoxStep::Back(4_608, 0),
+        BoxStep::TakeAll(4_608),
+        BoxStep::Look(Got::Cut),
+    ];
+    play(&rt, rt.alloc(), BoxSize::SERVER, &steps, None)?;
     Ok(())
 }
 
 #[test]
 fn an_output_that_passes_the_bytes_comes_back(rt: HostRuntime) -> Result<(), Fail> {
-    let alloc = rt.alloc();
-    let (mut sender, mut taker) = outbox(alloc, Silent, LIGHT)?;
-    assert_eq!(rt; back(alloc, &mut sender, 0, 400)?, None);
-    assert_eq!(rt; back(alloc, &mut sender, 1, 600)?, None);
-    assert_eq!(rt; back(alloc, &mut sender, 2, 0)?, None);
-    assert_eq!(rt; back(alloc, &mut sender, 3, 1)?, Some(3));
-    assert!(rt; takes_all(&mut taker, 3));
-    assert_eq!(rt; look(&mut taker), Got::Cut);
-    let (mut sender, mut taker) = outbox(alloc, Silent, LIGHT)?;
-    assert_eq!(rt; back(alloc, &mut sender, 0, 400)?, None);
-    assert_eq!(rt; back(alloc, &mut sender, 1, 601)?, Some(1));
-    assert_eq!(rt; back(alloc, &mut sender, 2, 0)?, Some(2));
-    assert!(rt; takes_all(&mut taker, 1));
-    assert_eq!(rt; look(&mut taker), Got::Cut);
+    let full = [
+        BoxStep::Give(0, 400),
+        BoxStep::Give(1, 600),
+        BoxStep::Give(2, 0),
+        BoxStep::Back(3, 1),
+        BoxStep::TakeAll(3),
+        BoxStep::Look(Got::Cut),
+    ];
+    play(&rt, rt.alloc(), LIGHT, &full, None)?;
+    let passed = [
+        BoxStep::Give(0, 400),
+        BoxStep::Back(1, 601),
+        BoxStep::Back(2, 0),
+        BoxStep::TakeAll(1),
+        BoxStep::Look(Got::Cut),
+    ];
+    play(&rt, rt.alloc(), LIGHT, &passed, None)?;
     Ok(())
 }
 
@@ -162,119 +257,138 @@ fn headers_count_for_their_names_and_values(rt: HostRuntime) -> Result<(), Fail>
 
 #[test]
 fn a_full_box_has_room_once_an_output_is_taken(rt: HostRuntime) -> Result<(), Fail> {
-    let alloc = rt.alloc();
-    let (mut sender, mut taker) = outbox(alloc, Silent, MANY)?;
-    assert_eq!(rt; fill(alloc, &mut sender, 512)?, 512);
-    assert_eq!(rt; look(&mut taker), Got::Item(0));
-    assert_eq!(rt; back(alloc, &mut sender, 512, 100)?, None);
-    assert_eq!(rt; look(&mut taker), Got::Item(1));
-    let (mut sender, mut taker) = outbox(alloc, Silent, LIGHT)?;
-    assert_eq!(rt; fill(alloc, &mut sender, 10)?, 10);
-    assert_eq!(rt; look(&mut taker), Got::Item(0));
-    assert_eq!(rt; back(alloc, &mut sender, 10, 100)?, None);
-    assert_eq!(rt; back(alloc, &mut sender, 11, 1)?, Some(11));
+    let many = [
+        BoxStep::Fill(512, 512),
+        BoxStep::Look(Got::Item(0)),
+        BoxStep::Give(512, 100),
+        BoxStep::Look(Got::Item(1)),
+    ];
+    play(&rt, rt.alloc(), MANY, &many, Some(511))?;
+    let light = [
+        BoxStep::Fill(10, 10),
+        BoxStep::Look(Got::Item(0)),
+        BoxStep::Give(10, 100),
+        BoxStep::Back(11, 1),
+    ];
+    play(&rt, rt.alloc(), LIGHT, &light, None)?;
     Ok(())
 }
 
 #[test]
 fn a_box_that_was_found_empty_has_all_its_room(rt: HostRuntime) -> Result<(), Fail> {
-    let alloc = rt.alloc();
-    let (mut sender, mut taker) = outbox(alloc, Silent, BOTH)?;
-    for _ in 0..3u32 {
-        assert_eq!(rt; fill(alloc, &mut sender, 4_608)?, 4_608);
-        assert!(rt; takes_all(&mut taker, 4_608));
-        assert_eq!(rt; look(&mut taker), Got::Empty);
-    }
-    assert_eq!(rt; back(alloc, &mut sender, 0, 460_800)?, None);
-    assert_eq!(rt; look(&mut taker), Got::Item(0));
-    assert_eq!(rt; fill(alloc, &mut sender, 4_609)?, 4_608);
+    let steps = [
+        BoxStep::Fill(4_608, 4_608),
+        BoxStep::TakeAll(4_608),
+        BoxStep::Look(Got::Empty),
+        BoxStep::Fill(4_608, 4_608),
+        BoxStep::TakeAll(4_608),
+        BoxStep::Look(Got::Empty),
+        BoxStep::Give(0, 460_800),
+        BoxStep::Look(Got::Item(0)),
+        BoxStep::Fill(4_609, 4_608),
+    ];
+    play(&rt, rt.alloc(), BOTH, &steps, None)?;
     Ok(())
 }
 
 // All is taken, and the box was not found empty: of its 460,800 bytes at least 446,400 are free, which is 31 of 32.
 #[test]
 fn of_what_was_taken_a_32nd_may_not_be_free_yet(rt: HostRuntime) -> Result<(), Fail> {
-    let alloc = rt.alloc();
-    let (mut sender, mut taker) = outbox(alloc, Silent, BOTH)?;
-    assert_eq!(rt; fill(alloc, &mut sender, 4_608)?, 4_608);
-    assert!(rt; takes_all(&mut taker, 4_608));
-    for _ in 0..3u32 {
-        assert_eq!(rt; fill(alloc, &mut sender, 4_464)?, 4_464);
-        assert!(rt; takes_all(&mut taker, 4_464));
-    }
+    let steps = [
+        BoxStep::Fill(4_608, 4_608),
+        BoxStep::TakeAll(4_608),
+        BoxStep::Fill(4_464, 4_464),
+        BoxStep::TakeAll(4_464),
+        BoxStep::Fill(4_464, 4_464),
+        BoxStep::TakeAll(4_464),
+        BoxStep::Fill(4_464, 4_464),
+        BoxStep::TakeAll(4_464),
+    ];
+    play(&rt, rt.alloc(), BOTH, &steps, Some(0))?;
     Ok(())
 }
 
 // The body of each is 100 bytes, and the box has 150.
 #[test]
 fn who_gives_when_the_last_was_taken_is_never_cut(rt: HostRuntime) -> Result<(), Fail> {
-    let alloc = rt.alloc();
     let size = BoxSize {
         outputs: 4,
         bytes: 150,
     };
-    let (mut sender, mut taker) = outbox(alloc, Silent, size)?;
-    for number in 0..10_000u64 {
-        assert_eq!(rt; back(alloc, &mut sender, number, 100)?, None);
-        assert_eq!(rt; look(&mut taker), Got::Item(number));
-    }
-    assert_eq!(rt; back(alloc, &mut sender, 10_000, 100)?, None);
-    assert_eq!(rt; back(alloc, &mut sender, 10_001, 100)?, Some(10_001));
+    let steps = [
+        BoxStep::TakeEach(10_000),
+        BoxStep::Give(10_000, 100),
+        BoxStep::Back(10_001, 100),
+    ];
+    play(&rt, rt.alloc(), size, &steps, None)?;
     Ok(())
 }
 
 #[test]
 fn an_open_box_is_empty_and_a_finished_one_is_cut(rt: HostRuntime) -> Result<(), Fail> {
-    let alloc = rt.alloc();
-    let (mut sender, mut taker) = outbox(alloc, Silent, MANY)?;
-    assert_eq!(rt; look(&mut taker), Got::Empty);
-    assert_eq!(rt; back(alloc, &mut sender, 0, 0)?, None);
-    assert_eq!(rt; back(alloc, &mut sender, 1, 1)?, None);
-    assert_eq!(rt; look(&mut taker), Got::Item(0));
-    assert!(rt; sender.finish().is_some());
-    assert_eq!(rt; look(&mut taker), Got::Item(1));
-    assert_eq!(rt; look(&mut taker), Got::Cut);
-    assert_eq!(rt; look(&mut taker), Got::Cut);
+    let steps = [
+        BoxStep::Look(Got::Empty),
+        BoxStep::Give(0, 0),
+        BoxStep::Give(1, 1),
+        BoxStep::Look(Got::Item(0)),
+    ];
+    play(&rt, rt.alloc(), MANY, &steps, Some(1))?;
     Ok(())
 }
 
 // Counts how often it rings.
 #[derive(Drop)]
-struct Counted {
-    rings: Arc<AtomicU64, Global>,
+struct Counted<'a> {
+    rings: &'a Cell<u64>,
 }
 
-impl Bell for Counted {
+impl Bell for Counted<'_> {
     fn ring(&self) {
-        self.rings.fetch_add(1, Ordering::SeqCst);
+        self.rings.set(self.rings.get().wrapping_add(1));
     }
 }
 
-// Ends a box that rings this bell.
-fn finish_one(alloc: Global, bell: Counted) -> Result<bool, AllocError> {
-    let (sender, _taker) = outbox(alloc, bell, MANY)?;
-    Ok(sender.finish().is_some())
+// How often the box has rung once it was given 512 outputs, one that cuts it, and another.
+fn rings_of_gives(
+    alloc: Global,
+    sender: &mut OutSender<Counted<'_>>,
+    rings: &Cell<u64>,
+) -> Result<[u64; 3], AllocError> {
+    fill(alloc, sender, 512)?;
+    let filled = rings.get();
+    is_taken(alloc, sender, 512, 100)?;
+    let cut = rings.get();
+    is_taken(alloc, sender, 513, 100)?;
+    Ok([filled, cut, rings.get()])
+}
+
+// The same, and once the sending end is dropped.
+fn rings_of_dropping(alloc: Global, rings: &Cell<u64>) -> Result<([u64; 3], u64), AllocError> {
+    let (mut sender, taker) = outbox(alloc, Counted { rings }, MANY)?;
+    let given = rings_of_gives(alloc, &mut sender, rings);
+    drop(sender);
+    drop(taker);
+    Ok((given?, rings.get()))
+}
+
+// Once an empty box is finished.
+fn rings_of_finishing(alloc: Global, rings: &Cell<u64>) -> Result<u64, AllocError> {
+    let (sender, taker) = outbox(alloc, Counted { rings }, MANY)?;
+    drop(sender.finish());
+    drop(taker);
+    Ok(rings.get())
 }
 
 #[test]
 fn a_box_rings_when_it_is_given_something_cut_dropped_or_finished(
     rt: HostRuntime,
 ) -> Result<(), Fail> {
-    let alloc = rt.alloc();
-    let rings = Arc::new(alloc, AtomicU64::new(0))?;
-    let theirs = Arc::try_clone(&rings)?;
-    let (mut sender, _taker) = outbox(alloc, Counted { rings: theirs }, MANY)?;
-    assert_eq!(rt; fill(alloc, &mut sender, 512)?, 512);
-    assert_eq!(rt; rings.load(Ordering::SeqCst), 512);
-    assert_eq!(rt; back(alloc, &mut sender, 512, 100)?, Some(512));
-    assert_eq!(rt; rings.load(Ordering::SeqCst), 513);
-    assert_eq!(rt; back(alloc, &mut sender, 513, 100)?, Some(513));
-    assert_eq!(rt; rings.load(Ordering::SeqCst), 513);
-    drop(sender);
-    assert_eq!(rt; rings.load(Ordering::SeqCst), 514);
-    let theirs = Arc::try_clone(&rings)?;
-    assert!(rt; finish_one(alloc, Counted { rings: theirs })?);
-    assert_eq!(rt; rings.load(Ordering::SeqCst), 515);
+    let (dropped, finished) = (Cell::new(0), Cell::new(0));
+    assert_eq!(rt;
+        rings_of_dropping(rt.alloc(), &dropped)?,
+        ([512, 513, 513], 514)
+    );
+    assert_eq!(rt; rings_of_finishing(rt.alloc(), &finished)?, 1);
     Ok(())
 }
 
@@ -332,7 +446,7 @@ fn find_at_ring(alloc: Global, way: Way) -> Result<Option<Got>, AllocError> {
         Way::Dropped => drop(sender),
         Way::Finished => drop(sender.finish()),
         Way::Cut => {
-            back(alloc, &mut sender, 512, 100)?;
+            is_taken(alloc, &mut sender, 512, 100)?;
             drop(place.try_replace(None));
             drop(sender);
         }

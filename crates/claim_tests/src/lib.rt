@@ -9,12 +9,8 @@ mod box_thread_tests;
 #[cfg(test)]
 mod driver;
 #[cfg(test)]
-mod limit_tests;
-#[cfg(test)]
 mod mark_tests;
 #[cfg(test)]
 mod ring_tests;
-#[cfg(test)]
-mod thread_tests;
 #[cfg(test)]
 mod window_tests;

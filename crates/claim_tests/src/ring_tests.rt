@@ -4,6 +4,7 @@ use frame_core::{Bytes, Frame, Headers, Verb};
 use outbox_core::{Bell, BoxSize, Boxes, OutTaker, Taken, outbox};
 use std::alloc::{AllocError, Global};
 use std::cell::{Cell, RefCell};
+use std::process::Abort;
 use std::test::Fail;
 
 // A box of one output.
@@ -20,18 +21,18 @@ struct Heard {
     notes: Cell<u64>,
     notes_at_first: Cell<u64>,
     waited_at_first: Cell<u64>,
-    // The taker of the last box.
-    last: RefCell<Option<OutTaker>>,
+    // The takers of the boxes.
+    takers: RefCell<Vec<OutTaker>>,
 }
 
 impl Heard {
-    fn new() -> Heard {
+    fn new(alloc: Global) -> Heard {
         Heard {
             rings: Cell::new(0),
             notes: Cell::new(0),
             notes_at_first: Cell::new(0),
             waited_at_first: Cell::new(0),
-            last: RefCell::new(None),
+            takers: RefCell::new(Vec::new(alloc)),
         }
     }
 }
@@ -47,7 +48,7 @@ impl Bell for Noting<'_> {
     fn ring(&self) {
         if self.heard.rings.get() == 0 {
             self.heard.notes_at_first.set(self.heard.notes.get());
-            self.heard.waited_at_first.set(waiting(&self.heard.last));
+            self.heard.waited_at_first.set(waiting(&self.heard.takers));
         }
         self.heard.rings.set(self.heard.rings.get().wrapping_add(1));
         self.rings.set(self.rings.get().wrapping_add(1));
@@ -58,12 +59,12 @@ impl Bell for Noting<'_> {
     }
 }
 
-// How many outputs a taker finds, up to 100.
-fn waiting(place: &RefCell<Option<OutTaker>>) -> u64 {
-    let Ok(mut taker) = place.try_borrow_mut() else {
+// How many outputs the last taker finds, up to 100.
+fn waiting(takers: &RefCell<Vec<OutTaker>>) -> u64 {
+    let Ok(mut takers) = takers.try_borrow_mut() else {
         return 0;
     };
-    match &mut *taker {
+    match takers.last_mut() {
         Some(taker) => count(taker),
         None => 0,
     }
@@ -96,7 +97,7 @@ fn to_each(alloc: Global, sessions: &[u64]) -> Result<Vec<Out>, AllocError> {
     Ok(outs)
 }
 
-// Keeps a box of that size for a session, whose bell counts its rings in `rings`, and answers the box's taker.
+// Keeps a box of that size for a session, whose bell counts its rings in `rings`.
 fn keep<'a>(
     alloc: Global,
     boxes: &mut Boxes<Noting<'a>>,
@@ -104,10 +105,27 @@ fn keep<'a>(
     size: BoxSize,
     heard: &'a Heard,
     rings: &'a Cell<u64>,
-) -> Result<OutTaker, AllocError> {
+) -> Result<(), Fail> {
     let (sender, taker) = outbox(alloc, Noting { heard, rings }, size)?;
     boxes.keep(session, sender)?;
-    Ok(taker)
+    match heard.takers.try_borrow_mut() {
+        Ok(mut takers) => Ok(takers.push(taker)?),
+        Err(_) => Err(Fail::from("a taker is in use")),
+    }
+}
+
+// Gives an output to each of these sessions.
+fn give(
+    rt: &impl Abort,
+    alloc: Global,
+    boxes: &mut Boxes<Noting<'_>>,
+    left: &mut Vec<Out>,
+    sessions: &[u64],
+) -> Result<(), AllocError> {
+    let outs = to_each(alloc, sessions)?;
+    assert!(rt; left.len() <= 8 && outs.len() <= 8 && left.capacity() >= 16);
+    boxes.give_all(outs, left);
+    Ok(())
 }
 
 fn counts_of(rings: &[Cell<u64>; 4]) -> [u64; 4] {
@@ -119,35 +137,74 @@ fn counts_of(rings: &[Cell<u64>; 4]) -> [u64; 4] {
     ]
 }
 
+// Keeps a box of 512 outputs for each of four sessions.
+fn keep_four<'a>(
+    alloc: Global,
+    boxes: &mut Boxes<Noting<'a>>,
+    heard: &'a Heard,
+    rings: &'a [Cell<u64>; 4],
+) -> Result<(), Fail> {
+    keep(alloc, boxes, 1, MANY, heard, &rings[0])?;
+    keep(alloc, boxes, 2, MANY, heard, &rings[1])?;
+    keep(alloc, boxes, 3, MANY, heard, &rings[2])?;
+    keep(alloc, boxes, 4, MANY, heard, &rings[3])
+}
+
+// The outputs to eight, one of which has no box; then to two; then two boxes are let go.
+fn give_twice_and_let_go(
+    rt: &impl Abort,
+    alloc: Global,
+    boxes: &mut Boxes<Noting<'_>>,
+    left: &mut Vec<Out>,
+    rings: &[Cell<u64>; 4],
+) -> Result<[[u64; 4]; 3], AllocError> {
+    left.reserve(16)?;
+    give(rt, alloc, boxes, left, &[1, 4, 2, 1, 7, 4, 2, 4])?;
+    let first = counts_of(rings);
+    give(rt, alloc, boxes, left, &[3, 4])?;
+    let second = counts_of(rings);
+    boxes.let_go(&[1, 4]);
+    Ok([first, second, counts_of(rings)])
+}
+
 #[test]
 fn each_box_that_was_given_something_is_rung_once_after_all_have_theirs(
     rt: HostRuntime,
 ) -> Result<(), Fail> {
-    let alloc = rt.alloc();
-    let heard = Heard::new();
+    let heard = Heard::new(rt.alloc());
     let rings = [Cell::new(0), Cell::new(0), Cell::new(0), Cell::new(0)];
-    let mut boxes = Boxes::new(alloc);
-    let _one = keep(alloc, &mut boxes, 1, MANY, &heard, &rings[0])?;
-    let _two = keep(alloc, &mut boxes, 2, MANY, &heard, &rings[1])?;
-    let _other = keep(alloc, &mut boxes, 3, MANY, &heard, &rings[2])?;
-    let last = keep(alloc, &mut boxes, 4, MANY, &heard, &rings[3])?;
-    drop(heard.last.try_replace(Some(last)));
-    let mut left = Vec::with_capacity(alloc, 16)?;
-    let outs = to_each(alloc, &[1, 4, 2, 1, 7, 4, 2, 4])?;
-    assert!(rt; left.is_empty() && outs.len() == 8 && left.capacity() >= 16);
-    boxes.give_all(outs, &mut left);
-    assert_eq!(rt; left.len(), 1);
-    assert_eq!(rt; heard.notes_at_first.get(), 3);
-    assert_eq!(rt; heard.waited_at_first.get(), 3);
-    assert_eq!(rt; counts_of(&rings), [1, 1, 0, 1]);
-    let outs = to_each(alloc, &[3, 4])?;
-    assert!(rt; left.len() == 1 && outs.len() == 2 && left.capacity() >= 16);
-    boxes.give_all(outs, &mut left);
-    assert_eq!(rt; counts_of(&rings), [1, 1, 1, 2]);
-    boxes.let_go(&[1, 4]);
-    assert_eq!(rt; counts_of(&rings), [2, 1, 1, 3]);
+    let mut boxes = Boxes::new(rt.alloc());
+    let mut left = Vec::new(rt.alloc());
+    let kept = keep_four(rt.alloc(), &mut boxes, &heard, &rings);
+    let given = give_twice_and_let_go(&rt, rt.alloc(), &mut boxes, &mut left, &rings);
+    let without_box = left.len();
+    drop(left);
     drop(boxes);
+    kept?;
+    assert_eq!(rt; given?, [[1, 1, 0, 1], [1, 1, 1, 2], [2, 1, 1, 3]]);
+    assert_eq!(rt; without_box, 1);
+    assert_eq!(rt;
+        (heard.notes_at_first.get(), heard.waited_at_first.get()),
+        (3, 3)
+    );
     assert_eq!(rt; counts_of(&rings), [2, 2, 2, 3]);
+    Ok(())
+}
+
+fn expect_one_ring<'a>(
+    rt: &impl Abort,
+    alloc: Global,
+    boxes: &mut Boxes<Noting<'a>>,
+    left: &mut Vec<Out>,
+    heard: &'a Heard,
+    rings: &'a Cell<u64>,
+) -> Result<(), Fail> {
+    left.reserve(16)?;
+    keep(alloc, boxes, 1, ONE, heard, rings)?;
+    give(rt, alloc, boxes, left, &[1, 1, 1])?;
+    assert_eq!(rt; (rings.get(), heard.waited_at_first.get()), (1, 1));
+    give(rt, alloc, boxes, left, &[1, 1])?;
+    assert_eq!(rt; (rings.get(), waiting(&heard.takers)), (1, 0));
     Ok(())
 }
 
@@ -155,21 +212,12 @@ fn each_box_that_was_given_something_is_rung_once_after_all_have_theirs(
 fn a_box_that_is_cut_within_a_batch_is_rung_once_and_never_again(
     rt: HostRuntime,
 ) -> Result<(), Fail> {
-    let alloc = rt.alloc();
-    let heard = Heard::new();
+    let heard = Heard::new(rt.alloc());
     let rings = Cell::new(0);
-    let mut boxes = Boxes::new(alloc);
-    let mut taker = keep(alloc, &mut boxes, 1, ONE, &heard, &rings)?;
-    let mut left = Vec::with_capacity(alloc, 16)?;
-    let outs = to_each(alloc, &[1, 1, 1])?;
-    assert!(rt; left.is_empty() && outs.len() == 3 && left.capacity() >= 16);
-    boxes.give_all(outs, &mut left);
-    assert_eq!(rt; rings.get(), 1);
-    assert!(rt; matches!(taker.next(), Taken::Item(_)));
-    assert!(rt; matches!(taker.next(), Taken::Cut));
-    let outs = to_each(alloc, &[1, 1])?;
-    assert!(rt; left.is_empty() && outs.len() == 2 && left.capacity() >= 16);
-    boxes.give_all(outs, &mut left);
-    assert_eq!(rt; rings.get(), 1);
-    Ok(())
+    let mut boxes = Boxes::new(rt.alloc());
+    let mut left = Vec::new(rt.alloc());
+    let done = expect_one_ring(&rt, rt.alloc(), &mut boxes, &mut left, &heard, &rings);
+    drop(left);
+    drop(boxes);
+    done
 }
