@@ -157,7 +157,10 @@ fn length_of(
 }
 
 fn is_written(alloc: Global, command: &Command, record: &[u8]) -> Result<bool, AllocError> {
-    Ok(encode(alloc, command)?.as_slice() == record)
+    let bytes = encode(alloc, command)?;
+    let is_same = bytes.as_slice() == record;
+    drop(bytes);
+    Ok(is_same)
 }
 
 // Whether the record is read, with other bytes after it, and no front of it is.
@@ -304,9 +307,14 @@ fn r1(alloc: Global) -> Result<HeaderText, AllocError> {
 
 // `hi` to `/queue/a`.
 fn greeting(alloc: Global) -> Result<Sending, DestFault> {
-    let destination = Dest::read(alloc, "/queue/a")?;
-    let body = Vec::from_slice(alloc, b"hi")?;
-    Ok(Sending::new(destination, Headers::new(Vec::new(alloc)), Bytes::new(body)))
+    let body = Bytes::new(Vec::from_slice(alloc, b"hi")?);
+    match Dest::read(alloc, "/queue/a") {
+        Ok(destination) => Ok(Sending::new(destination, Headers::new(Vec::new(alloc)), body)),
+        Err(fault) => {
+            drop(body);
+            Err(fault)
+        }
+    }
 }
 
 // That command.

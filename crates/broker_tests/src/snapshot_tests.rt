@@ -33,20 +33,7 @@ fn snapshot_of(
     snapshot(alloc, broker)
 }
 
-// The same of a new broker.
-fn snapshot_after(
-    alloc: Global,
-    records: &[&[u8]],
-    times: usize,
-    last: &[u8],
-) -> Result<Vec<u8>, Fail> {
-    let mut broker = Broker::new(alloc);
-    let bytes = snapshot_of(alloc, &mut broker, records, times, last);
-    drop(broker);
-    bytes
-}
-
-// Whether the snapshot of such a broker is these bytes.
+// Whether the snapshot of a new broker after them is these bytes.
 fn snapshot_is(
     alloc: Global,
     records: &[&[u8]],
@@ -54,21 +41,38 @@ fn snapshot_is(
     last: &[u8],
     bytes: &[u8],
 ) -> Result<bool, Fail> {
-    let written = snapshot_after(alloc, records, times, last)?;
-    Ok(written.as_slice() == bytes)
+    let mut broker = Broker::new(alloc);
+    let written = snapshot_of(alloc, &mut broker, records, times, last);
+    drop(broker);
+    let written = written?;
+    let is_same = written.as_slice() == bytes;
+    drop(written);
+    Ok(is_same)
 }
 
-fn is_no_state(alloc: Global, bytes: &[u8]) -> bool {
-    matches!(decode_state(alloc, bytes), Err(DecodeFault::NoSpelling))
+// Whether the state that the bytes are read as is written so; nothing if they are read as none.
+fn written_again(alloc: Global, bytes: &[u8]) -> Result<Option<bool>, Fail> {
+    match decode_state(alloc, bytes) {
+        Ok(broker) => {
+            let written = snapshot(alloc, &broker);
+            drop(broker);
+            let written = written?;
+            let is_same = written.as_slice() == bytes;
+            drop(written);
+            Ok(Some(is_same))
+        }
+        Err(DecodeFault::NoSpelling) => Ok(None),
+        Err(DecodeFault::Memory(refused)) => Err(Fail::from(refused)),
+    }
+}
+
+fn is_no_state(alloc: Global, bytes: &[u8]) -> Result<bool, Fail> {
+    Ok(written_again(alloc, bytes)?.is_none())
 }
 
 // Whether the bytes are read as a state that is written so.
 fn goes_both_ways(alloc: Global, bytes: &[u8]) -> Result<bool, Fail> {
-    match decode_state(alloc, bytes) {
-        Ok(broker) => Ok(snapshot(alloc, &broker)?.as_slice() == bytes),
-        Err(DecodeFault::NoSpelling) => Ok(false),
-        Err(DecodeFault::Memory(refused)) => Err(Fail::from(refused)),
-    }
+    Ok(written_again(alloc, bytes)? == Some(true))
 }
 
 #[test]
@@ -77,8 +81,8 @@ fn the_first_state_is_32_zero_bytes(rt: HostRuntime) -> Result<(), Fail> {
     let zeros = [0; 33];
     assert!(rt; snapshot_is(alloc, &[], 0, &[], &zeros[..32])?);
     assert!(rt; goes_both_ways(alloc, &zeros[..32])?);
-    assert!(rt; is_no_state(alloc, &zeros));
-    assert!(rt; is_no_state(alloc, &zeros[..31]));
+    assert!(rt; is_no_state(alloc, &zeros)?);
+    assert!(rt; is_no_state(alloc, &zeros[..31])?);
     Ok(())
 }
 
@@ -179,25 +183,87 @@ const STATE: [(&[u8], &str); 66] = [
     (b"\0\0\0\x01b", "xxxx."),
 ];
 
-// The bytes of the parts.
-fn joined(alloc: Global) -> Result<Vec<u8>, AllocError> {
-    let mut bytes = Vec::new(alloc);
-    for (part, _) in &STATE {
-        bytes.extend_from_slice(part)?;
-    }
-    Ok(bytes)
+// The bytes that a test reads.
+#[derive(Clone, Copy)]
+enum Spelled {
+    // The state of every part.
+    All,
+    // The same, with 2^32 - 1 in place of the part of that number, which is a count.
+    WithCount(usize),
+    // Session 0 has a subscription of `/topic/t` with so many deliveries to acknowledge, of the commands from 2 on, and the next message in
+    // its own line.
+    OwnLine(u32),
+    // Session 0, and in `/queue/q` the messages of the 4,096 commands from 1 on.
+    FullQueue,
 }
 
-fn is_after_all_commands(alloc: Global, bytes: &[u8]) -> Result<bool, Fail> {
-    Ok(snapshot_is(alloc, &COMMANDS, 0, &[], bytes)? && goes_both_ways(alloc, bytes)?)
+fn put(bytes: &mut Vec<u8>, spelled: Spelled) -> Result<(), AllocError> {
+    match spelled {
+        Spelled::All => put_parts(bytes, usize::MAX),
+        Spelled::WithCount(place) => put_parts(bytes, place),
+        Spelled::OwnLine(deliveries) => put_own_line(bytes, deliveries),
+        Spelled::FullQueue => put_full_queue(bytes),
+    }
+}
+
+// The parts, of which the one at that place is as great as it can be.
+fn put_parts(bytes: &mut Vec<u8>, place: usize) -> Result<(), AllocError> {
+    for (at, (part, _)) in STATE.iter().enumerate() {
+        if at == place {
+            bytes.extend_from_slice(&u32::MAX.to_be_bytes())?;
+        } else {
+            bytes.extend_from_slice(part)?;
+        }
+    }
+    Ok(())
+}
+
+fn bytes_of(alloc: Global, what: Spelled) -> Result<Vec<u8>, AllocError> {
+    let mut bytes = Vec::new(alloc);
+    match put(&mut bytes, what) {
+        Ok(()) => Ok(bytes),
+        Err(refused) => {
+            drop(bytes);
+            Err(refused)
+        }
+    }
+}
+
+// Whether the bytes are the snapshot of a new broker after these records, and go both ways.
+fn is_spelled_after(
+    alloc: Global,
+    what: Spelled,
+    records: &[&[u8]],
+    times: usize,
+    last: &[u8],
+) -> Result<bool, Fail> {
+    let bytes = bytes_of(alloc, what)?;
+    let is_so = is_after(alloc, records, times, last, bytes.as_slice());
+    drop(bytes);
+    is_so
+}
+
+fn is_after(
+    alloc: Global,
+    records: &[&[u8]],
+    times: usize,
+    last: &[u8],
+    bytes: &[u8],
+) -> Result<bool, Fail> {
+    Ok(snapshot_is(alloc, records, times, last, bytes)? && goes_both_ways(alloc, bytes)?)
+}
+
+// Whether the bytes are no state.
+fn spells_none(alloc: Global, what: Spelled) -> Result<bool, Fail> {
+    let bytes = bytes_of(alloc, what)?;
+    let is_none = is_no_state(alloc, bytes.as_slice());
+    drop(bytes);
+    is_none
 }
 
 #[test]
 fn a_state_of_every_part_is_written_and_read(rt: HostRuntime) -> Result<(), Fail> {
-    let bytes = joined(rt.alloc())?;
-    let is_so = is_after_all_commands(rt.alloc(), bytes.as_slice());
-    drop(bytes);
-    assert!(rt; is_so?);
+    assert!(rt; is_spelled_after(rt.alloc(), Spelled::All, &COMMANDS, 0, &[])?);
     Ok(())
 }
 
@@ -211,7 +277,7 @@ fn is_marked_so(alloc: Global, bytes: &mut [u8], at: usize, mark: u8) -> Result<
     let is_so = if mark == b'.' {
         goes_both_ways(alloc, bytes)?
     } else {
-        is_no_state(alloc, bytes)
+        is_no_state(alloc, bytes)?
     };
     if let Some(byte) = bytes.get_mut(at) {
         *byte = was;
@@ -235,7 +301,7 @@ fn marked(alloc: Global, bytes: &mut [u8]) -> Result<usize, Fail> {
 
 #[test]
 fn each_byte_of_a_state_is_read(rt: HostRuntime) -> Result<(), Fail> {
-    let mut bytes = joined(rt.alloc())?;
+    let mut bytes = bytes_of(rt.alloc(), Spelled::All)?;
     let length = bytes.len();
     let count = marked(rt.alloc(), bytes.as_mut_slice());
     drop(bytes);
@@ -243,37 +309,31 @@ fn each_byte_of_a_state_is_read(rt: HostRuntime) -> Result<(), Fail> {
     Ok(())
 }
 
-#[test]
-fn a_part_of_a_state_is_none(rt: HostRuntime) -> Result<(), Fail> {
-    let alloc = rt.alloc();
-    let mut bytes = joined(alloc)?;
+// Whether no front of the bytes is a state, and they are none with a byte more.
+fn is_whole(alloc: Global, bytes: &mut Vec<u8>) -> Result<bool, Fail> {
     for length in 0..bytes.len() {
-        assert!(rt; is_no_state(alloc, &bytes[..length]));
-    }
-    bytes.push(0)?;
-    assert!(rt; is_no_state(alloc, &bytes));
-    Ok(())
-}
-
-// The bytes of the parts, with 2^32 - 1 instead of one of them.
-fn with_count(alloc: Global, place: usize) -> Result<Vec<u8>, AllocError> {
-    let mut bytes = Vec::new(alloc);
-    for (at, (part, _)) in STATE.iter().enumerate() {
-        if at == place {
-            bytes.extend_from_slice(&u32::MAX.to_be_bytes())?;
-        } else {
-            bytes.extend_from_slice(part)?;
+        if !is_no_state(alloc, &bytes[..length])? {
+            return Ok(false);
         }
     }
-    Ok(bytes)
+    bytes.push(0)?;
+    is_no_state(alloc, bytes.as_slice())
+}
+
+#[test]
+fn a_part_of_a_state_is_none(rt: HostRuntime) -> Result<(), Fail> {
+    let mut bytes = bytes_of(rt.alloc(), Spelled::All)?;
+    let is_whole = is_whole(rt.alloc(), &mut bytes);
+    drop(bytes);
+    assert!(rt; is_whole?);
+    Ok(())
 }
 
 #[test]
 fn a_count_takes_no_room_before_its_items_are_read(rt: HostRuntime) -> Result<(), Fail> {
     for (place, (_, beside)) in STATE.iter().enumerate() {
         if *beside == "####" {
-            let bytes = with_count(rt.alloc(), place)?;
-            assert!(rt; is_no_state(rt.alloc(), &bytes));
+            assert!(rt; spells_none(rt.alloc(), Spelled::WithCount(place))?);
         }
     }
     Ok(())
@@ -315,7 +375,7 @@ const STATES: [&[u8]; 6] = [
 #[test]
 fn what_breaks_a_rule_is_no_state(rt: HostRuntime) -> Result<(), Fail> {
     for bytes in &NO_STATES {
-        assert!(rt; is_no_state(rt.alloc(), bytes));
+        assert!(rt; is_no_state(rt.alloc(), bytes)?);
     }
     for bytes in &STATES {
         assert!(rt; goes_both_ways(rt.alloc(), bytes)?);
@@ -329,22 +389,19 @@ fn put_message(bytes: &mut Vec<u8>, command: u64) -> Result<(), AllocError> {
     bytes.extend_from_slice(b"\0\0\0\0\0\0\0\x08/topic/t\0\0\0\0\0\x01m")
 }
 
-// Session 0 has a subscription of `/topic/t` with so many deliveries to acknowledge, of the commands from 2 on, and the
-// next message in its own line.
-fn with_own_line(alloc: Global, deliveries: u32) -> Result<Vec<u8>, AllocError> {
-    let mut bytes = Vec::from_slice(alloc, b"\0\0\0\0\0\0\0")?;
-    bytes.extend_from_slice(b"\x13\0\0\0\0\0\0\0\x10")?;
+fn put_own_line(bytes: &mut Vec<u8>, deliveries: u32) -> Result<(), AllocError> {
+    bytes.extend_from_slice(b"\0\0\0\0\0\0\0\x13\0\0\0\0\0\0\0\x10")?;
     bytes.extend_from_slice(b"\0\0\0\x01\0\0\0\0\0\0\0\0\0\0\0\0\0\0\0\0\0\0\0\0\x01")?;
     bytes.extend_from_slice(b"\0\0\0\0\0\0\0\0\0\0\0\x01s\0\0\0\x08/topic/t\x01\0")?;
     bytes.extend_from_slice(b"\0\0\0\x01")?;
-    put_message(&mut bytes, 18)?;
+    put_message(bytes, 18)?;
     bytes.extend_from_slice(&deliveries.to_be_bytes())?;
     for number in 0..deliveries {
         let delivery = u64::from(number);
         bytes.extend_from_slice(&delivery.to_be_bytes())?;
-        put_message(&mut bytes, 2 + delivery)?;
+        put_message(bytes, 2 + delivery)?;
     }
-    Ok(bytes)
+    Ok(())
 }
 
 // A session, and its subscription; and a message to it.
@@ -355,49 +412,32 @@ const LISTENING: [&[u8]; 2] = [
 
 const MESSAGE: &[u8] = b"\0\0\0\0\0\0\0\0\0\x02\0\0\0\x08/topic/t\0\0\0\0\0\x01m";
 
-fn is_after_seventeen(alloc: Global, bytes: &[u8]) -> Result<bool, Fail> {
-    Ok(snapshot_is(alloc, &LISTENING, 17, MESSAGE, bytes)? && goes_both_ways(alloc, bytes)?)
-}
-
 #[test]
 fn messages_wait_where_sixteen_are_not_acknowledged(rt: HostRuntime) -> Result<(), Fail> {
-    let bytes = with_own_line(rt.alloc(), 16)?;
-    let is_so = is_after_seventeen(rt.alloc(), bytes.as_slice());
-    drop(bytes);
-    assert!(rt; is_so?);
+    let sixteen = Spelled::OwnLine(16);
+    assert!(rt; is_spelled_after(rt.alloc(), sixteen, &LISTENING, 17, MESSAGE)?);
     // One less, and the message could be handed out.
-    let fewer = with_own_line(rt.alloc(), 15)?;
-    let is_none = is_no_state(rt.alloc(), fewer.as_slice());
-    drop(fewer);
-    assert!(rt; is_none);
+    assert!(rt; spells_none(rt.alloc(), Spelled::OwnLine(15))?);
     Ok(())
 }
 
 // A message to `/queue/q`, with no headers and no body.
 const QUEUED: &[u8] = b"\0\0\0\0\0\0\0\0\0\x02\0\0\0\x08/queue/q\0\0\0\0\0\0";
 
-// Session 0, and in `/queue/q` the messages of the 4,096 commands from 1 on.
-fn with_full_queue(alloc: Global) -> Result<Vec<u8>, AllocError> {
-    let mut bytes = Vec::from_slice(alloc, b"\0\0\0\0\0\0\x10\x01\0\0\0\0\0\0\0\0")?;
+fn put_full_queue(bytes: &mut Vec<u8>) -> Result<(), AllocError> {
+    bytes.extend_from_slice(b"\0\0\0\0\0\0\x10\x01\0\0\0\0\0\0\0\0")?;
     bytes.extend_from_slice(b"\0\0\0\x01\0\0\0\0\0\0\0\0\0\0\0\0\0")?;
     bytes.extend_from_slice(b"\0\0\0\x01\0\0\0\x08/queue/q\0\0\x10\0")?;
     for command in 1..4097_u64 {
         bytes.extend_from_slice(&command.to_be_bytes())?;
         bytes.extend_from_slice(b"\0\0\0\0\0\0\0\x08/queue/q\0\0\0\0\0\0")?;
     }
-    bytes.extend_from_slice(b"\0\0\0\0")?;
-    Ok(bytes)
-}
-
-fn is_full_queue(alloc: Global, bytes: &[u8]) -> Result<bool, Fail> {
-    Ok(snapshot_is(alloc, &LISTENING[..1], 4096, QUEUED, bytes)? && goes_both_ways(alloc, bytes)?)
+    bytes.extend_from_slice(b"\0\0\0\0")
 }
 
 #[test]
 fn a_queue_of_4096_messages_goes_both_ways(rt: HostRuntime) -> Result<(), Fail> {
-    let bytes = with_full_queue(rt.alloc())?;
-    let is_so = is_full_queue(rt.alloc(), bytes.as_slice());
-    drop(bytes);
-    assert!(rt; is_so?);
+    let opened = &LISTENING[..1];
+    assert!(rt; is_spelled_after(rt.alloc(), Spelled::FullQueue, opened, 4096, QUEUED)?);
     Ok(())
 }
