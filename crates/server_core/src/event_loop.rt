@@ -75,12 +75,14 @@ impl<'a, R: Wait + Clock + Drop> EventLoop<'a, R> {
             services,
         } = room_for(alloc, &shared.rt, seats.len());
         let (mut clients, mut services) = (clients, services);
-        for _desk in 0..seats.len() {
-            let (Some(mailbox), Some(clients)) = (mailboxes.pop(), clients.pop()) else {
-                break;
-            };
-            add_service(alloc, shared, &mut services, &mut seats, mailbox, clients);
-        }
+        add_services(
+            alloc,
+            shared,
+            &mut services,
+            &mut seats,
+            &mut mailboxes,
+            &mut clients,
+        );
         drop(mailboxes);
         drop(clients);
         let now = shared.moment();
@@ -280,6 +282,31 @@ fn room_for<'a, R: Wait + Clock + Drop>(alloc: Global, rt: &R, desks: usize) -> 
         }
     }
     unreachable!()
+}
+
+// Each seat has a desk, for as long as there are mailboxes and clients.
+fn add_services<'a, R: Wait + Clock + Drop>(
+    alloc: Global,
+    shared: &'a Shared<R>,
+    services: &mut Vec<Service<'a, R>>,
+    seats: &mut Vec<ServerSeat>,
+    mailboxes: &mut Vec<Arc<Mailbox>>,
+    clients: &mut Vec<Clients>,
+)
+    requires at { AreAt shared.now.ring seats.old.items }
+    requires none { services.old.items ≡ [] }
+    requires room { vec_len seats.old ≤ vec_capacity services.old }
+    ensures at { AreAt shared.now.ring seats.new.items }
+    ensures served { AreServed shared.now.ring services.new.items }
+    ensures count { vec_len services.new + vec_len seats.new ≡ vec_len seats.old }
+    ensures room { vec_capacity seats.new ≡ vec_capacity seats.old }
+{
+    for _desk in 0..seats.len() {
+        let (Some(mailbox), Some(its)) = (mailboxes.pop(), clients.pop()) else {
+            break;
+        };
+        add_service(alloc, shared, services, seats, mailbox, its);
+    }
 }
 
 // The next seat has a desk with this mailbox and these clients, if there is a seat.

@@ -229,12 +229,7 @@ impl<'a, R: Wait + Clock + Drop> Service<'a, R> {
             return Err(io::Error::from(io::ErrorKind::OutOfMemory));
         };
         let Arrival { socket, vacancy } = arrival;
-        socket.set_nodelay(true)?;
-        socket.set_nonblocking(true)?;
-        let mut stream = TcpStream::from_std(socket);
-        let interests = Interest::READABLE | Interest::WRITABLE;
-        let token = token_of(self.number, number);
-        registry.register(&mut stream, token, interests)?;
+        let stream = watched(registry, socket, token_of(self.number, number))?;
         let stream = ReadBudget::new(self.alloc, stream);
         let origins = self.shared.origins.clone()?;
         let greeting = Greeting::begin(self.alloc, stream, origins, vacancy);
@@ -457,6 +452,19 @@ impl<'a, R: Wait + Clock + Drop> Service<'a, R> {
             },
         }
     }
+}
+
+// The socket, which never blocks and of which the poll tells by this token.
+fn watched(
+    registry: &Registry,
+    socket: std::net::TcpStream,
+    token: Token,
+) -> io::Result<TcpStream> {
+    socket.set_nodelay(true)?;
+    socket.set_nonblocking(true)?;
+    let mut stream = TcpStream::from_std(socket);
+    registry.register(&mut stream, token, Interest::READABLE | Interest::WRITABLE)?;
+    Ok(stream)
 }
 
 // The turns of the client of those wakers. After each that put a command into the ring and left more to do, it has another, up to `TURNS`.

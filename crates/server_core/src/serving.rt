@@ -20,7 +20,7 @@ use disk_core::FileDisk;
 use engine_core::{HELD_BYTES, Hub, HubFlusher, SeatRoom, compact_last, desk_bytes, flush_loop};
 use event_log::{Event, ServeFault, Start};
 use flush_core::FlushFault;
-use std::alloc::Global;
+use std::alloc::{AllocError, Global};
 use std::fs::{File, Files};
 use std::io::Write;
 use std::marker::Model;
@@ -147,20 +147,17 @@ impl<R: Wait + Clone + Drop> Server<R> {
         let mut flusher = hub.flusher().unwrap();
         let (ring, room) = hub.into_ring();
         let port = entrance.port;
-        match share(alloc, rt, ring, entrance, &flusher) {
-            Ok((shared, acceptor, setups)) => {
-                count_audiences(&shared, &mut flusher)?;
-                Ok(Server {
-                    shared,
-                    port,
-                    acceptor,
-                    seats,
-                    setups,
-                    room,
-                    flusher,
-                    workers: Vec::new(alloc),
-                })
-            }
+        match share(alloc, rt, ring, entrance, &mut flusher) {
+            Ok((shared, acceptor, setups)) => Ok(Server {
+                shared,
+                port,
+                acceptor,
+                seats,
+                setups,
+                room,
+                flusher,
+                workers: Vec::new(alloc),
+            }),
             Err(fault) => {
                 drop(seats);
                 drop(room);
@@ -284,19 +281,75 @@ fn add_seat(seats: &mut Vec<ServerSeat>, hub: &mut ServerHub) -> Result<(), Serv
     }
 }
 
-// What the flusher and the workers wait on, what asks the server to end, and what tells the operator.
+// What asks a server to end, and what tells its operator.
+#[derive(Drop)]
+struct Signals {
+    ending: Arc<Ending>,
+    log: Arc<LogThread>,
+}
+
+impl Signals {
+    fn new(alloc: Global) -> Result<Signals, ServeFault> {
+        let log = shared_by(alloc, LogThread::new(alloc)?)?;
+        let ending = shared_by(alloc, Ending::new())?;
+        Ok(Signals { ending, log })
+    }
+
+    // The same once more, for another who shares them.
+    fn again(&self) -> Result<Signals, ServeFault> {
+        let log = self.log.clone()?;
+        let ending = self.ending.clone()?;
+        Ok(Signals { ending, log })
+    }
+}
+
+// What the flusher and the workers wait on.
 fn wakeups_of<R: Wait + Clone + Drop>(
     alloc: Global,
     rt: &R,
     setups: &[WorkerSetup],
     mark: u64,
-) -> Result<(Wakeups<R>, Arc<Ending>, Arc<LogThread>), ServeFault> {
-    let log = shared_by(alloc, LogThread::new(alloc)?)?;
-    let ending = shared_by(alloc, Ending::new())?;
+    signals: Signals,
+) -> Result<Wakeups<R>, ServeFault> {
     let bells = bells_of(alloc, setups)?;
     let rt = rt.clone()?;
-    let wakeups = Wakeups::new(rt, mark, ending.clone()?, log.clone()?, bells);
-    Ok((wakeups, ending, log))
+    let Signals { ending, log } = signals;
+    Ok(Wakeups::new(rt, mark, ending, log, bells))
+}
+
+// What the threads share besides the ring and the origins, and the signals for where clients come in.
+#[derive(Drop)]
+struct Fittings<R> {
+    wakeups: Wakeups<R>,
+    memory: Memory,
+    pace: Pace,
+    signals: Signals,
+}
+
+// The flusher counts from now on how many listen to each topic.
+fn fit_out<R: Wait + Clone + Drop>(
+    alloc: Global,
+    rt: &R,
+    entrance: &Entrance,
+    flusher: &mut ServerFlusher,
+) -> Result<Fittings<R>, ServeFault>
+    ensures { flusher.new ≡ flusher.old }
+{
+    let pace = Pace::new(alloc, SEATS)?;
+    flusher.count_audiences(pace.audiences()?);
+    let memory = Memory::new(
+        entrance.memory,
+        mailboxes_again(alloc, &entrance.mailboxes)?,
+    );
+    let signals = Signals::new(alloc)?;
+    let setups = entrance.setups.as_slice();
+    let wakeups = wakeups_of(alloc, rt, setups, flusher.mark(), signals.again()?)?;
+    Ok(Fittings {
+        wakeups,
+        memory,
+        pace,
+        signals,
+    })
 }
 
 // Where clients come in.
@@ -306,10 +359,10 @@ fn acceptor_of<R: Wait + Clone + Drop>(
     listener: TcpListener,
     mailboxes: Vec<Arc<Mailbox>>,
     most_clients: u64,
-    ending: Arc<Ending>,
-    log: Arc<LogThread>,
+    signals: Signals,
 ) -> Result<Arc<Acceptor<R>>, ServeFault> {
     let rt = rt.clone()?;
+    let Signals { ending, log } = signals;
     let acceptor = Acceptor::new(rt, listener, mailboxes, most_clients, ending, log);
     shared_by(alloc, acceptor)
 }
@@ -320,43 +373,57 @@ fn share<R: Wait + Clone + Drop>(
     rt: &R,
     ring: ServerRing,
     entrance: Entrance,
-    flusher: &ServerFlusher,
+    flusher: &mut ServerFlusher,
 ) -> Result<(Arc<Shared<R>>, Arc<Acceptor<R>>, Vec<WorkerSetup>), ServeFault>
     ensures ring { IfOk result (λ shares. (arc_value shares.0).ring ≡ ring) }
     ensures setups { IfOk result (λ shares. shares.2 ≡ entrance.setups) }
+    ensures flusher { flusher.new ≡ flusher.old }
 {
+    let its: Result<R, AllocError> = rt.clone();
+    let (fittings, its) = match (fit_out(alloc, rt, &entrance, flusher), its) {
+        (Ok(fittings), Ok(its)) => (fittings, its),
+        (fittings, its) => {
+            drop(its);
+            drop(fittings);
+            drop(entrance);
+            drop(ring);
+            return Err(ServeFault::Memory);
+        }
+    };
     let Entrance {
         listener,
         port: _,
         origins,
         most_clients,
-        memory,
+        memory: _,
         mailboxes,
         setups,
     } = entrance;
-    let (wakeups, ending, log) = wakeups_of(alloc, rt, setups.as_slice(), flusher.mark())?;
-    let memory = Memory::new(memory, mailboxes_again(alloc, &mailboxes)?);
-    let acceptor = acceptor_of(alloc, rt, listener, mailboxes, most_clients, ending, log)?;
-    let rt = rt.clone()?;
+    let Fittings {
+        wakeups,
+        memory,
+        pace,
+        signals,
+    } = fittings;
     let shared = Shared {
-        rt,
+        rt: its,
         ring,
         origins,
         wakeups,
         memory,
-        pace: Pace::new(alloc, SEATS)?,
+        pace,
         desk_bytes: desk_bytes(SEATS as u64, most_clients, flusher.size()),
     };
-    let shared = shared_by(alloc, shared)?;
-    Ok((shared, acceptor, setups))
-}
-
-// The flusher counts from now on how many listen to each topic.
-fn count_audiences<R>(shared: &Shared<R>, flusher: &mut ServerFlusher) -> Result<(), ServeFault>
-    ensures { flusher.new ≡ flusher.old }
-{
-    flusher.count_audiences(shared.pace.audiences()?);
-    Ok(())
+    let acceptor = acceptor_of(alloc, rt, listener, mailboxes, most_clients, signals);
+    match (shared_by(alloc, shared), acceptor) {
+        (Ok(shared), Ok(acceptor)) => Ok((shared, acceptor, setups)),
+        (shared, acceptor) => {
+            drop(acceptor);
+            drop(shared);
+            drop(setups);
+            Err(ServeFault::Memory)
+        }
+    }
 }
 
 // The value, for several threads.

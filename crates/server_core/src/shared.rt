@@ -1,5 +1,8 @@
 //! What the threads of a server share.
 
+ghost use Rattle.std.specs.Prelude.{◌≡◌, IfSome};
+ghost use Rattle.std.specs.Arc.{arc_value};
+
 use claim_core::{BrokerRing, BrokerSeat};
 use outbox_core::OutSender;
 use std::sync::Arc;
@@ -32,5 +35,40 @@ impl<R: Clock> Shared<R> {
             Ok(time) => u64::try_from(time.as_millis()).unwrap_or(0),
             Err(_) => 0,
         }
+    }
+}
+
+impl<R: Drop> Shared<R> {
+    /// The ring, if nobody shares it any more. All else goes.
+    pub(crate) fn into_ring(shared: Arc<Shared<R>>) -> Option<ServerRing>
+        ensures { IfSome result (λ ring. ring ≡ (arc_value shared).ring) }
+    {
+        match Arc::try_unwrap(shared) {
+            Ok(shared) => Some(shared.ring_alone()),
+            Err(shared) => {
+                drop(shared);
+                None
+            }
+        }
+    }
+
+    fn ring_alone(self) -> ServerRing
+        ensures { result ≡ self.ring }
+    {
+        let Shared {
+            rt,
+            ring,
+            origins,
+            wakeups,
+            memory,
+            pace,
+            desk_bytes: _,
+        } = self;
+        drop(rt);
+        drop(origins);
+        drop(wakeups);
+        drop(memory);
+        drop(pace);
+        ring
     }
 }

@@ -252,26 +252,10 @@ fn finish<R: Drop>(
 {
     let mut all = seats;
     let joined = join_all(&mut all, back);
-    match (joined, Arc::try_unwrap(shared)) {
-        (Ok(()), Ok(shared)) if all.len() == SEATS => {
-            let Shared {
-                rt,
-                ring,
-                origins,
-                wakeups,
-                memory,
-                pace,
-                desk_bytes: _,
-            } = shared;
-            drop(rt);
-            drop(origins);
-            drop(wakeups);
-            drop(memory);
-            drop(pace);
-            close(ring, room, all, flusher)
-        }
-        (_, shared) => {
-            drop(shared);
+    match Shared::into_ring(shared) {
+        Some(ring) if joined.is_ok() && all.len() == SEATS => close(ring, room, all, flusher),
+        ring => {
+            drop(ring);
             drop(room);
             drop(all);
             drop(flusher);
