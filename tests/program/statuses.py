@@ -7,6 +7,7 @@ output and standard error with what docs/PROTOCOL.md says. Needs Python 3 alone;
 PROGRAM is the built program; without it, the one that bin/stompd leaves in crates/stompd/out.
 """
 
+import errno
 import os
 import pathlib
 import select
@@ -211,6 +212,9 @@ def serves(checks, folder):
         with socket.create_connection(("127.0.0.1", int(port)), timeout=5):
             pass
         checks.check("a connection that says nothing ends no server", serving.poll() is None)
+        # All of 127.0.0.0/8 is this machine: a server that listens at every address of it is reached at another one too.
+        with socket.socket() as elsewhere:
+            checks.check("it listens at 127.0.0.1 alone", elsewhere.connect_ex(("127.0.0.2", int(port))) == errno.ECONNREFUSED)
         locked = unopened(folder / "journal", "another server has its lock")
         checks.run(["serve", str(folder / "journal"), str(free_port())], 1, NOTHING, locked)
         # A reader of the journal alone asks for no lock.
@@ -219,6 +223,13 @@ def serves(checks, folder):
     finally:
         serving.kill()
         serving.wait()
+    again = subprocess.Popen([checks.program, "serve", str(folder / "journal"), port], stdout=subprocess.PIPE, stderr=subprocess.PIPE)
+    try:
+        ready, _, _ = select.select([again.stdout], [], [], 20)
+        checks.check("the lock goes with its server", bool(ready) and again.stdout.readline().decode() == f"listening {port}\n")
+    finally:
+        again.kill()
+        again.wait()
 
 
 def words(checks, folder):
