@@ -50,7 +50,7 @@ fn append(alloc: Global, ring: &HubRing, seat: &mut HubSeat, bytes: usize) -> Op
 
 // The first number of the hub that is opened over a disk.
 fn next_base(alloc: Global, disk: MemDisk) -> Option<u64> {
-    match party_over(alloc, disk) {
+    match party_over(alloc, disk, 0) {
         Some(party) => {
             let next = party.flusher.next();
             drop(party);
@@ -62,9 +62,9 @@ fn next_base(alloc: Global, disk: MemDisk) -> Option<u64> {
 
 // Ends the hub of a party, and answers its numbers with the first of the hub that is opened behind it.
 fn close_and_open(alloc: Global, party: Party) -> Option<([u64; 4], u64)>
-    requires { AreTogether party.hub party.first party.second party.flusher }
+    requires { AreTogether 1 party.hub party.seats.items party.flusher }
 {
-    match close(alloc, party) {
+    match close(party) {
         Some(closed) => {
             let Closed {
                 base,
@@ -129,21 +129,21 @@ fn break_flusher(
 
 // One of the two.
 fn play(alloc: Global, party: &mut Party, breaks: bool) -> bool
-    requires together { AreTogether party.old.hub party.old.first party.old.second party.old.flusher }
+    requires together { AreTogether 1 party.old.hub party.old.seats.items party.old.flusher }
     requires executed { party.old.flusher.executed ≡ party.old.flusher.stored }
-    ensures { IsTrue result → AreTogether party.new.hub party.new.first party.new.second party.new.flusher }
+    ensures { IsTrue result → AreTogether 1 party.new.hub party.new.seats.items party.new.flusher }
 {
     let ring = party.hub.ring();
     if breaks {
-        break_flusher(alloc, ring, &mut party.first, &mut party.flusher).is_some()
+        break_flusher(alloc, ring, &mut party.seats[0], &mut party.flusher).is_some()
     } else {
-        stop_within_a_turn(alloc, ring, &mut party.first, &mut party.flusher).is_some()
+        stop_within_a_turn(alloc, ring, &mut party.seats[0], &mut party.flusher).is_some()
     }
 }
 
 // The numbers of a hub that is closed then, and the first one of the next.
 fn run(alloc: Global, breaks: bool) -> Option<([u64; 4], u64)> {
-    match new_party(alloc, SMALL_AREA) {
+    match new_party(alloc, SMALL_AREA, 1) {
         Some(mut party) => {
             if play(alloc, &mut party, breaks) {
                 close_and_open(alloc, party)

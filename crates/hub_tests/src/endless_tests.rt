@@ -55,11 +55,11 @@ fn serve_and_flush(
     texts: &[&[u8]],
     bytes: &'static [u8],
 ) -> Option<(Ended, usize, u64)>
-    requires together { AreTogether party.old.hub party.old.first party.old.second party.old.flusher }
+    requires together { AreTogether 1 party.old.hub party.old.seats.items party.old.flusher }
     requires executed { party.old.flusher.executed ≡ party.old.flusher.stored }
 {
     let ring = party.hub.ring();
-    let (ended, sent) = serve(alloc, ring, &mut party.first, texts, bytes)?;
+    let (ended, sent) = serve(alloc, ring, &mut party.seats[0], texts, bytes)?;
     match flush_loop(alloc, ring, &mut party.flusher, &Free, FLUSHES) {
         Ok(appended) => Some((ended, sent, appended)),
         Err(_) => None,
@@ -68,7 +68,7 @@ fn serve_and_flush(
 
 // That of a new party.
 fn run(alloc: Global, texts: &[&[u8]], bytes: &'static [u8]) -> Option<(Ended, usize, u64)> {
-    match new_party(alloc, SMALL_AREA) {
+    match new_party(alloc, SMALL_AREA, 1) {
         Some(mut party) => {
             let ran = serve_and_flush(alloc, &mut party, texts, bytes);
             drop(party);

@@ -1,12 +1,12 @@
 //! Hubs over journals in memory.
 
-ghost use Rattle.std.specs.Prelude.{◌≡◌, ◌≤◌, ◌<◌, ◌+◌, ◌++◌, ◌∷◌, [], List, IfSome, IsSome, All, length, vec_capacity};
+ghost use Rattle.std.specs.Prelude.{◌≡◌, ◌≤◌, ◌<◌, ◌+◌, ◌++◌, [], List, IfSome, length, vec_len, vec_capacity};
 ghost use Rattle.command_core.specs.Commands.{CommandValue};
 ghost use Rattle.engine_core.specs.Closings.{shown};
-ghost use Rattle.engine_core.specs.Hubs.{IsWhole};
 ghost use Rattle.flush_core.specs.Flushed.{Flushed};
+ghost use Rattle.engine_core.specs.Hubs.{IsWhole};
 ghost use Rattle.world_core.specs.Schedules.{Holds};
-ghost use Rattle.hub_tests.specs.Parties.{AreTogether};
+ghost use Rattle.hub_tests.specs.Parties.{AreAt, AreTogether};
 
 use area_core::format;
 use claim_core::{BrokerRing, BrokerSeat};
@@ -30,130 +30,100 @@ pub const AREA: u64 = 262_144;
 /// The bytes of the smallest area.
 pub const SMALL_AREA: u64 = 4_096;
 
-/// A hub, the two seats that it has handed out, and its flusher. Tests own these here alone, and lend them.
+/// A hub, the seats that it has handed out, and its flusher. Tests own these here alone, and lend them.
 #[derive(Drop)]
 pub struct Party {
     pub hub: MemHub,
-    pub first: HubSeat,
-    pub second: HubSeat,
+    pub seats: Vec<HubSeat>,
     pub flusher: HubFlusher,
 }
 
-/// The party at an empty journal with areas of so many bytes.
-pub fn new_party(alloc: Global, area_bytes: u64) -> Option<Party>
-    requires { (4096 ≤ area_bytes) × (area_bytes ≤ 262144) }
-    ensures together { IfSome result (λ party. AreTogether party.hub party.first party.second party.flusher) }
+/// The party with so many seats at an empty journal with areas of so many bytes.
+pub fn new_party(alloc: Global, area_bytes: u64, count: usize) -> Option<Party>
+    requires { (4096 ≤ area_bytes) × (area_bytes ≤ 262144) × (count ≤ 64) }
+    ensures together { IfSome result (λ party. AreTogether count party.hub party.seats.items party.flusher) }
     ensures executed { IfSome result (λ party. party.flusher.executed ≡ party.flusher.stored) }
-{
-    match formatted(alloc, area_bytes) {
-        Some(disk) => party_over(alloc, disk),
-        None => None,
-    }
-}
-
-/// The disk of an empty journal with areas of so many bytes.
-pub fn formatted(alloc: Global, area_bytes: u64) -> Option<MemDisk>
-    requires { (4096 ≤ area_bytes) × (area_bytes ≤ 262144) }
 {
     let mut disk = MemDisk::new(alloc, 32 + 2 * area_bytes).ok()?;
     match format(alloc, &mut disk, area_bytes) {
-        Ok(()) => Some(disk),
+        Ok(()) => party_over(alloc, disk, count),
         Err(_) => None,
     }
 }
 
-/// The party at the journal of that disk.
-pub fn party_over(alloc: Global, disk: MemDisk) -> Option<Party>
-    ensures together { IfSome result (λ party. AreTogether party.hub party.first party.second party.flusher) }
+/// The party with so many seats at the journal of that disk.
+pub fn party_over(alloc: Global, disk: MemDisk, count: usize) -> Option<Party>
+    requires { count ≤ 64 }
+    ensures together { IfSome result (λ party. AreTogether count party.hub party.seats.items party.flusher) }
     ensures executed { IfSome result (λ party. party.flusher.executed ≡ party.flusher.stored) }
 {
+    let Ok(seats) = Vec::with_capacity(alloc, count) else {
+        drop(disk);
+        return None;
+    };
     match Hub::open(alloc, disk) {
-        Ok(hub) => Some(handed_out(hub)),
-        Err(_) => None,
-    }
-}
-
-fn handed_out(hub: MemHub) -> Party
-    requires { (f : Flushed _) × IsWhole hub f }
-    ensures together { AreTogether result.hub result.first result.second result.flusher }
-    ensures executed { result.flusher.executed ≡ result.flusher.stored }
-{
-    let mut hub = hub;
-    let first = take_seat(&mut hub);
-    let second = take_seat(&mut hub);
-    let flusher = take_flusher(&mut hub);
-    Party {
-        hub,
-        first,
-        second,
-        flusher,
-    }
-}
-
-/// The next seat.
-pub fn take_seat(hub: &mut MemHub) -> HubSeat
-    requires { 0 < length hub.old.seats }
-    ensures seat { result.ring ≡ hub.new.ring }
-    ensures count { length hub.new.seats + 1 ≡ length hub.old.seats }
-    ensures same { (hub.new.ring ≡ hub.old.ring) × (hub.new.flusher ≡ hub.old.flusher) }
-{
-    hub.seat().unwrap()
-}
-
-/// Its flusher.
-pub fn take_flusher(hub: &mut MemHub) -> HubFlusher
-    requires { IsSome hub.old.flusher }
-    ensures flusher { (result.seat.ring ≡ hub.new.ring) × (result.executed ≡ result.stored) × (result.seat.seats ≡ 64) }
-    ensures same { (hub.new.ring ≡ hub.old.ring) × (hub.new.seats ≡ hub.old.seats) }
-{
-    hub.flusher().unwrap()
-}
-
-/// Ends the hub of a party. What is promised of the world shown, with the disk in memory for its disk, is known then.
-pub fn close(alloc: Global, party: Party) -> Option<Closed<MemDisk>>
-    requires { AreTogether party.hub party.first party.second party.flusher }
-    ensures holds { IfSome result (λ closed. (history : List CommandValue)
-        × Holds (shown history (party.hub.seats ++ party.first ∷ party.second ∷ []) party.flusher
-        (record { size = party.flusher.size; content = closed.disk.content; held = closed.disk.held }))) }
-{
-    match Vec::with_capacity(alloc, 2) {
-        Ok(seats) => close_with(party, seats),
-        Err(_) => {
-            drop(party);
+        Ok(hub) => Some(handed_out(hub, seats, count)),
+        Err(refused) => {
+            drop(refused);
+            drop(seats);
             None
         }
     }
 }
 
-// The same, with a list that has room for both seats.
-fn close_with(party: Party, seats: Vec<HubSeat>) -> Option<Closed<MemDisk>>
-    requires together { AreTogether party.hub party.first party.second party.flusher }
-    requires room { (seats.items ≡ []) × (2 ≤ vec_capacity seats) }
-    ensures holds { IfSome result (λ closed. (history : List CommandValue)
-        × Holds (shown history (party.hub.seats ++ party.first ∷ party.second ∷ []) party.flusher
-        (record { size = party.flusher.size; content = closed.disk.content; held = closed.disk.held }))) }
+fn handed_out(hub: MemHub, seats: Vec<HubSeat>, count: usize) -> Party
+    requires whole { (f : Flushed _) × IsWhole hub f }
+    requires room { (seats.items ≡ []) × (count ≤ vec_capacity seats) × (count ≤ 64) }
+    ensures together { AreTogether count result.hub result.seats.items result.flusher }
+    ensures executed { result.flusher.executed ≡ result.flusher.stored }
 {
-    let mut seats = seats;
-    let Party {
+    let (mut hub, mut seats) = (hub, seats);
+    let flusher = hub.flusher().unwrap();
+    take_seats(&mut hub, &mut seats, count);
+    Party {
         hub,
-        first,
-        second,
+        seats,
         flusher,
-    } = party;
-    seats.push_reserved(first);
-    seats.push_reserved(second);
-    close_hub(hub, seats, flusher)
+    }
 }
 
-/// Ends a hub, with the seats that it handed out.
-pub fn close_hub(hub: MemHub, seats: Vec<HubSeat>, flusher: HubFlusher) -> Option<Closed<MemDisk>>
-    requires flusher { flusher.seat.ring ≡ hub.ring }
-    requires seats { All (λ seat. seat.ring ≡ hub.ring) seats.items }
-    requires all { length seats.items + length hub.seats ≡ flusher.seat.seats }
-    ensures holds { IfSome result (λ closed. (history : List CommandValue)
-        × Holds (shown history (hub.seats ++ seats.items) flusher
-        (record { size = flusher.size; content = closed.disk.content; held = closed.disk.held }))) }
+// Takes the next seats into room that is there.
+fn take_seats(hub: &mut MemHub, seats: &mut Vec<HubSeat>, count: usize)
+    requires enough { count ≤ length hub.old.seats }
+    requires room { (seats.old.items ≡ []) × (count ≤ vec_capacity seats.old) }
+    ensures count { length seats.new.items ≡ count }
+    ensures left { count + length hub.new.seats ≡ length hub.old.seats }
+    ensures at { AreAt hub.old.ring seats.new.items }
+    ensures same { hub.new.ring ≡ hub.old.ring }
 {
+    for _taken in 0..count {
+        take_seat(hub, seats);
+    }
+}
+
+fn take_seat(hub: &mut MemHub, seats: &mut Vec<HubSeat>)
+    requires some { 0 < length hub.old.seats }
+    requires room { vec_len seats.old < vec_capacity seats.old }
+    ensures left { length hub.new.seats + 1 ≡ length hub.old.seats }
+    ensures count { length seats.new.items ≡ length seats.old.items + 1 }
+    ensures at { AreAt hub.old.ring seats.old.items → AreAt hub.old.ring seats.new.items }
+    ensures same { (hub.new.ring ≡ hub.old.ring) × (vec_capacity seats.new ≡ vec_capacity seats.old) }
+{
+    seats.push_reserved(hub.seat().unwrap());
+}
+
+/// Ends the hub of a party. What is promised of the world shown, with the disk in memory for its disk, is known then.
+pub fn close(party: Party) -> Option<Closed<MemDisk>>
+    requires { AreTogether (length party.seats.items) party.hub party.seats.items party.flusher }
+    ensures holds { IfSome result (λ closed. (history : List CommandValue)
+        × Holds (shown history (party.hub.seats ++ party.seats.items) party.flusher
+        (record { size = party.flusher.size; content = closed.disk.content; held = closed.disk.held }))) }
+{
+    let Party {
+        hub,
+        seats,
+        flusher,
+    } = party;
     match hub.close(seats, flusher) {
         Ok(closed) => Some(closed),
         Err(_) => None,

@@ -8,15 +8,9 @@ mod closing_tests;
 #[cfg(test)]
 mod endless_tests;
 #[cfg(test)]
-mod full_hub_tests;
-#[cfg(test)]
 mod hubs;
 #[cfg(test)]
-mod like_script_tests;
-#[cfg(test)]
 mod links;
-#[cfg(test)]
-mod many_commands_tests;
 #[cfg(test)]
 mod paces;
 #[cfg(test)]
@@ -27,5 +21,7 @@ mod rows;
 mod script_tests;
 #[cfg(test)]
 mod texts;
+#[cfg(test)]
+mod thread_tests;
 #[cfg(test)]
 mod two_sessions_tests;

@@ -4,19 +4,18 @@
 ghost use Rattle.std.specs.Prelude.{◌≡◌};
 ghost use Rattle.hub_tests.specs.Parties.{AreTogether};
 
-use crate::hubs::{
-    HubFlusher, HubRing, HubSeat, Party, SMALL_AREA, link_of, new_party, party_over,
-};
+use crate::hubs::{HubRing, HubSeat, Party, SMALL_AREA, link_of, new_party, party_over};
 use crate::paces::{Free, Noting};
-use crate::texts::{CONNECT, SEND_X, SEND_Y, SUBSCRIBE, SUBSCRIBER, THREE_MESSAGES};
+use crate::rows::{Flushed, Row, flush, run};
+use crate::script_tests::TWICE;
+use crate::texts::{CONNECT, SEND_X, SEND_Y, SUBSCRIBE};
 use disk_core::MemDisk;
-use engine_core::{Ended, flush_loop, worker};
-use flush_core::FlushFault;
+use engine_core::{Ended, worker};
 use outbox_core::Silent;
 use std::alloc::Global;
 use std::sync::Wait;
 use std::test::Fail;
-use std::thread::{self, Threads};
+use std::thread::Threads;
 use std::time::Clock;
 
 // More turns than are needed, of a millisecond each where a pace sleeps.
@@ -40,24 +39,6 @@ fn append_four(alloc: Global, ring: &HubRing, seat: &mut HubSeat) -> bool
     }
 }
 
-// What came of the loop: the mark, or that it was refused memory, the disk's own among it, or failed otherwise.
-#[derive(Clone, Copy, PartialEq, Eq)]
-enum Flushed {
-    To(u64),
-    Refused,
-    Otherwise,
-}
-
-fn flush(alloc: Global, ring: &HubRing, flusher: &mut HubFlusher) -> Flushed
-    requires { (flusher.old.seat.ring ≡ ring.now) × (flusher.old.executed ≡ flusher.old.stored) }
-{
-    match flush_loop(alloc, ring, flusher, &Free, TURNS) {
-        Ok(mark) => Flushed::To(mark),
-        Err(FlushFault::Memory(_) | FlushFault::Device) => Flushed::Refused,
-        Err(_) => Flushed::Otherwise,
-    }
-}
-
 // How a worker that asks to open a session ends.
 fn open_another(alloc: Global, ring: &HubRing, seat: &mut HubSeat) -> Option<Ended>
     requires { seat.old.ring ≡ ring.now }
@@ -72,7 +53,7 @@ fn open_another(alloc: Global, ring: &HubRing, seat: &mut HubSeat) -> Option<End
 fn count_of(alloc: Global, disk: MemDisk) -> Option<u64> {
     let mut disk = disk;
     disk.crash(None);
-    match party_over(alloc, disk) {
+    match party_over(alloc, disk, 0) {
         Some(party) => {
             let next = party.flusher.next();
             drop(party);
@@ -86,17 +67,17 @@ fn count_of(alloc: Global, disk: MemDisk) -> Option<u64> {
 type Sight = (Flushed, bool, u64, Option<Ended>);
 
 fn see_four(alloc: Global, party: &mut Party) -> Option<Sight>
-    requires together { AreTogether party.old.hub party.old.first party.old.second party.old.flusher }
+    requires together { AreTogether 2 party.old.hub party.old.seats.items party.old.flusher }
     requires executed { party.old.flusher.executed ≡ party.old.flusher.stored }
 {
     let ring = party.hub.ring();
-    if !append_four(alloc, ring, &mut party.first) {
+    if !append_four(alloc, ring, &mut party.seats[0]) {
         return None;
     }
-    let flushed = flush(alloc, ring, &mut party.flusher);
+    let flushed = flush(alloc, ring, &mut party.flusher, &Free, TURNS);
     let is_broken = party.flusher.is_broken();
     let mark = party.flusher.mark();
-    let ended = open_another(alloc, ring, &mut party.second);
+    let ended = open_another(alloc, ring, &mut party.seats[1]);
     Some((flushed, is_broken, mark, ended))
 }
 
@@ -104,19 +85,17 @@ fn see_four(alloc: Global, party: &mut Party) -> Option<Sight>
 fn into_disk(party: Party) -> MemDisk {
     let Party {
         hub,
-        first,
-        second,
+        seats,
         flusher,
     } = party;
-    drop(first);
-    drop(second);
+    drop(seats);
     drop(hub);
     flusher.into_disk()
 }
 
 // What is seen, and how many commands are on the disk.
 fn flush_four(alloc: Global) -> Option<(Sight, Option<u64>)> {
-    match new_party(alloc, SMALL_AREA) {
+    match new_party(alloc, SMALL_AREA, 2) {
         Some(mut party) => {
             let seen = see_four(alloc, &mut party);
             let count = count_of(alloc, into_disk(party));
@@ -164,85 +143,6 @@ fn a_flusher_that_is_refused_memory_stops_and_loses_nothing(rt: HostRuntime) -> 
     Ok(())
 }
 
-// How the worker ended, how many messages it sent, and whether these are the first of those that it should send.
-fn work<R: Clock>(
-    alloc: Global,
-    ring: &HubRing,
-    seat: &mut HubSeat,
-    pace: &Noting<R>,
-) -> Option<(Ended, usize, bool)>
-    requires { seat.old.ring ≡ ring.now }
-{
-    match link_of(alloc, SUBSCRIBER) {
-        Some(mut link) => {
-            let ended = worker(alloc, ring, seat, &mut link, &Silent, pace, PACED_TURNS);
-            let sent = link.sent();
-            let is_front = sent.len() <= THREE_MESSAGES.len()
-                && sent
-                    .iter()
-                    .zip(THREE_MESSAGES)
-                    .all(|(message, wanted)| message.as_slice() == *wanted);
-            let count = sent.len();
-            drop(link);
-            Some((ended, count, is_front))
-        }
-        None => None,
-    }
-}
-
-// The same, and the flusher hears that it is over.
-fn work_to_the_end<R: Clock>(
-    alloc: Global,
-    ring: &HubRing,
-    seat: &mut HubSeat,
-    pace: &Noting<R>,
-) -> Option<(Ended, usize, bool)>
-    requires { seat.old.ring ≡ ring.now }
-{
-    let ended = work(alloc, ring, seat, pace);
-    pace.end();
-    ended
-}
-
-fn flush_meanwhile<R: Clock>(
-    alloc: Global,
-    ring: &HubRing,
-    flusher: &mut HubFlusher,
-    pace: &Noting<R>,
-) -> Flushed
-    requires { (flusher.old.seat.ring ≡ ring.now) × (flusher.old.executed ≡ flusher.old.stored) }
-{
-    match flush_loop(alloc, ring, flusher, pace, PACED_TURNS) {
-        Ok(mark) => Flushed::To(mark),
-        Err(FlushFault::Memory(_) | FlushFault::Device) => Flushed::Refused,
-        Err(_) => Flushed::Otherwise,
-    }
-}
-
-// The worker in one thread and the flusher in another.
-fn work_and_flush<R: Threads + Wait + Clock + Sync>(
-    rt: &R,
-    alloc: Global,
-    party: &mut Party,
-    pace: &Noting<R>,
-) -> (Option<(Ended, usize, bool)>, Flushed)
-    requires together { AreTogether party.old.hub party.old.first party.old.second party.old.flusher }
-    requires executed { party.old.flusher.executed ≡ party.old.flusher.stored }
-{
-    let ring = party.hub.ring();
-    let seat = &mut party.first;
-    let flusher = &mut party.flusher;
-    thread::join(
-        rt,
-        || -> Option<(Ended, usize, bool)>
-            requires { seat.now.ring ≡ ring.now }
-        { work_to_the_end(alloc, ring, seat, pace) },
-        || -> Flushed
-            requires { (flusher.now.seat.ring ≡ ring.now) × (flusher.now.executed ≡ flusher.now.stored) }
-        { flush_meanwhile(alloc, ring, flusher, pace) },
-    )
-}
-
 // What the script beside the gate reads. A worker asks again for what memory was refused for, so that all comes out as ever; its
 // session can't, and is told as lost. What was sent is a front of what should be.
 fn word_of_work<R: Threads + Wait + Clock + Sync>(
@@ -250,20 +150,22 @@ fn word_of_work<R: Threads + Wait + Clock + Sync>(
     alloc: Global,
     pace: &Noting<R>,
 ) -> &'static str {
-    pace.begin(false, true, None);
-    let Some(mut party) = new_party(alloc, SMALL_AREA) else {
+    let row = Row {
+        turns: PACED_TURNS,
+        ..TWICE
+    };
+    let Some((worked, flushed)) = run(rt, alloc, &row, pace, PACED_TURNS) else {
         return "unseen";
     };
-    let (worked, flushed) = work_and_flush(rt, alloc, &mut party, pace);
-    drop(party);
-    match (worked, flushed) {
-        (None, _) => "unseen",
-        (Some((Ended::Bad, 5, true)), Flushed::To(7)) => "whole",
-        (Some((Ended::Lost, _, true)), Flushed::To(_)) => "refused",
-        (Some((Ended::Stopped | Ended::Lost | Ended::Bad, _, true)), Flushed::Refused) => "unseen",
+    if !worked.is_front {
+        return "wrong";
+    }
+    match (worked.ended, flushed) {
+        (Ended::Bad, Flushed::To(7)) if worked.sent == 5 => "whole",
+        (Ended::Lost, Flushed::To(_)) => "refused",
         // All was appended before the flusher stopped, so that what is still to come does not come. A worker that stalls beside a
         // flusher that goes on is wrong.
-        (Some((Ended::Turns, _, true)), Flushed::Refused) => "unseen",
+        (Ended::Stopped | Ended::Lost | Ended::Bad | Ended::Turns, Flushed::Refused) => "unseen",
         _ => "wrong",
     }
 }

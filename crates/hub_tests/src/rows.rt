@@ -1,20 +1,20 @@
 //! A table of connections: what a client sends, and what is to come of it.
 
-ghost use Rattle.std.specs.Prelude.{◌≡◌, IfSome};
+ghost use Rattle.std.specs.Prelude.{◌≡◌};
 ghost use Rattle.hub_tests.specs.Parties.{AreTogether};
 
 use crate::hubs::{
-    AREA, HubFlusher, HubRing, HubSeat, Party, SMALL_AREA, first_wrong, link_of_rounds, new_party,
+    AREA, HubFlusher, HubRing, HubSeat, Party, SMALL_AREA, link_of_rounds, new_party,
 };
 use crate::links::{NO_SHORTAGE, Scarce, ScriptedLink, Shortage};
 use crate::paces::{Awaited, Noting};
-use engine_core::{Ended, flush_loop, worker};
+use engine_core::{Ended, Gate, flush_loop, worker};
+use flush_core::FlushFault;
 use std::alloc::Global;
 use std::cell::Cell;
 use std::sync::Wait;
 use std::thread::{self, Threads};
 use std::time::Clock;
-use ws_core::MemLink;
 
 /// More turns than any of them needs.
 pub const TURNS: u64 = 5_000;
@@ -81,37 +81,57 @@ fn scripted(alloc: Global, row: &Row) -> Option<ScriptedLink> {
     }
 }
 
-// Whether the link got what it should: where the outbox overflows, CONNECTED, and then the 4,608 outputs that it has room for.
-fn is_right(sent: &[Vec<u8>], row: &Row) -> bool {
-    if row.overflows {
-        return sent.len() == 1 + 4_608;
-    }
-    first_wrong(sent, row.sent).is_none()
+/// What came of a worker: how it ended, with which code it closed its link, how many messages it sent, and whether each of them is the one
+/// that should stand in its place.
+#[derive(Clone, Copy)]
+pub struct Worked {
+    pub ended: Ended,
+    pub code: Option<u16>,
+    pub sent: usize,
+    pub is_front: bool,
 }
 
-// How the worker ended, and with which code it closed, where its link got what it should.
+/// What came of the flusher's loop: the mark, or that it was refused memory, the disk's own among it, or failed otherwise.
+#[derive(Clone, Copy, PartialEq, Eq)]
+pub enum Flushed {
+    To(u64),
+    Refused,
+    Otherwise,
+}
+
+// Whether each message is the text in its place.
+fn is_front(sent: &[Vec<u8>], texts: &[&[u8]]) -> bool {
+    sent.len() <= texts.len()
+        && sent
+            .iter()
+            .zip(texts)
+            .all(|(message, text)| message.as_slice() == *text)
+}
+
+// A worker over the link of a row.
 fn serve<R: Clock>(
     alloc: Global,
     ring: &HubRing,
     seat: &mut HubSeat,
     row: &Row,
     pace: &Noting<R>,
-) -> Option<(Ended, Option<u16>)>
+) -> Option<Worked>
     requires { seat.old.ring ≡ ring.now }
 {
-    match scripted(alloc, row) {
-        Some(mut link) => {
-            let bells = Scarce {
-                left: Cell::new(row.shortage.bells),
-            };
-            let ended = worker(alloc, ring, seat, &mut link, &bells, pace, row.turns);
-            let right = is_right(link.link.sent(), row);
-            let code = link.code;
-            drop(link);
-            if right { Some((ended, code)) } else { None }
-        }
-        None => None,
-    }
+    let mut link = scripted(alloc, row)?;
+    let bells = Scarce {
+        left: Cell::new(row.shortage.bells),
+    };
+    let ended = worker(alloc, ring, seat, &mut link, &bells, pace, row.turns);
+    let (sent, code) = (link.link.sent().len(), link.code);
+    let is_front = is_front(link.link.sent(), row.sent);
+    drop(link);
+    Some(Worked {
+        ended,
+        code,
+        sent,
+        is_front,
+    })
 }
 
 // The same, and the flusher hears that it is over.
@@ -121,76 +141,93 @@ fn work<R: Clock>(
     seat: &mut HubSeat,
     row: &Row,
     pace: &Noting<R>,
-) -> Option<(Ended, Option<u16>)>
+) -> Option<Worked>
     requires { seat.old.ring ≡ ring.now }
 {
-    let ended = serve(alloc, ring, seat, row, pace);
+    let worked = serve(alloc, ring, seat, row, pace);
     pace.end();
-    ended
+    worked
 }
 
-fn flush<R: Clock>(
+/// What comes of so many turns of a flusher.
+pub fn flush<P: Gate>(
     alloc: Global,
     ring: &HubRing,
     flusher: &mut HubFlusher,
-    pace: &Noting<R>,
-) -> Option<u64>
+    pace: &P,
+    turns: u64,
+) -> Flushed
     requires { (flusher.old.seat.ring ≡ ring.now) × (flusher.old.executed ≡ flusher.old.stored) }
 {
-    flush_loop(alloc, ring, flusher, pace, TURNS).ok()
+    match flush_loop(alloc, ring, flusher, pace, turns) {
+        Ok(mark) => Flushed::To(mark),
+        Err(FlushFault::Memory(_) | FlushFault::Device) => Flushed::Refused,
+        Err(_) => Flushed::Otherwise,
+    }
 }
 
-// The worker in one thread and the flusher in another: how the worker ended, and the mark at the end.
+// The worker in one thread and the flusher, which has so many turns, in another.
 fn work_and_flush<R: Threads + Wait + Clock + Sync>(
     rt: &R,
     alloc: Global,
     party: &mut Party,
     row: &Row,
     pace: &Noting<R>,
-) -> (Option<(Ended, Option<u16>)>, Option<u64>)
-    requires together { AreTogether party.old.hub party.old.first party.old.second party.old.flusher }
+    turns: u64,
+) -> (Option<Worked>, Flushed)
+    requires together { AreTogether 1 party.old.hub party.old.seats.items party.old.flusher }
     requires executed { party.old.flusher.executed ≡ party.old.flusher.stored }
 {
     let ring = party.hub.ring();
-    let seat = &mut party.first;
+    let seat = &mut party.seats[0];
     let flusher = &mut party.flusher;
     thread::join(
         rt,
-        || -> Option<(Ended, Option<u16>)>
+        || -> Option<Worked>
             requires { seat.now.ring ≡ ring.now }
         { work(alloc, ring, seat, row, pace) },
-        || -> Option<u64>
+        || -> Flushed
             requires { (flusher.now.seat.ring ≡ ring.now) × (flusher.now.executed ≡ flusher.now.stored) }
-        { flush(alloc, ring, flusher, pace) },
+        { flush(alloc, ring, flusher, pace, turns) },
     )
 }
 
-fn party_of(alloc: Global, row: &Row) -> Option<Party>
-    ensures together { IfSome result (λ party. AreTogether party.hub party.first party.second party.flusher) }
-    ensures executed { IfSome result (λ party. party.flusher.executed ≡ party.flusher.stored) }
-{
-    if row.overflows {
-        new_party(alloc, AREA)
-    } else {
-        new_party(alloc, SMALL_AREA)
-    }
-}
-
-// How the worker of a row ended, and the mark at the end, where its link got what it should.
-fn run<R: Threads + Wait + Clock + Sync>(
+/// What comes of the worker of a row, and of a flusher that has so many turns. `None` if memory was refused before they began.
+pub fn run<R: Threads + Wait + Clock + Sync>(
     rt: &R,
     alloc: Global,
     row: &Row,
     pace: &Noting<R>,
-) -> Option<(Option<(Ended, Option<u16>)>, Option<u64>)> {
+    turns: u64,
+) -> Option<(Worked, Flushed)> {
     pace.begin(row.shut, row.flushes, row.awaits);
-    match party_of(alloc, row) {
+    let area_bytes = if row.overflows { AREA } else { SMALL_AREA };
+    match new_party(alloc, area_bytes, 1) {
         Some(mut party) => {
-            let ran = work_and_flush(rt, alloc, &mut party, row, pace);
+            let (worked, flushed) = work_and_flush(rt, alloc, &mut party, row, pace, turns);
             drop(party);
-            Some(ran)
+            Some((worked?, flushed))
         }
         None => None,
+    }
+}
+
+// Whether the worker ended as it should, and sent what it should: where the outbox overflows, CONNECTED, and then the 4,608 outputs that it
+// has room for.
+fn is_done(worked: &Worked, row: &Row) -> bool {
+    let is_sent = if row.overflows {
+        worked.sent == 1 + 4_608
+    } else {
+        worked.is_front && worked.sent == row.sent.len()
+    };
+    is_sent && worked.ended == row.ended && worked.code == row.code
+}
+
+// Whether the flusher published what was appended, or failed if the journal has no room for it.
+fn is_flushed(flushed: Flushed, row: &Row) -> bool {
+    match row.appended {
+        Some(count) => flushed == Flushed::To(count),
+        None => flushed == Flushed::Otherwise,
     }
 }
 
@@ -214,12 +251,14 @@ pub fn first_wrong_row<R: Threads + Wait + Clock + Sync>(
     pace: &Noting<R>,
 ) -> Option<usize> {
     for (place, row) in rows.iter().enumerate() {
-        let ran = run(rt, alloc, row, pace);
-        let heard = (row.heard, last_mark(row));
-        let right = ran == Some((Some((row.ended, row.code)), row.appended))
-            && pace.heard() == heard
+        let Some((worked, flushed)) = run(rt, alloc, row, pace, TURNS) else {
+            return Some(place);
+        };
+        let is_right = is_done(&worked, row)
+            && is_flushed(flushed, row)
+            && pace.heard() == (row.heard, last_mark(row))
             && pace.was_short() == row.shortage.is_any();
-        if !right {
+        if !is_right {
             return Some(place);
         }
     }

@@ -9,18 +9,7 @@ use crate::texts::{
 use engine_core::Ended;
 use std::test::Fail;
 
-const ROWS: [Row; 11] = [
-    // A subscriber that acknowledges a message twice.
-    Row {
-        texts: SUBSCRIBER,
-        flushes: true,
-        ended: Ended::Bad,
-        code: Some(1002),
-        sent: THREE_MESSAGES,
-        appended: Some(7),
-        heard: [true, false, false],
-        ..SILENT
-    },
+const ROWS: [Row; 10] = [
     // More commands than the window lets in, and a DISCONNECT that asks for a receipt.
     Row {
         texts: &[CONNECT, TWENTY_RECEIPTED, LAST_WORD],
@@ -128,6 +117,19 @@ const ROWS: [Row; 11] = [
     },
 ];
 
+// A subscriber that acknowledges a message twice. Its worker has 2,000 turns of a millisecond.
+pub const TWICE: Row = Row {
+    texts: SUBSCRIBER,
+    turns: 2_000,
+    flushes: true,
+    ended: Ended::Bad,
+    code: Some(1002),
+    sent: THREE_MESSAGES,
+    appended: Some(7),
+    heard: [true, false, false],
+    ..SILENT
+};
+
 // Five commands are published before the third turn, and there are three.
 const AT_ONCE: Row = Row {
     texts: &[CONNECT, FIVE_SENDS],
@@ -175,6 +177,13 @@ const SCARCE: [Row; 2] = [
         ..SILENT
     },
 ];
+
+#[test]
+fn worker_like_script(rt: HostRuntime) -> Result<(), Fail> {
+    let pace = Noting::new(rt.clone()?);
+    assert_eq!(rt; first_wrong_row(&rt, rt.alloc(), &[TWICE], &pace), None);
+    Ok(())
+}
 
 #[test]
 fn each_connection_ends_as_it_should(rt: HostRuntime) -> Result<(), Fail> {

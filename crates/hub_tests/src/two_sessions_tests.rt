@@ -1,5 +1,5 @@
-ghost use Rattle.std.specs.Prelude.{◌≡◌};
-ghost use Rattle.hub_tests.specs.Parties.{AreTogether};
+ghost use Rattle.std.specs.Prelude.{◌≡◌, ◌<◌, length};
+ghost use Rattle.hub_tests.specs.Parties.{AreAt, AreTogether};
 
 use crate::hubs::{AREA, HubFlusher, HubRing, HubSeat, Party, first_wrong, link_of, new_party};
 use crate::paces::Turnstile;
@@ -84,20 +84,20 @@ fn work_both<R: Threads + Wait + Clock + Sync>(
     rt: &R,
     alloc: Global,
     ring: &HubRing,
-    first: &mut HubSeat,
-    second: &mut HubSeat,
+    seats: &mut [HubSeat],
     pace: &Turnstile<R>,
 ) -> (Option<Ended>, Option<Ended>)
-    requires { (first.old.ring ≡ ring.now) × (second.old.ring ≡ ring.now) }
+    requires { AreAt ring.now seats.old × (length seats.old ≡ 2) }
 {
+    let (first, second) = seats.split_at_mut(1);
     thread::join(
         rt,
         || -> Option<Ended>
-            requires { first.now.ring ≡ ring.now }
-        { work(alloc, ring, first, pace, &pace.finished) },
+            requires { AreAt ring.now first.now × (0 < length first.now) }
+        { work(alloc, ring, &mut first[0], pace, &pace.finished) },
         || -> Option<Ended>
-            requires { second.now.ring ≡ ring.now }
-        { work(alloc, ring, second, pace, &pace.opened) },
+            requires { AreAt ring.now second.now × (0 < length second.now) }
+        { work(alloc, ring, &mut second[0], pace, &pace.opened) },
     )
 }
 
@@ -108,18 +108,17 @@ fn work_and_flush<R: Threads + Wait + Clock + Sync>(
     party: &mut Party,
     pace: &Turnstile<R>,
 ) -> ((Option<Ended>, Option<Ended>), Option<u64>)
-    requires together { AreTogether party.old.hub party.old.first party.old.second party.old.flusher }
+    requires together { AreTogether 2 party.old.hub party.old.seats.items party.old.flusher }
     requires executed { party.old.flusher.executed ≡ party.old.flusher.stored }
 {
     let ring = party.hub.ring();
-    let first = &mut party.first;
-    let second = &mut party.second;
+    let seats = party.seats.as_mut_slice();
     let flusher = &mut party.flusher;
     thread::join(
         rt,
         || -> (Option<Ended>, Option<Ended>)
-            requires { (first.now.ring ≡ ring.now) × (second.now.ring ≡ ring.now) }
-        { work_both(rt, alloc, ring, first, second, pace) },
+            requires { AreAt ring.now seats.now × (length seats.now ≡ 2) }
+        { work_both(rt, alloc, ring, seats, pace) },
         || -> Option<u64>
             requires { (flusher.now.seat.ring ≡ ring.now) × (flusher.now.executed ≡ flusher.now.stored) }
         { flush(alloc, ring, flusher, pace) },
@@ -131,7 +130,7 @@ fn run<R: Threads + Wait + Clock + Sync>(
     alloc: Global,
     pace: &Turnstile<R>,
 ) -> Option<((Option<Ended>, Option<Ended>), Option<u64>)> {
-    match new_party(alloc, AREA) {
+    match new_party(alloc, AREA, 2) {
         Some(mut party) => {
             let ran = work_and_flush(rt, alloc, &mut party, pace);
             drop(party);

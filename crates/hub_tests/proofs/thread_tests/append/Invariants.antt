@@ -1,5 +1,5 @@
 use Rattle.std.proofs.Common.{◌≡◌}
-use Rattle.hub_tests.proofs.many_commands_tests.append.Given as goal
+use Rattle.hub_tests.proofs.thread_tests.append.Given as goal
 
 abbrev pub invariant-loop : goal.invariant-loop
 invariant-loop g l = l.seat.ring ≡ l.fn.seat.ring
