@@ -3,7 +3,11 @@
 #![tactic(auto)]
 
 #[cfg(test)]
+mod beginnings;
+#[cfg(test)]
 mod compacting_tests;
+#[cfg(test)]
+mod deeds;
 #[cfg(test)]
 mod failing_tests;
 #[cfg(test)]
@@ -26,5 +30,7 @@ mod slow_world;
 mod step_tests;
 #[cfg(test)]
 mod stop_tests;
+#[cfg(test)]
+mod trials;
 #[cfg(test)]
 mod version_tests;

@@ -1,9 +1,8 @@
 //! Random events, wrong ones among them, against a world that is computed slowly.
 ghost use Rattle.std.specs.Prelude.{◌≢◌};
 
-use crate::schedules::{AREA, Pick, apply};
+use crate::schedules::{AREA, Pick, RECORDS, apply, old_world};
 use crate::slow_world::SlowWorld;
-use command_core::{Command, Op};
 use std::alloc::{AllocError, Global};
 use std::process::Abort;
 use std::test::Fail;
@@ -71,18 +70,19 @@ fn choose(seed: &mut u64, slow: &SlowWorld) -> Pick {
     }
 }
 
-fn apply_slowly(alloc: Global, slow: &mut SlowWorld, pick: Pick) -> Result<bool, AllocError> {
+fn apply_slowly(slow: &mut SlowWorld, pick: Pick) -> Result<bool, AllocError> {
     match pick {
-        Pick::Look(j) => Ok(slow.look(j)),
         Pick::Claim(j) => slow.claim(j),
+        Pick::Look(j) => Ok(slow.look(j)),
         Pick::Ready(j) => Ok(slow.ready(j)),
         Pick::Take => Ok(slow.take()),
-        Pick::Device(call) => slow.device(alloc, call),
+        Pick::Device(call) => Ok(slow.device(call)),
         Pick::Raise(n) => Ok(slow.raise(n)),
         Pick::Release(j, n) => Ok(slow.release(j, n)),
         Pick::Stop => Ok(slow.stop()),
         Pick::Crash(at, byte) => Ok(slow.crash(at, byte)),
         Pick::Open => Ok(slow.open()),
+        _ => Ok(false),
     }
 }
 
@@ -105,17 +105,7 @@ fn compare(rt: &impl Abort, world: &World, slow: &SlowWorld) {
     );
 }
 
-// Compares the disks after an event that may have changed them.
-fn compare_disks(rt: &impl Abort, world: &World, slow: &SlowWorld, step: u32, pick: Pick) {
-    if let Pick::Device(_) | Pick::Crash(_, _) = pick {
-        assert!(rt;
-            world.content() == slow.content.as_slice(),
-            "{step}: {pick:?}"
-        );
-    }
-}
-
-// Applies an event in both worlds, and answers whether it was possible.
+// Applies an event in both worlds, and answers whether it was possible. It compares the disks after an event that may have changed them.
 fn take_step(
     rt: &impl Abort,
     alloc: Global,
@@ -124,12 +114,12 @@ fn take_step(
     step: u32,
     pick: Pick,
 ) -> Result<bool, AllocError> {
-    let wanted = apply_slowly(alloc, slow, pick)?;
+    let wanted = apply_slowly(slow, pick)?;
     let answer = apply(alloc, world, pick)?;
-    assert_eq!(rt; answer, wanted, "{step}: {pick:?}");
+    assert_eq!(rt; answer, wanted, "step {step}");
     compare(rt, world, slow);
-    if answer {
-        compare_disks(rt, world, slow, step, pick);
+    if answer && matches!(pick, Pick::Device(_) | Pick::Crash(_, _)) {
+        assert!(rt; world.content() == slow.content.as_slice(), "step {step}");
     }
     Ok(answer)
 }
@@ -159,29 +149,15 @@ fn take_steps(
     Ok(())
 }
 
-fn open() -> Command {
-    Command::new(0, Op::Open { client_id: None }, None)
-}
-
-fn run(
-    rt: &impl Abort,
-    alloc: Global,
-    world: &mut World,
-    mut slow: SlowWorld,
-    from: u64,
-    events: u32,
-) -> Result<(), AllocError> {
-    let done = take_steps(rt, alloc, world, &mut slow, from, events);
-    drop(slow);
-    done
-}
-
 #[test]
 fn random_events_do_what_the_description_says(rt: HostRuntime) -> Result<(), Fail> {
-    let alloc = rt.alloc();
-    let mut world = World::new(alloc, 4_096)?;
-    let slow = SlowWorld::new(alloc, world.content())?;
-    let done = run(&rt, alloc, &mut world, slow, 20_251_123, 100_000);
+    let mut world = World::new(rt.alloc(), 4_096)?;
+    let mut slow = SlowWorld::new(rt.alloc());
+    let done = match slow.begin(world.content()) {
+        Ok(()) => take_steps(&rt, rt.alloc(), &mut world, &mut slow, 20_251_123, 100_000),
+        Err(refused) => Err(refused),
+    };
+    drop(slow);
     drop(world);
     done?;
     Ok(())
@@ -190,15 +166,16 @@ fn random_events_do_what_the_description_says(rt: HostRuntime) -> Result<(), Fai
 // A journal of the first version with three commands in a block.
 #[test]
 fn random_events_go_on_from_the_first_version(rt: HostRuntime) -> Result<(), Fail> {
-    let alloc = rt.alloc();
-    let opens = [open(), open(), open()];
-    let Some(mut world) = World::new_v1(alloc, 4_096, &opens)? else {
+    let Some(mut world) = old_world(rt.alloc(), &RECORDS[..1], 3)? else {
         panic!(rt; "three commands don't fit");
     };
-    let slow = SlowWorld::crashed(alloc, world.content(), 3)?;
-    let done = run(&rt, alloc, &mut world, slow, 20_261_126, 20_000);
+    let mut slow = SlowWorld::new(rt.alloc());
+    let done = match slow.begin_crashed(world.content(), 3) {
+        Ok(()) => take_steps(&rt, rt.alloc(), &mut world, &mut slow, 20_261_126, 20_000),
+        Err(refused) => Err(refused),
+    };
+    drop(slow);
     drop(world);
-    drop(opens);
     done?;
     Ok(())
 }

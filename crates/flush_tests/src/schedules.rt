@@ -1,7 +1,10 @@
-//! Events in short.
-use command_core::{Command, Op};
+//! Events in short, and worlds in which they happen.
+use crate::setups::send_to;
+use command_core::{Command, Op, decode};
 use frame_core::Bytes;
 use std::alloc::{AllocError, Global};
+use std::process::Abort;
+use std::test::Fail;
 use world_core::{Call, CallKind, CallList, Event, World};
 
 /// The bytes of an area.
@@ -14,7 +17,7 @@ pub(crate) const SECOND: usize = 32 + AREA;
 pub(crate) const FIRST_GATE: usize = SECOND + 40;
 
 /// An event in short. A crash leaves this byte at a place.
-#[derive(Clone, Copy, Debug)]
+#[derive(Clone, Copy)]
 pub(crate) enum Pick {
     Look(usize),
     Claim(usize),
@@ -26,12 +29,29 @@ pub(crate) enum Pick {
     Stop,
     Crash(usize, u8),
     Open,
+    /// For written schedules: the first session claims for a SEND with a body of 60,000 bytes.
+    ClaimLong,
+    /// All calls of opening come, and its end.
+    OpenAll,
+    /// Nothing happens, and these are the base and the numbers that are claimed, taken, stored and under the mark next.
+    Numbers([u64; 5]),
+    /// Nothing happens, and the disk begins with so many bytes of the old one.
+    Front(usize),
+    /// Nothing happens, and the disk has this byte at a place.
+    Byte(usize, u8),
 }
 
 /// An Open without a client's name. Its record has 11 bytes.
 pub(crate) fn claim(world: &mut World, seat: usize) -> Result<bool, AllocError> {
     let open = Command::new(0, Op::Open { client_id: None }, None);
     world.apply(Event::Claim(seat, open))
+}
+
+fn claim_long(alloc: Global, world: &mut World) -> Result<bool, AllocError> {
+    match send_to(alloc, "/queue/q", 60_000) {
+        Some(send) => world.apply(Event::Claim(0, send)),
+        None => Err(AllocError),
+    }
 }
 
 fn call(world: &mut World, list: CallList, kind: CallKind) -> Result<bool, AllocError> {
@@ -63,13 +83,8 @@ pub(crate) fn open(world: &mut World) -> Result<bool, AllocError> {
     world.apply(Event::Open)
 }
 
-/// The disk, with this byte at a place.
-pub(crate) fn image_of(
-    alloc: Global,
-    world: &World,
-    at: usize,
-    byte: u8,
-) -> Result<Event, AllocError> {
+// The disk, with this byte at a place.
+fn image_of(alloc: Global, world: &World, at: usize, byte: u8) -> Result<Event, AllocError> {
     let mut image = Vec::from_slice(alloc, world.content())?;
     if at < image.len() {
         image[at] = byte;
@@ -80,6 +95,58 @@ pub(crate) fn image_of(
 fn crash(alloc: Global, world: &mut World, at: usize, byte: u8) -> Result<bool, AllocError> {
     let crash = image_of(alloc, world, at, byte)?;
     world.apply(crash)
+}
+
+// A session opens, listens to `/queue/q` as `s`, sends a message there, is handed it, and refuses it.
+pub(crate) const RECORDS: [&[u8]; 4] = [
+    b"\0\0\0\0\0\0\0\0\0\x01\0",
+    b"\0\0\0\0\0\0\0\0\0\x03\0\0\0\x01s\0\0\0\x08/queue/q\x01\0",
+    b"\0\0\0\0\0\0\0\0\0\x02\0\0\0\x08/queue/q\0\0\0\0\0\x01x",
+    b"\0\0\0\0\0\0\0\0\0\x06\0\0\0\0\0\0\0\0",
+];
+
+// The disk of the first version that these are in, up to its last byte that is not zero, or a closed gate after it.
+const OLD_DISK: &[u8] = b"STOMPJ01\0\0\0\0\0\0\x10\0\
+\0\0\0\0\0\0\0\0\0\0\0\0\0\0\0\0\
+\0\0\0\0\0\0\0\x20\
+\0\0\0\0\0\0\0\0\0\0\0\0\0\0\0\0\0\0\0\0\0\0\0\0\0\0\0\0\0\0\0\0\
+\x01\0\0\0\0\0\0\0\x57\
+\0\0\0\0\0\0\0\0\0\x01\0\
+\0\0\0\0\0\0\0\0\0\x03\0\0\0\x01s\0\0\0\x08/queue/q\x01\0\
+\0\0\0\0\0\0\0\0\0\x02\0\0\0\x08/queue/q\0\0\0\0\0\x01x\
+\0\0\0\0\0\0\0\0\0\x06\0\0\0\0\0\0\0\0\
+\0";
+
+/// How many bytes that are.
+pub(crate) const OLD_LEN: usize = 169;
+
+fn has_front(content: &[u8], len: usize) -> bool {
+    match (content.get(..len), OLD_DISK.get(..len)) {
+        (Some(front), Some(wanted)) => front == wanted && content.len() == 8_224,
+        _ => false,
+    }
+}
+
+fn numbers(world: &World) -> [u64; 5] {
+    [
+        world.base(),
+        world.claimed(),
+        world.taken(),
+        world.stored(),
+        world.mark(),
+    ]
+}
+
+// What only written schedules have.
+fn apply_written(alloc: Global, world: &mut World, pick: Pick) -> Result<bool, AllocError> {
+    match pick {
+        Pick::ClaimLong => claim_long(alloc, world),
+        Pick::OpenAll => open(world),
+        Pick::Numbers(wanted) => Ok(numbers(world) == wanted),
+        Pick::Front(len) => Ok(has_front(world.content(), len)),
+        Pick::Byte(at, byte) => Ok(world.content().get(at) == Some(&byte)),
+        _ => Ok(false),
+    }
 }
 
 /// Lets an event happen if it is possible, and answers whether it was.
@@ -95,5 +162,78 @@ pub(crate) fn apply(alloc: Global, world: &mut World, pick: Pick) -> Result<bool
         Pick::Stop => world.apply(Event::Stop),
         Pick::Crash(at, byte) => crash(alloc, world, at, byte),
         Pick::Open => world.apply(Event::Open),
+        _ => apply_written(alloc, world, pick),
     }
+}
+
+// A part of a schedule: events, and whether each is possible when it comes.
+fn play_part(
+    rt: &impl Abort,
+    alloc: Global,
+    world: &mut World,
+    part: &[(Pick, bool)],
+) -> Result<(), AllocError> {
+    for (place, (pick, possible)) in part.iter().enumerate() {
+        let answer = apply(alloc, world, *pick)?;
+        assert_eq!(rt; answer, *possible, "event {place} of {}", part.len());
+    }
+    Ok(())
+}
+
+fn play_parts(
+    rt: &impl Abort,
+    alloc: Global,
+    world: &mut World,
+    parts: &[&[(Pick, bool)]],
+) -> Result<(), AllocError> {
+    for part in parts {
+        play_part(rt, alloc, world, part)?;
+    }
+    Ok(())
+}
+
+/// Plays a schedule of these parts, one after another.
+pub(crate) fn play_in(
+    rt: &impl Abort,
+    alloc: Global,
+    world: World,
+    parts: &[&[(Pick, bool)]],
+) -> Result<(), AllocError> {
+    let mut world = world;
+    let played = play_parts(rt, alloc, &mut world, parts);
+    drop(world);
+    played
+}
+
+fn read_all(
+    alloc: Global,
+    commands: &mut Vec<Command>,
+    records: &[&[u8]],
+    times: u32,
+) -> Result<(), Fail> {
+    for _ in 0..times {
+        for record in records {
+            let (command, _) = decode(alloc, record)?;
+            commands.push(command)?;
+        }
+    }
+    Ok(())
+}
+
+/// A world that begins with a journal of the first version, with the commands of these records so many times; none if they don't fit.
+pub(crate) fn old_world(
+    alloc: Global,
+    records: &[&[u8]],
+    times: u32,
+) -> Result<Option<World>, Fail> {
+    let mut commands = Vec::new(alloc);
+    let made = match read_all(alloc, &mut commands, records, times) {
+        Ok(()) => match World::new_v1(alloc, 4_096, &commands) {
+            Ok(made) => Ok(made),
+            Err(refused) => Err(Fail::from(refused)),
+        },
+        Err(fault) => Err(fault),
+    };
+    drop(commands);
+    made
 }

@@ -1,17 +1,13 @@
-//! Flushers over journals in memory, before whose rings two sessions have seats.
+//! Rings before flushers over journals in memory, and what sessions do there.
 
-ghost use Rattle.std.specs.Prelude.{◌≡◌, ◌≤◌, ◌+◌, ◌*◌, ◌^◌, All, IfSome, IsSome, IsTrue, false, length};
-ghost use Rattle.claim_core.specs.Seats.{new_session};
-ghost use Rattle.recover_core.specs.Standing.{StandFor};
-ghost use Rattle.recover_core.specs.Stores.{disk_of, is_broken, opened_by};
+ghost use Rattle.std.specs.Prelude.{◌≡◌};
 
-use area_core::format;
-use claim_core::{BrokerRing, BrokerSeat, Refused, Ring};
-use command_core::{Entry, decode};
-use disk_core::{Disk, FuseDisk, MemDisk};
+use claim_core::{BrokerRing, BrokerSeat, Refused};
+use command_core::{Command, Dest, Entry, Op, Sending, decode};
+use disk_core::{FailOnce, FuseDisk, MemDisk};
 use flush_core::{Flusher, Width};
+use frame_core::{Bytes, Headers};
 use outbox_core::{OutSender, Silent};
-use recover_core::{Store, open};
 use std::alloc::Global;
 
 pub(crate) type TestRing = BrokerRing<OutSender<Silent>>;
@@ -33,146 +29,62 @@ impl Width for TestWidth {
 
 pub(crate) type TestFlusher<D> = Flusher<D, Silent, TestWidth>;
 
-pub(crate) type MemFlusher = TestFlusher<MemDisk>;
-
-pub(crate) type MemSetup = Setup<MemDisk>;
-
-/// The bytes of the smallest area.
-pub(crate) const SMALL_AREA: u64 = 4_096;
-
-/// The disk of an empty journal with areas of so many bytes.
-pub(crate) fn formatted(alloc: Global, area_bytes: u64) -> Option<MemDisk>
-    requires { (4096 ≤ area_bytes) × (area_bytes ≤ 262144) }
-{
-    let mut disk = MemDisk::new(alloc, 32 + 2 * area_bytes).ok()?;
-    match format(alloc, &mut disk, area_bytes) {
-        Ok(()) => Some(disk),
-        Err(_) => None,
-    }
-}
+/// A disk of which one call may fail, and which may stop for good.
+pub(crate) type TestDisk = FailOnce<FuseDisk<MemDisk>>;
 
 /// A session opens.
 pub(crate) const OPEN: &[u8] = b"\0\0\0\0\0\0\0\0\0\x01\0";
 
-/// The ring before an empty journal, the seats of two sessions, and the flusher.
-#[derive(Drop)]
-pub(crate) struct Setup<D: Disk> {
-    pub(crate) ring: TestRing,
-    pub(crate) first: TestSeat,
-    pub(crate) second: TestSeat,
-    pub(crate) flusher: TestFlusher<D>,
-}
+/// What the two sessions send to `/queue/q` in turn: the last asks for a receipt.
+pub(crate) const FIRST_SEND: &[u8] = b"\0\0\0\0\0\0\0\0\0\x02\0\0\0\x08/queue/q\0\0\0\0\0\x01x";
 
-// The setup of a journal that was just opened.
-fn begin<D: Disk + Drop>(alloc: Global, store: Store<D>) -> Option<Setup<D>>
-    requires whole { is_broken store ≡ false }
-    requires opened { IsSome (opened_by store) }
-    requires small { IfSome (opened_by store) (λ broker. (broker.state.count ≤ 2 ^ 61) × (broker.broken ≡ false)) }
-    requires stands { D.Disk.honest (disk_of store) → IfSome (opened_by store) (λ broker. StandFor (D.Disk.images (disk_of store)) broker.state) }
-    ensures ring { IfSome result (λ s. (s.first.ring ≡ s.ring) × (s.second.ring ≡ s.ring) × (s.flusher.seat.ring ≡ s.ring)) }
-    ensures executed { IfSome result (λ s. s.flusher.executed ≡ s.flusher.stored) }
-{
-    let mut store = store;
-    let broker = store.broker().unwrap();
-    match Ring::new(alloc, broker.count()) {
-        Ok((ring, seats, seat)) => {
-            let flusher = Flusher::new(alloc, store, broker, seat);
-            Some(seated(ring, seats, flusher))
-        }
-        Err(_) => {
-            drop(broker);
-            drop(store);
-            None
-        }
+pub(crate) const SECOND_SEND: &[u8] = b"\0\0\0\0\0\0\0\x01\0\x02\0\0\0\x08/queue/q\0\0\0\0\0\x01y";
+
+pub(crate) const LAST_SEND: &[u8] =
+    b"\0\0\0\0\0\0\0\0\x01\0\0\0\x01r\x02\0\0\0\x08/queue/q\0\0\0\0\0\x01z";
+
+/// A SEND of the first session to a destination, with a body of so many bytes, 65,536 at most.
+pub(crate) fn send_to(alloc: Global, destination: &str, bytes: usize) -> Option<Command> {
+    if bytes > 65_536 {
+        return None;
     }
-}
-
-// Two of the seats are kept.
-fn seated<D: Disk + Drop>(ring: TestRing, seats: Vec<TestSeat>, flusher: TestFlusher<D>) -> Setup<D>
-    requires seats { All (λ seat. seat ≡ new_session ring flusher.seat.base seat.number) seats.items }
-    requires two { 2 ≤ length seats.items }
-    requires flusher { flusher.seat.ring ≡ ring }
-    ensures ring { (result.first.ring ≡ result.ring) × (result.second.ring ≡ result.ring) × (result.flusher.seat.ring ≡ result.ring) }
-    ensures flusher { result.flusher ≡ flusher }
-{
-    let mut seats = seats;
-    let first = seats.pop().unwrap();
-    let second = seats.pop().unwrap();
-    drop(seats);
-    Setup {
-        ring,
-        first,
-        second,
-        flusher,
+    let mut body = Vec::new(alloc);
+    if body.resize(bytes, b'x').is_err() {
+        return None;
     }
-}
-
-/// The setup of the journal of a disk.
-pub(crate) fn set_up_over<D: Disk + Drop>(alloc: Global, disk: D) -> Option<Setup<D>>
-    ensures ring { IfSome result (λ s. (s.first.ring ≡ s.ring) × (s.second.ring ≡ s.ring) × (s.flusher.seat.ring ≡ s.ring)) }
-    ensures executed { IfSome result (λ s. s.flusher.executed ≡ s.flusher.stored) }
-{
-    match open(alloc, disk) {
-        Ok(store) => begin(alloc, store),
+    match Dest::read(alloc, destination) {
+        Ok(destination) => {
+            let sending = Sending::new(
+                destination,
+                Headers::new(Vec::new(alloc)),
+                Bytes::new(body),
+            );
+            Some(Command::new(0, Op::Send(sending), None))
+        }
         Err(_) => None,
     }
 }
 
-/// The setup of an empty journal with areas of so many bytes.
-pub(crate) fn set_up(alloc: Global, area_bytes: u64) -> Option<MemSetup>
-    requires { (4096 ≤ area_bytes) × (area_bytes ≤ 262144) }
-    ensures ring { IfSome result (λ s. (s.first.ring ≡ s.ring) × (s.second.ring ≡ s.ring) × (s.flusher.seat.ring ≡ s.ring)) }
-    ensures executed { IfSome result (λ s. s.flusher.executed ≡ s.flusher.stored) }
+/// Appends a command, and answers its ticket or why it was refused.
+pub(crate) fn append_command(
+    alloc: Global,
+    ring: &TestRing,
+    seat: &mut TestSeat,
+    command: Command,
+) -> Option<Result<u64, Refused>>
+    requires { seat.old.ring ≡ ring.now }
+    ensures { seat.new.ring ≡ ring.now }
 {
-    match formatted(alloc, area_bytes) {
-        Some(disk) => set_up_over(alloc, disk),
-        None => None,
-    }
-}
-
-/// The same over a disk that passes so many calls.
-pub(crate) fn fuse(setup: MemSetup, passed: u64) -> Setup<FuseDisk<MemDisk>>
-    requires ring { (setup.first.ring ≡ setup.ring) × (setup.second.ring ≡ setup.ring) × (setup.flusher.seat.ring ≡ setup.ring) }
-    requires executed { setup.flusher.executed ≡ setup.flusher.stored }
-    ensures ring { (result.first.ring ≡ result.ring) × (result.second.ring ≡ result.ring) × (result.flusher.seat.ring ≡ result.ring) }
-    ensures executed { result.flusher.executed ≡ result.flusher.stored }
-{
-    let Setup {
-        ring,
-        first,
-        second,
-        flusher,
-    } = setup;
-    Setup {
-        ring,
-        first,
-        second,
-        flusher: flusher.fuse(passed),
-    }
-}
-
-/// The disk of a setup.
-pub(crate) fn into_disk<D: Disk + Drop>(setup: Setup<D>) -> D {
-    let Setup {
-        ring,
-        first,
-        second,
-        flusher,
-    } = setup;
-    drop(first);
-    drop(second);
-    drop(ring);
-    flusher.into_disk()
-}
-
-fn entry(alloc: Global, record: &[u8]) -> Option<Entry<OutSender<Silent>>> {
-    match decode(alloc, record) {
-        Ok((command, _)) => Entry::new(alloc, command, None).ok(),
+    match Entry::new(alloc, command, None) {
+        Ok(entry) => match ring.append(seat, entry) {
+            Ok(ticket) => Some(Ok(ticket)),
+            Err((_, refused)) => Some(Err(refused)),
+        },
         Err(_) => None,
     }
 }
 
-/// Appends the command of a record, and answers its ticket or why it was refused.
+/// The same with the command of a record.
 pub(crate) fn append(
     alloc: Global,
     ring: &TestRing,
@@ -182,29 +94,24 @@ pub(crate) fn append(
     requires { seat.old.ring ≡ ring.now }
     ensures { seat.new.ring ≡ ring.now }
 {
-    match entry(alloc, record) {
-        Some(entry) => match ring.append(seat, entry) {
-            Ok(ticket) => Some(Ok(ticket)),
-            Err((_, refused)) => Some(Err(refused)),
-        },
-        None => None,
+    match decode(alloc, record) {
+        Ok((command, _)) => append_command(alloc, ring, seat, command),
+        Err(_) => None,
     }
 }
 
-/// Both sessions open, which is a turn of its own.
-pub(crate) fn open_both<D: Disk>(alloc: Global, setup: &mut Setup<D>) -> bool
-    requires ring { (setup.old.first.ring ≡ setup.old.ring) × (setup.old.second.ring ≡ setup.old.ring) × (setup.old.flusher.seat.ring ≡ setup.old.ring) }
-    requires executed { setup.old.flusher.executed ≡ setup.old.flusher.stored }
-    ensures ring { IsTrue result → (setup.new.first.ring ≡ setup.new.ring) × (setup.new.second.ring ≡ setup.new.ring) × (setup.new.flusher.seat.ring ≡ setup.new.ring) }
-    ensures executed { IsTrue result → setup.new.flusher.executed ≡ setup.new.flusher.stored }
+/// The same with a SEND to `/queue/q`, whose body has so many bytes.
+pub(crate) fn append_send(
+    alloc: Global,
+    ring: &TestRing,
+    seat: &mut TestSeat,
+    bytes: usize,
+) -> Option<Result<u64, Refused>>
+    requires { seat.old.ring ≡ ring.now }
+    ensures { seat.new.ring ≡ ring.now }
 {
-    let first = append(alloc, &setup.ring, &mut setup.first, OPEN);
-    let second = append(alloc, &setup.ring, &mut setup.second, OPEN);
-    if first != Some(Ok(0)) || second != Some(Ok(1)) {
-        return false;
+    match send_to(alloc, "/queue/q", bytes) {
+        Some(command) => append_command(alloc, ring, seat, command),
+        None => None,
     }
-    let Ok(2) = setup.flusher.turn(alloc, &setup.ring) else {
-        return false;
-    };
-    setup.flusher.take_left().len() == 2
 }

@@ -8,75 +8,20 @@ use world_core::{Call, CallKind, CallList, LastCall, Period};
 const RECORD: [u8; 11] = [0, 0, 0, 0, 0, 0, 0, 0, 0, 1, 0];
 
 #[derive(Drop)]
-pub(crate) struct SlowSeat {
-    own: Vec<u64>,
-    seen: u64,
-}
-
-#[derive(Drop)]
 pub(crate) struct SlowWorld {
     pub(crate) base: u64,
-    ready: Vec<bool>,
+    // The seat that claimed each number from the base on, and whether its command is ready.
+    claims: Vec<(usize, bool)>,
     pub(crate) taken: u64,
     pub(crate) stored: u64,
     pub(crate) mark: u64,
-    seats: Vec<SlowSeat>,
+    // The mark that each seat saw last.
+    seen: [u64; 64],
     phase: Period,
     place: LastCall,
     pub(crate) content: Vec<u8>,
     // The range that is unsynced, from one place up to another.
     pub(crate) unsynced: (usize, usize),
-}
-
-fn slow_seats(alloc: Global) -> Result<Vec<SlowSeat>, AllocError> {
-    let mut seats = Vec::new(alloc);
-    for _ in 0..64 {
-        seats.push(SlowSeat {
-            own: Vec::new(alloc),
-            seen: 0,
-        })?;
-    }
-    Ok(seats)
-}
-
-fn fill_block(block: &mut Vec<u8>, count: u64) -> Result<(), AllocError> {
-    block.extend_from_slice(&count.saturating_mul(11).to_be_bytes())?;
-    for _ in 0..count {
-        block.extend_from_slice(&RECORD)?;
-    }
-    block.push(0)?;
-    Ok(())
-}
-
-// A block of `count` commands, and the closed gate after it.
-fn block_of(alloc: Global, count: u64) -> Result<Vec<u8>, AllocError> {
-    let mut block = Vec::new(alloc);
-    match fill_block(&mut block, count) {
-        Ok(()) => Ok(block),
-        Err(fault) => {
-            drop(block);
-            Err(fault)
-        }
-    }
-}
-
-// A snapshot of the second version with its length and a closed gate. It has the count, no delivery, the open sessions, each a number and
-// no client's name, and nothing else. Some of the sessions stand in these bytes; those between these numbers come after them.
-fn fill_copy(copy: &mut Vec<u8>, stood: &[u8], from: u64, to: u64) -> Result<(), AllocError> {
-    let sessions = (stood.len() / 9) as u64;
-    let all = sessions.saturating_add(to.saturating_sub(from));
-    let mut word = all.saturating_mul(9).saturating_add(32).to_be_bytes();
-    word[0] = 2;
-    copy.extend_from_slice(&word)?;
-    copy.extend_from_slice(&to.to_be_bytes())?;
-    copy.extend_from_slice(&[0; 8])?;
-    copy.extend_from_slice(&all.to_be_bytes()[4..])?;
-    copy.extend_from_slice(stood)?;
-    for number in from..to {
-        copy.extend_from_slice(&number.to_be_bytes())?;
-        copy.push(0)?;
-    }
-    copy.extend_from_slice(&[0; 13])
 }
 
 // What a restart leaves is only the count: 32 bytes, of which the first eight are not zero. A closed gate comes after it. Before it stand
@@ -103,104 +48,102 @@ fn byte_at(bytes: &[u8], at: usize) -> u8 {
 }
 
 impl SlowWorld {
-    /// The world of these bytes, at its beginning.
-    pub(crate) fn new(alloc: Global, content: &[u8]) -> Result<SlowWorld, AllocError> {
-        let content = Vec::from_slice(alloc, content)?;
-        let seats = slow_seats(alloc)?;
-        Ok(SlowWorld {
+    /// A world that has just begun, over no bytes yet.
+    pub(crate) fn new(alloc: Global) -> SlowWorld {
+        SlowWorld {
             base: 0,
-            ready: Vec::new(alloc),
+            claims: Vec::new(alloc),
             taken: 0,
             stored: 0,
             mark: 0,
-            seats,
+            seen: [0; 64],
             phase: Period::Running,
             place: LastCall::Rest,
-            content,
+            content: Vec::new(alloc),
             unsynced: (0, 0),
-        })
+        }
     }
 
-    /// A world of these bytes whose last life had that many commands, and crashed.
-    pub(crate) fn crashed(
-        alloc: Global,
-        content: &[u8],
-        count: u64,
-    ) -> Result<SlowWorld, AllocError> {
-        let mut world = SlowWorld::new(alloc, content)?;
-        world.base = count;
-        world.taken = count;
-        world.stored = count;
-        world.mark = count;
-        for seat in world.seats.iter_mut() {
-            seat.seen = count;
-        }
-        world.phase = Period::Crashed;
-        world.place = LastCall::Broken;
-        Ok(world)
+    /// It begins with these bytes.
+    pub(crate) fn begin(&mut self, content: &[u8]) -> Result<(), AllocError> {
+        self.content.extend_from_slice(content)
+    }
+
+    /// It begins with these bytes, after a life that had that many commands and crashed.
+    pub(crate) fn begin_crashed(&mut self, content: &[u8], count: u64) -> Result<(), AllocError> {
+        self.begin(content)?;
+        self.restart(count);
+        self.phase = Period::Crashed;
+        self.place = LastCall::Broken;
+        Ok(())
+    }
+
+    fn restart(&mut self, count: u64) {
+        self.base = count;
+        self.taken = count;
+        self.stored = count;
+        self.mark = count;
+        self.claims.clear();
+        self.seen = [count; 64];
     }
 
     pub(crate) fn claimed(&self) -> u64 {
-        self.base.saturating_add(self.ready.len() as u64)
+        self.base.saturating_add(self.claims.len() as u64)
     }
 
     pub(crate) fn is_running(&self) -> bool {
         self.phase == Period::Running
     }
 
-    fn flag(&self, number: u64) -> Option<bool> {
-        let at = number.saturating_sub(self.base) as usize;
-        if at < self.ready.len() {
-            Some(self.ready[at])
-        } else {
-            None
-        }
-    }
-
     pub(crate) fn look(&mut self, j: usize) -> bool {
-        if self.phase == Period::Crashed || j >= self.seats.len() {
+        if self.phase == Period::Crashed || j >= 64 {
             return false;
         }
-        self.seats[j].seen = self.mark;
+        self.seen[j] = self.mark;
         true
     }
 
-    fn last_of(&self, j: usize) -> Option<u64> {
-        if j >= self.seats.len() {
-            return None;
+    // The place of the last claim of a seat.
+    fn last_of(&self, j: usize) -> Option<usize> {
+        let mut last = None;
+        for (place, (seat, _)) in self.claims.iter().enumerate() {
+            if *seat == j {
+                last = Some(place);
+            }
         }
-        let own = &self.seats[j].own;
-        if own.is_empty() {
-            None
+        last
+    }
+
+    fn is_ready(&self, place: usize) -> Option<bool> {
+        if place < self.claims.len() {
+            Some(self.claims[place].1)
         } else {
-            Some(own[own.len() - 1])
+            None
         }
     }
 
+    // How many commands of a seat are not under the mark that it saw.
     fn waiting(&self, j: usize) -> usize {
+        let seen = if j < 64 { self.seen[j] } else { 0 };
         let mut count = 0_usize;
-        if j < self.seats.len() {
-            for number in &self.seats[j].own {
-                if *number >= self.seats[j].seen {
-                    count = count.saturating_add(1);
-                }
+        for (place, (seat, _)) in self.claims.iter().enumerate() {
+            if *seat == j && self.base.saturating_add(place as u64) >= seen {
+                count = count.saturating_add(1);
             }
         }
         count
     }
 
     pub(crate) fn claim(&mut self, j: usize) -> Result<bool, AllocError> {
-        if !self.is_running() || j >= self.seats.len() || self.waiting(j) >= 16 {
+        if !self.is_running() || j >= 64 || self.waiting(j) >= 16 {
             return Ok(false);
         }
         if let Some(last) = self.last_of(j) {
-            if self.flag(last) != Some(true) {
+            if self.is_ready(last) != Some(true) {
                 return Ok(false);
             }
         }
-        let number = self.claimed();
-        self.ready.push(false)?;
-        self.seats[j].own.push(number)?;
+        self.claims.push((j, false))?;
         Ok(true)
     }
 
@@ -208,18 +151,18 @@ impl SlowWorld {
         let Some(last) = self.last_of(j) else {
             return false;
         };
-        if !self.is_running() || self.flag(last) != Some(false) {
+        if !self.is_running() || self.is_ready(last) != Some(false) {
             return false;
         }
-        let at = last.saturating_sub(self.base) as usize;
-        if at < self.ready.len() {
-            self.ready[at] = true;
+        if last < self.claims.len() {
+            self.claims[last] = (j, true);
         }
         true
     }
 
     pub(crate) fn take(&mut self) -> bool {
-        if !self.is_running() || self.flag(self.taken) != Some(true) {
+        let place = self.taken.saturating_sub(self.base) as usize;
+        if !self.is_running() || self.is_ready(place) != Some(true) {
             return false;
         }
         self.taken = self.taken.saturating_add(1);
@@ -235,7 +178,7 @@ impl SlowWorld {
     }
 
     pub(crate) fn release(&self, j: usize, n: u64) -> bool {
-        self.phase != Period::Crashed && j < self.seats.len() && n < self.seats[j].seen
+        self.phase != Period::Crashed && j < 64 && n < self.seen[j]
     }
 
     pub(crate) fn stop(&self) -> bool {
@@ -286,30 +229,39 @@ impl SlowWorld {
         (gate, count)
     }
 
-    fn write(&mut self, at: usize, bytes: &[u8]) {
+    // Puts these bytes at a place, and answers the place after them.
+    fn put(&mut self, at: usize, bytes: &[u8]) -> usize {
         for (i, byte) in bytes.iter().enumerate() {
             let place = at.saturating_add(i);
             if place < self.content.len() {
                 self.content[place] = *byte;
             }
         }
-        self.unsynced = (at, at.saturating_add(bytes.len()));
+        at.saturating_add(bytes.len())
     }
 
-    fn write_block(&mut self, alloc: Global) -> Result<bool, AllocError> {
+    fn write(&mut self, at: usize, bytes: &[u8]) {
+        self.unsynced = (at, self.put(at, bytes));
+    }
+
+    // A block, and the closed gate after it.
+    fn write_block(&mut self) -> bool {
         let (gate, _) = self.read();
         let used = gate.saturating_sub(self.live()) as u64;
         let room = (AREA as u64).saturating_sub(used).saturating_sub(10);
         // As many as fit, each of which has 11 bytes.
         let count = self.taken.saturating_sub(self.stored).min(room / 11);
         if count == 0 {
-            return Ok(false);
+            return false;
         }
-        let block = block_of(alloc, count)?;
-        self.write(gate.saturating_add(1), &block);
-        drop(block);
+        let begins = gate.saturating_add(1);
+        let mut at = self.put(begins, &count.saturating_mul(11).to_be_bytes());
+        for _ in 0..count {
+            at = self.put(at, &RECORD);
+        }
+        self.unsynced = (begins, self.put(at, &[0]));
         self.place = LastCall::BlockWritten(self.stored.saturating_add(count));
-        Ok(true)
+        true
     }
 
     fn idle(&self) -> usize {
@@ -322,47 +274,61 @@ impl SlowWorld {
         self.place = LastCall::SnapshotWriting(41, 41);
     }
 
-    // The sessions of the live area's snapshot. How many there are stands after three numbers of eight bytes.
-    fn sessions(&self) -> &[u8] {
+    // Where the sessions of the live area's snapshot are. How many there are stands after three numbers of eight bytes.
+    fn sessions(&self) -> (usize, usize) {
         let from = self.live().saturating_add(24);
         let count = number_at(&self.content, from.saturating_sub(4)) % 4_294_967_296;
         let begins = from.saturating_add(4);
-        let to = begins.saturating_add((count as usize).saturating_mul(9));
-        if begins <= to && to <= self.content.len() {
-            &self.content[begins..to]
-        } else {
-            &[]
-        }
+        (
+            begins,
+            begins.saturating_add((count as usize).saturating_mul(9)),
+        )
     }
 
-    fn copy(&self, alloc: Global) -> Result<Vec<u8>, AllocError> {
+    // The sessions that stand in that snapshot, and after them those between these numbers. Each has a number and no client's name.
+    fn put_sessions(&mut self, at: usize, first: u64, count: u64) -> usize {
+        let (from, to) = self.sessions();
+        let mut at = at;
+        for place in from..to {
+            let byte = byte_at(&self.content, place);
+            at = self.put(at, &[byte]);
+        }
+        for number in first..count {
+            at = self.put(at, &number.to_be_bytes());
+            at = self.put(at, &[0]);
+        }
+        at
+    }
+
+    // A snapshot of the second version with its length and a closed gate. It has the count, no delivery, the open sessions, and nothing
+    // else.
+    fn write_copy(&mut self) -> bool {
         let (_, count) = self.read();
         let first = number_at(&self.content, self.live().saturating_add(8));
-        let mut copy = Vec::new(alloc);
-        match fill_copy(&mut copy, self.sessions(), first, count) {
-            Ok(()) => Ok(copy),
-            Err(fault) => {
-                drop(copy);
-                Err(fault)
-            }
+        let (from, to) = self.sessions();
+        let stood = (to.saturating_sub(from) / 9) as u64;
+        let sessions = stood.saturating_add(count.saturating_sub(first));
+        let all = sessions.saturating_mul(9).saturating_add(41);
+        if all > AREA as u64 {
+            return false;
         }
+        let mut word = all.saturating_sub(9).to_be_bytes();
+        word[0] = 2;
+        let idle = self.idle();
+        let mut at = self.put(idle, &word);
+        at = self.put(at, &count.to_be_bytes());
+        at = self.put(at, &[0; 8]);
+        at = self.put(at, &sessions.to_be_bytes()[4..]);
+        at = self.put_sessions(at, first, count);
+        self.unsynced = (idle, self.put(at, &[0; 13]));
+        self.place = LastCall::Copying(all, all);
+        true
     }
 
-    fn write_copy(&mut self, alloc: Global) -> Result<bool, AllocError> {
-        let copy = self.copy(alloc)?;
-        let all = copy.len();
-        if all <= AREA {
-            self.write(self.idle(), &copy);
-            self.place = LastCall::Copying(all as u64, all as u64);
-        }
-        drop(copy);
-        Ok(all <= AREA)
-    }
-
-    fn compact(&mut self, alloc: Global, call: Call) -> Result<bool, AllocError> {
+    fn compact(&mut self, call: Call) -> bool {
         match (call.list, call.kind, self.place) {
             (CallList::Snapshot, CallKind::Write, LastCall::Rest | LastCall::CopySynced) => {
-                return self.write_copy(alloc);
+                return self.write_copy();
             }
             (CallList::Snapshot, CallKind::Sync, LastCall::Copying(_, _)) => {
                 self.place = LastCall::CopySynced;
@@ -373,9 +339,9 @@ impl SlowWorld {
             }
             (CallList::Switch, CallKind::Sync, LastCall::SwitchWritten) => self.place =
                 LastCall::Rest,
-            _ => return Ok(false),
+            _ => return false,
         }
-        Ok(true)
+        true
     }
 
     fn write_selector(&mut self) {
@@ -383,11 +349,9 @@ impl SlowWorld {
         self.write(16, &[selector]);
     }
 
-    fn append(&mut self, alloc: Global, kind: CallKind, ok: bool) -> Result<bool, AllocError> {
+    fn append(&mut self, kind: CallKind, ok: bool) -> bool {
         match (kind, self.place) {
-            (CallKind::Write, LastCall::Rest | LastCall::CopySynced) => return self.write_block(
-                alloc,
-            ),
+            (CallKind::Write, LastCall::Rest | LastCall::CopySynced) => return self.write_block(),
             (CallKind::Write, LastCall::BlockSynced(to)) => {
                 let (gate, _) = self.read();
                 self.write(gate, &[1]);
@@ -400,9 +364,9 @@ impl SlowWorld {
                     self.stored = to;
                 }
             }
-            _ => return Ok(false),
+            _ => return false,
         }
-        Ok(true)
+        true
     }
 
     fn open_call(&mut self, kind: CallKind) -> bool {
@@ -430,14 +394,14 @@ impl SlowWorld {
         true
     }
 
-    pub(crate) fn device(&mut self, alloc: Global, call: Call) -> Result<bool, AllocError> {
+    pub(crate) fn device(&mut self, call: Call) -> bool {
         let done = match call.list {
-            CallList::Append => self.append(alloc, call.kind, call.ok)?,
+            CallList::Append => self.append(call.kind, call.ok),
             CallList::Open => self.open_call(call.kind),
-            CallList::Snapshot | CallList::Switch => self.compact(alloc, call)?,
+            CallList::Snapshot | CallList::Switch => self.compact(call),
         };
         if !done {
-            return Ok(false);
+            return false;
         }
         if call.list == CallList::Open && self.is_running() {
             self.phase = Period::Reopening;
@@ -447,7 +411,7 @@ impl SlowWorld {
         } else if call.kind == CallKind::Sync {
             self.unsynced = (0, 0);
         }
-        Ok(true)
+        true
     }
 
     pub(crate) fn open(&mut self) -> bool {
@@ -455,15 +419,7 @@ impl SlowWorld {
             return false;
         }
         let (_, count) = self.read();
-        self.base = count;
-        self.taken = count;
-        self.stored = count;
-        self.mark = count;
-        self.ready.clear();
-        for seat in self.seats.iter_mut() {
-            seat.own.clear();
-            seat.seen = count;
-        }
+        self.restart(count);
         self.phase = Period::Running;
         self.place = LastCall::Rest;
         true

@@ -4,7 +4,6 @@
 use crate::schedules::{append, claim, open};
 use frame_core::Bytes;
 use std::alloc::{AllocError, Global};
-use std::mem;
 use std::process::Abort;
 use std::test::Fail;
 use world_core::{CallKind, Event, World};
@@ -46,129 +45,125 @@ fn is_rising(turns: &[u8]) -> bool {
     true
 }
 
-// What has become of a schedule so far.
-#[derive(Drop)]
-struct Run {
-    world: World,
-    // The turns of session 0 and of the flusher.
+// How far a schedule is.
+#[derive(Clone, Copy)]
+struct SoFar {
+    // The turns that session 0 and the flusher have had.
     done: [usize; 2],
-    // The bytes that the last sync left.
-    synced: Vec<u8>,
     // Whether a block's gate is written and not synced.
     gated: bool,
 }
 
-impl Run {
-    fn new(alloc: Global) -> Result<Run, AllocError> {
-        let world = World::new(alloc, 4_096)?;
-        match Vec::from_slice(alloc, world.content()) {
-            Ok(synced) => Ok(Run {
-                world,
-                done: [0; 2],
-                synced,
-                gated: false,
-            }),
-            Err(fault) => {
-                drop(world);
-                Err(fault)
-            }
+// Keeps the bytes that a sync left.
+fn keep(world: &World, synced: &mut Vec<u8>) -> Result<(), AllocError> {
+    synced.clear();
+    synced.extend_from_slice(world.content())
+}
+
+// A turn of the flusher, of which one is a single event.
+fn flusher(
+    world: &mut World,
+    synced: &mut Vec<u8>,
+    gated: &mut bool,
+    step: usize,
+) -> Result<(), AllocError> {
+    match step {
+        0 | 1 => {
+            world.apply(Event::Take)?;
+        }
+        2 => {
+            append(world, CallKind::Write)?;
+        }
+        4 => *gated = append(world, CallKind::Write)?,
+        _ => {
+            append(world, CallKind::Sync)?;
+            keep(world, synced)?;
+            *gated = false;
         }
     }
+    Ok(())
+}
 
-    fn flusher(&mut self, alloc: Global, step: usize) -> Result<(), AllocError> {
-        match step {
-            0 | 1 => {
-                self.world.apply(Event::Take)?;
-            }
-            2 => {
-                append(&mut self.world, CallKind::Write)?;
-            }
-            4 => self.gated = append(&mut self.world, CallKind::Write)?,
-            _ => {
-                append(&mut self.world, CallKind::Sync)?;
-                let synced = Vec::from_slice(alloc, self.world.content())?;
-                drop(mem::replace(&mut self.synced, synced));
-                self.gated = false;
-            }
-        }
-        Ok(())
-    }
-
-    fn session(&mut self, seat: usize, step: usize) -> Result<bool, AllocError> {
-        match step {
-            0 => claim(&mut self.world, seat),
-            _ => self.world.apply(Event::Ready(seat)),
-        }
-    }
-
-    fn turn(&mut self, rt: &impl Abort, alloc: Global, turn: u8) -> Result<(), AllocError> {
-        let possible = match turn {
-            0 => {
-                let step = self.done[0];
-                self.done[0] = step.saturating_add(1);
-                self.session(0, step)?
-            }
-            1 => self.session(1, 0)? && self.session(1, 1)?,
-            _ => {
-                let step = self.done[1];
-                self.done[1] = step.saturating_add(1);
-                self.flusher(alloc, step)?;
-                true
-            }
-        };
-        assert!(rt; possible);
-        Ok(())
-    }
-
-    // The first and the last place where the disk differs from what the last sync left.
-    fn unsynced(&self) -> (usize, usize) {
-        let content = self.world.content();
-        let mut from = content.len();
-        let mut to = 0;
-        for (i, old) in self.synced.iter().enumerate() {
-            if i < content.len() && content[i] != *old {
-                from = from.min(i);
-                to = i;
-            }
-        }
-        (from, to)
-    }
-
-    // The disk after a stop: what is unsynced, and what lies between, becomes the fill, or what was there.
-    fn image(&self, alloc: Global, fill: Option<u8>) -> Result<Vec<u8>, AllocError> {
-        let (from, to) = self.unsynced();
-        let mut image = Vec::from_slice(alloc, self.world.content())?;
-        for (i, old) in self.synced.iter().enumerate() {
-            if i >= from && i <= to && i < image.len() {
-                image[i] = fill.unwrap_or(*old);
-            }
-        }
-        Ok(image)
-    }
-
-    // The base after a stop.
-    fn wanted(&self, fill: Option<u8>) -> u64 {
-        if self.gated && fill == Some(1) {
-            self.world.taken()
-        } else {
-            self.world.stored()
-        }
-    }
-
-    fn crash(&mut self, alloc: Global, fill: Option<u8>) -> Result<bool, AllocError> {
-        let image = self.image(alloc, fill)?;
-        self.world.apply(Event::Crash(Bytes::new(image)))
+// A turn of session 0.
+fn session(world: &mut World, step: usize) -> Result<bool, AllocError> {
+    match step {
+        0 => claim(world, 0),
+        _ => world.apply(Event::Ready(0)),
     }
 }
 
+// Takes a turn, and answers whether it was possible.
+fn take_turn(
+    world: &mut World,
+    synced: &mut Vec<u8>,
+    so_far: &mut SoFar,
+    turn: u8,
+) -> Result<bool, AllocError> {
+    let [own, flushed] = so_far.done;
+    match turn {
+        0 => {
+            so_far.done = [own.saturating_add(1), flushed];
+            session(world, own)
+        }
+        1 => Ok(claim(world, 1)? && world.apply(Event::Ready(1))?),
+        _ => {
+            so_far.done = [own, flushed.saturating_add(1)];
+            flusher(world, synced, &mut so_far.gated, flushed)?;
+            Ok(true)
+        }
+    }
+}
+
+// The first and the last place where the disk differs from what the last sync left.
+fn unsynced(content: &[u8], synced: &[u8]) -> (usize, usize) {
+    let mut from = content.len();
+    let mut to = 0;
+    for (i, old) in synced.iter().enumerate() {
+        if i < content.len() && content[i] != *old {
+            from = from.min(i);
+            to = i;
+        }
+    }
+    (from, to)
+}
+
+// The disk after a stop: what is unsynced, and what lies between, becomes the fill, or what was there.
+fn image(
+    alloc: Global,
+    content: &[u8],
+    synced: &[u8],
+    fill: Option<u8>,
+) -> Result<Vec<u8>, AllocError> {
+    let (from, to) = unsynced(content, synced);
+    let mut image = Vec::from_slice(alloc, content)?;
+    for (i, old) in synced.iter().enumerate() {
+        if i >= from && i <= to && i < image.len() {
+            image[i] = fill.unwrap_or(*old);
+        }
+    }
+    Ok(image)
+}
+
 // Stops and opens: all that is stored is there, and so is a block whose gate is not synced, if the gate is 1.
-fn stop(rt: &impl Abort, alloc: Global, run: &mut Run, fill: Option<u8>) -> Result<(), AllocError> {
-    let wanted = run.wanted(fill);
-    let stopped = run.crash(alloc, fill)?;
-    let seen = run.world.apply(Event::Look(0))?;
-    let opened = open(&mut run.world)?;
+fn stop(
+    rt: &impl Abort,
+    alloc: Global,
+    world: &mut World,
+    synced: &[u8],
+    gated: bool,
+    fill: Option<u8>,
+) -> Result<(), AllocError> {
+    let wanted = if gated && fill == Some(1) {
+        world.taken()
+    } else {
+        world.stored()
+    };
+    let image = image(alloc, world.content(), synced, fill)?;
+    let stopped = world.apply(Event::Crash(Bytes::new(image)))?;
+    let seen = world.apply(Event::Look(0))?;
+    let opened = open(world)?;
     assert_eq!(rt;
-        (stopped, seen, opened, run.world.base()),
+        (stopped, seen, opened, world.base()),
         (true, false, true, wanted),
         "{fill:?}"
     );
@@ -179,28 +174,73 @@ fn stop(rt: &impl Abort, alloc: Global, run: &mut Run, fill: Option<u8>) -> Resu
 fn run_turns(
     rt: &impl Abort,
     alloc: Global,
-    run: &mut Run,
+    world: &mut World,
+    synced: &mut Vec<u8>,
     turns: &[u8],
     fill: Option<u8>,
 ) -> Result<bool, AllocError> {
+    let mut so_far = SoFar {
+        done: [0; 2],
+        gated: false,
+    };
+    keep(world, synced)?;
     for turn in turns {
-        run.turn(rt, alloc, *turn)?;
+        let possible = take_turn(world, synced, &mut so_far, *turn)?;
+        assert!(rt; possible);
     }
-    let unsynced = run.world.content() != run.synced.as_slice();
-    stop(rt, alloc, run, fill)?;
+    let unsynced = world.content() != synced.as_slice();
+    stop(rt, alloc, world, synced, so_far.gated, fill)?;
     Ok(unsynced)
 }
 
 fn check(
     rt: &impl Abort,
     alloc: Global,
+    synced: &mut Vec<u8>,
     turns: &[u8],
     fill: Option<u8>,
 ) -> Result<bool, AllocError> {
-    let mut run = Run::new(alloc)?;
-    let unsynced = run_turns(rt, alloc, &mut run, turns, fill);
-    drop(run);
-    unsynced
+    match World::new(alloc, 4_096) {
+        Ok(mut world) => {
+            let unsynced = run_turns(rt, alloc, &mut world, synced, turns, fill);
+            drop(world);
+            unsynced
+        }
+        Err(refused) => Err(refused),
+    }
+}
+
+// Stops after each device call of a schedule, unless another with the same beginning does, and counts the stops.
+fn check_each(
+    rt: &impl Abort,
+    alloc: Global,
+    synced: &mut Vec<u8>,
+    turns: &Turns,
+) -> Result<u64, AllocError> {
+    let mut stops = 0_u64;
+    for end in 1..10 {
+        if turns_for(&turns[..end], 2) < 3 || turns[end - 1] != 2 || !is_rising(&turns[end..]) {
+            continue;
+        }
+        if check(rt, alloc, synced, &turns[..end], None)? {
+            for fill in [0, 1, 0x37] {
+                check(rt, alloc, synced, &turns[..end], Some(fill))?;
+            }
+        }
+        stops = stops.saturating_add(1);
+    }
+    Ok(stops)
+}
+
+fn check_all(rt: &impl Abort, alloc: Global, synced: &mut Vec<u8>) -> Result<u64, AllocError> {
+    let mut stops = 0_u64;
+    for number in 0..19_683 {
+        let turns = turns_of(number);
+        if turns_for(&turns, 0) == 2 && turns_for(&turns, 1) == 1 {
+            stops = stops.saturating_add(check_each(rt, alloc, synced, &turns)?);
+        }
+    }
+    Ok(stops)
 }
 
 // How many beginnings of schedules end with a device call.
@@ -208,25 +248,9 @@ const STOPS: u64 = 559;
 
 #[test]
 fn a_stop_leaves_all_that_is_stored(rt: HostRuntime) -> Result<(), Fail> {
-    let alloc = rt.alloc();
-    let mut stops = 0_u64;
-    for number in 0..19_683 {
-        let turns = turns_of(number);
-        if turns_for(&turns, 0) != 2 || turns_for(&turns, 1) != 1 {
-            continue;
-        }
-        for end in 1..10 {
-            if turns_for(&turns[..end], 2) < 3 || turns[end - 1] != 2 || !is_rising(&turns[end..]) {
-                continue;
-            }
-            if check(&rt, alloc, &turns[..end], None)? {
-                for fill in [0, 1, 0x37] {
-                    check(&rt, alloc, &turns[..end], Some(fill))?;
-                }
-            }
-            stops = stops.saturating_add(1);
-        }
-    }
-    assert_eq!(rt; stops, STOPS);
+    let mut synced = Vec::new(rt.alloc());
+    let stops = check_all(&rt, rt.alloc(), &mut synced);
+    drop(synced);
+    assert_eq!(rt; stops?, STOPS);
     Ok(())
 }
