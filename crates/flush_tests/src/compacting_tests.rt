@@ -63,6 +63,12 @@ fn a_compaction_is_written_in_pieces(rt: HostRuntime) -> Result<(), Fail> {
     Ok(())
 }
 
+// What is shown, but not how much is used.
+fn shown_but_used(shown: Option<[u64; 5]>) -> Option<[u64; 4]> {
+    let [version, area, _, count, held] = shown?;
+    Some([version, area, count, held])
+}
+
 // The opening formatted area 0 and wrote area 1, so the first compaction writes area 0. A stop between the selector's write and its
 // sync leaves any byte there: an even one names area 0, an odd one area 1.
 fn expect_any_selector(rt: &impl Abort, alloc: Global, findings: &mut Findings) {
@@ -75,11 +81,7 @@ fn expect_any_selector(rt: &impl Abort, alloc: Global, findings: &mut Findings) 
             ..trial
         };
         try_out(alloc, trial, findings);
-        let is_shown = match findings.shown {
-            Some([version, live, _, count, held]) => [version, live, count, held]
-                == [2, area, 3, 0],
-            None => false,
-        };
+        let is_shown = shown_but_used(findings.shown) == Some([2, area, 3, 0]);
         assert!(rt; is_shown, "{selector}");
     }
 }

@@ -52,7 +52,7 @@ fn expect_a_hundred(rt: &impl Abort, alloc: Global, findings: &mut Findings) {
     };
     try_out(alloc, trial, findings);
     let count = match findings.shown {
-        Some([_, _, _, count, _]) => count,
+        Some(shown) => shown[3],
         None => 0,
     };
     assert_eq!(rt; count, 102);
