@@ -1,8 +1,8 @@
-use crate::clients::Client;
-use crate::rooms::Room;
+use crate::clients::Guest;
+use crate::rooms::{Cue, play};
+use crate::says::Say;
 use crate::texts::{CONNECT, CONNECTED, DISCONNECT, RECEIPT, SECOND_RECEIPT, SEND};
-use std::alloc::{AllocError, Global};
-use std::test::Fail;
+use std::alloc::Global;
 
 // A session with no client's name has 8 bytes of its number and 1 that says so: 9.
 //
@@ -17,188 +17,143 @@ const LARGEST: usize = 8_149;
 // has 8,102 they have 8,192.
 const LARGEST_BESIDE: usize = 8_102;
 
-const NAMED_CONNECT: &[u8] = b"CONNECT\naccept-version:1.2\nclient-id:abc\n\n\0";
+const NAMED: Say<'static> = Say::Text(b"CONNECT\naccept-version:1.2\nclient-id:abc\n\n\0");
 
-const DURABLE: &[u8] = b"SUBSCRIBE\nid:d\ndestination:/topic/a\nactivemq.subscriptionName:n\n\n\0";
+const DURABLE: Say<'static> = Say::Text(
+    b"SUBSCRIBE\nid:d\ndestination:/topic/a\nactivemq.subscriptionName:n\n\n\0",
+);
 
 // The subscription ends, and the name stays.
-const DURABLE_END: &[u8] = b"UNSUBSCRIBE\nid:d\n\n\0";
+const DURABLE_END: Say<'static> = Say::Text(b"UNSUBSCRIBE\nid:d\n\n\0");
 
-const RECEIPTS: &[&[u8]] = &[CONNECTED, RECEIPT, SECOND_RECEIPT];
+// Plain subscriptions with ids of so many bytes.
+const FRONT: &[u8] = b"SUBSCRIBE\nid:";
 
-// A frame with an id of so many bytes.
-fn with_id(alloc: Global, front: &[u8], length: usize, rest: &[u8]) -> Result<Vec<u8>, AllocError> {
-    let mut text = Vec::from_slice(alloc, front)?;
-    for _ in 0..length {
-        text.push(b'x')?;
-    }
-    text.extend_from_slice(rest)?;
-    Ok(text)
-}
+const BACK: &[u8] = b"\ndestination:/topic/a\n\n\0";
 
-fn subscribe(alloc: Global, length: usize) -> Result<Vec<u8>, AllocError> {
-    with_id(
-        alloc,
-        b"SUBSCRIBE\nid:",
-        length,
-        b"\ndestination:/topic/a\n\n\0",
-    )
-}
+const LARGE: Say<'static> = Say::Filled(FRONT, LARGEST, BACK);
 
-fn unsubscribe(alloc: Global, length: usize) -> Result<Vec<u8>, AllocError> {
-    with_id(alloc, b"UNSUBSCRIBE\nid:", length, b"\n\n\0")
-}
+const TOO_LARGE: Say<'static> = Say::Filled(FRONT, LARGEST + 1, BACK);
 
-// What became of a client that says these: how many commands were carried out, the code with which it was closed, and whether it
-// heard these.
-type Came = (u64, Option<u16>, bool);
+const LARGE_END: Say<'static> = Say::Filled(b"UNSUBSCRIBE\nid:", LARGEST, b"\n\n\0");
 
-fn run(alloc: Global, texts: &[&[u8]], wanted: &[&[u8]]) -> Option<Came> {
-    let client = Client::new(alloc, texts, 0)?;
-    let mut room = Room::with_areas(alloc, 262_144)?;
-    let sits = room.admit(alloc, 0, client);
-    room.go_round(alloc, 60);
-    let count = room.count();
-    let came = match room.dismiss(0) {
-        Some(client) => {
-            let came = (client.code(), client.heard(wanted));
-            drop(client);
-            Some(came)
-        }
-        None => None,
-    };
-    drop(room);
-    let (code, right) = came?;
-    if sits {
-        Some((count?, code, right))
-    } else {
-        None
-    }
-}
+// The same in one message with all that is said before and after it. Of that the DISCONNECT was heard by then.
+const FRONT_AT_ONCE: &[u8] = b"CONNECT\naccept-version:1.2\n\n\0SUBSCRIBE\nid:";
 
-// One whose subscription has an id of so many bytes, and that sends a message and goes.
-fn run_once(alloc: Global, length: usize, wanted: &[&[u8]]) -> Option<Came> {
-    let large = subscribe(alloc, length).ok()?;
-    run(
-        alloc,
-        &[CONNECT, large.as_slice(), SEND, DISCONNECT],
-        wanted,
-    )
-}
+const BACK_AT_ONCE: &[u8] = b"\ndestination:/topic/a\n\n\0\
+SEND\ndestination:/queue/a\nreceipt:r1\n\nhi\0DISCONNECT\nreceipt:r2\n\n\0";
 
-#[test]
-fn a_session_of_8192_bytes_goes_on(rt: HostRuntime) -> Result<(), Fail> {
-    assert_eq!(rt;
-        run_once(rt.alloc(), LARGEST, RECEIPTS),
-        Some((4, Some(1000), true))
-    );
-    Ok(())
-}
+const RECEIPTS: &[Say<'static>] = &[CONNECTED, RECEIPT, SECOND_RECEIPT];
 
-// The Open and the End are carried out: nothing of the subscription, and of what comes behind it. The CONNECTED, which waits by then, is
-// not sent any more.
-#[test]
-fn a_session_of_8193_bytes_is_ended(rt: HostRuntime) -> Result<(), Fail> {
-    assert_eq!(rt;
-        run_once(rt.alloc(), LARGEST + 1, &[]),
-        Some((2, Some(1001), true))
-    );
-    Ok(())
-}
+// What a client says, how many commands are carried out, the code with which it is closed, and what it hears.
+type Budget = (&'static [Say<'static>], u64, u16, &'static [Say<'static>]);
 
-// The same in one message, whose DISCONNECT the session has heard by then.
-fn run_at_once(alloc: Global, length: usize, wanted: &[&[u8]]) -> Option<Came> {
-    let large = subscribe(alloc, length).ok()?;
-    let mut all = Vec::from_slice(alloc, CONNECT).ok()?;
-    for text in [large.as_slice(), SEND, DISCONNECT] {
-        all.extend_from_slice(text).ok()?;
-    }
-    run(alloc, &[all.as_slice()], wanted)
-}
-
-#[test]
-fn what_stands_behind_it_in_one_message_is_dropped(rt: HostRuntime) -> Result<(), Fail> {
-    assert_eq!(rt;
-        run_at_once(rt.alloc(), LARGEST, RECEIPTS),
-        Some((4, Some(1000), true))
-    );
-    assert_eq!(rt;
-        run_at_once(rt.alloc(), LARGEST + 1, &[]),
-        Some((2, Some(1001), true))
-    );
-    Ok(())
-}
-
-// A client with a name and a durable subscription, and a plain one beside it.
-fn run_named(alloc: Global, length: usize, wanted: &[&[u8]]) -> Option<Came> {
-    let large = subscribe(alloc, length).ok()?;
-    run(
-        alloc,
-        &[NAMED_CONNECT, DURABLE, large.as_slice(), SEND, DISCONNECT],
-        wanted,
-    )
-}
-
-#[test]
-fn names_count_too(rt: HostRuntime) -> Result<(), Fail> {
-    assert_eq!(rt;
-        run_named(rt.alloc(), LARGEST_BESIDE, RECEIPTS),
-        Some((5, Some(1000), true))
-    );
-    assert_eq!(rt;
-        run_named(rt.alloc(), LARGEST_BESIDE + 1, &[CONNECTED]),
-        Some((3, Some(1001), true))
-    );
-    Ok(())
-}
-
-// A durable subscription that has ended leaves room for one of 40 bytes more.
-fn run_ended(alloc: Global, length: usize, wanted: &[&[u8]]) -> Option<Came> {
-    let large = subscribe(alloc, length).ok()?;
-    run(
-        alloc,
+const BUDGETS: &[Budget] = &[
+    // A session of 8,192 bytes goes on.
+    (&[CONNECT, LARGE, SEND, DISCONNECT], 4, 1000, RECEIPTS),
+    // One of 8,193 is ended. The Open and the End are carried out: nothing of the subscription, and of what comes behind it. The CONNECTED,
+    // which waits by then, is not sent any more.
+    (&[CONNECT, TOO_LARGE, SEND, DISCONNECT], 2, 1001, &[]),
+    // What stands behind it in one message is dropped.
+    (
+        &[Say::Filled(FRONT_AT_ONCE, LARGEST, BACK_AT_ONCE)],
+        4,
+        1000,
+        RECEIPTS,
+    ),
+    (
+        &[Say::Filled(FRONT_AT_ONCE, LARGEST + 1, BACK_AT_ONCE)],
+        2,
+        1001,
+        &[],
+    ),
+    // Names count too.
+    (
         &[
-            NAMED_CONNECT,
+            NAMED,
             DURABLE,
-            DURABLE_END,
-            large.as_slice(),
+            Say::Filled(FRONT, LARGEST_BESIDE, BACK),
             SEND,
             DISCONNECT,
         ],
-        wanted,
-    )
-}
+        5,
+        1000,
+        RECEIPTS,
+    ),
+    (
+        &[
+            NAMED,
+            DURABLE,
+            Say::Filled(FRONT, LARGEST_BESIDE + 1, BACK),
+            SEND,
+            DISCONNECT,
+        ],
+        3,
+        1001,
+        &[CONNECTED],
+    ),
+    // A durable subscription that has ended leaves room for one of 40 bytes more.
+    (
+        &[
+            NAMED,
+            DURABLE,
+            DURABLE_END,
+            Say::Filled(FRONT, LARGEST_BESIDE + 40, BACK),
+            SEND,
+            DISCONNECT,
+        ],
+        6,
+        1000,
+        RECEIPTS,
+    ),
+    (
+        &[
+            NAMED,
+            DURABLE,
+            DURABLE_END,
+            Say::Filled(FRONT, LARGEST_BESIDE + 41, BACK),
+            SEND,
+            DISCONNECT,
+        ],
+        4,
+        1001,
+        &[CONNECTED],
+    ),
+    // One subscribes with all that it may, and ends that, twelve times.
+    (
+        &[
+            CONNECT, LARGE, LARGE_END, LARGE, LARGE_END, LARGE, LARGE_END, LARGE, LARGE_END, LARGE,
+            LARGE_END, LARGE, LARGE_END, LARGE, LARGE_END, LARGE, LARGE_END, LARGE, LARGE_END,
+            LARGE, LARGE_END, LARGE, LARGE_END, LARGE, LARGE_END, SEND, DISCONNECT,
+        ],
+        27,
+        1000,
+        RECEIPTS,
+    ),
+];
 
-#[test]
-fn an_unsubscribe_gives_its_part_back(rt: HostRuntime) -> Result<(), Fail> {
-    assert_eq!(rt;
-        run_ended(rt.alloc(), LARGEST_BESIDE + 40, RECEIPTS),
-        Some((6, Some(1000), true))
-    );
-    assert_eq!(rt;
-        run_ended(rt.alloc(), LARGEST_BESIDE + 41, &[CONNECTED]),
-        Some((4, Some(1001), true))
-    );
-    Ok(())
-}
-
-// Subscribes with all that it may, and ends that, twelve times.
-fn run_churn(alloc: Global) -> Option<Came> {
-    let begin = subscribe(alloc, LARGEST).ok()?;
-    let end = unsubscribe(alloc, LARGEST).ok()?;
-    let mut texts: Vec<&[u8]> = Vec::new(alloc);
-    texts.push(CONNECT).ok()?;
-    for _ in 0..12u32 {
-        texts.push(begin.as_slice()).ok()?;
-        texts.push(end.as_slice()).ok()?;
+// The first client of which something else comes; `None` if memory is refused.
+fn first_wrong(alloc: Global) -> Option<Option<usize>> {
+    for (i, (says, count, code, hears)) in BUDGETS.iter().enumerate() {
+        let guest = Guest {
+            says: *says,
+            stuck: 0,
+            short: 0,
+        };
+        let cues = [
+            Cue::Comes(0, guest),
+            Cue::Rounds(60),
+            Cue::Counts(*count),
+            Cue::Goes(0, Some(*code), *hears),
+        ];
+        if play(alloc, 262_144, &cues)?.is_some() {
+            return Some(Some(i));
+        }
     }
-    texts.push(SEND).ok()?;
-    texts.push(DISCONNECT).ok()?;
-    run(alloc, texts.as_slice(), RECEIPTS)
+    Some(None)
 }
 
 #[test]
-fn subscribing_and_ending_it_in_turn_goes_on(rt: HostRuntime) -> Result<(), Fail> {
-    assert_eq!(rt; run_churn(rt.alloc()), Some((27, Some(1000), true)));
-    Ok(())
+fn a_session_of_8192_bytes_goes_on_and_a_larger_one_is_ended(rt: HostRuntime) {
+    assert_eq!(rt; first_wrong(rt.alloc()), Some(None));
 }

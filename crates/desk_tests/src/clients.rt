@@ -1,11 +1,19 @@
 //! Clients in memory.
 
-use crate::texts::CONNECTED;
+use crate::says::{Say, bytes_of, is_said};
 use claim_core::Released;
 use session_core::Notice;
 use std::alloc::{AllocError, Global};
 use std::cell::Cell;
 use ws_core::{CloseReason, Link, LinkFault, MemLink, Outgoing, Received};
+
+/// What a client says, for how many flushes its stream takes nothing, and how often it is refused memory for what it sends.
+#[derive(Clone, Copy)]
+pub struct Guest<'a> {
+    pub says: &'a [Say<'a>],
+    pub stuck: u64,
+    pub short: u64,
+}
 
 /// A link in memory whose stream takes nothing for a while: from its first flush on, for so many more. At first it may be refused memory for
 /// what it sends. It keeps the code with which it is closed.
@@ -19,33 +27,29 @@ pub struct Client {
 }
 
 impl Client {
-    /// One that says these messages.
-    pub fn new(alloc: Global, texts: &[&[u8]], stuck: u64) -> Option<Client> {
-        match messages_of(alloc, texts) {
-            Ok(messages) => Some(Client {
+    /// That guest's.
+    pub fn new(alloc: Global, guest: &Guest) -> Option<Client> {
+        let mut messages = Vec::new(alloc);
+        match put_messages(alloc, &mut messages, guest.says) {
+            Ok(()) => Some(Client {
                 link: MemLink::new(alloc, messages),
-                stuck,
+                stuck: guest.stuck,
                 held_up: false,
-                short: Cell::new(0),
+                short: Cell::new(guest.short),
                 code: None,
             }),
             Err(_) => None,
         }
     }
 
-    /// It is refused memory for what it sends, so many times.
-    pub fn run_short(&self, times: u64) {
-        self.short.set(times);
-    }
-
-    /// Whether it heard these messages, and no other: of one that ends with the head's first line the rest is any.
-    pub fn heard(&self, wanted: &[&[u8]]) -> bool {
+    /// Whether it heard these messages, and no other.
+    pub fn heard(&self, wanted: &[Say]) -> bool {
         let sent = self.link.sent();
         if sent.len() != wanted.len() {
             return false;
         }
-        for (message, text) in sent.iter().zip(wanted) {
-            if !is_like(message.as_slice(), text) {
+        for (message, say) in sent.iter().zip(wanted) {
+            if !is_said(message.as_slice(), *say) {
                 return false;
             }
         }
@@ -58,26 +62,15 @@ impl Client {
     }
 }
 
-// Whether it is that message; of a CONNECTED, whose session's number is another each time, the command counts alone.
-fn is_like(message: &[u8], text: &[u8]) -> bool {
-    if text == CONNECTED {
-        message.starts_with(text)
-    } else {
-        message == text
+fn put_messages(
+    alloc: Global,
+    messages: &mut Vec<Vec<u8>>,
+    says: &[Say],
+) -> Result<(), AllocError> {
+    for say in says {
+        messages.reserve(1)?;
+        messages.push_reserved(bytes_of(alloc, *say)?);
     }
-}
-
-fn messages_of(alloc: Global, texts: &[&[u8]]) -> Result<Vec<Vec<u8>>, AllocError> {
-    let mut messages = Vec::new(alloc);
-    for text in texts {
-        push_text(alloc, &mut messages, text)?;
-    }
-    Ok(messages)
-}
-
-fn push_text(alloc: Global, messages: &mut Vec<Vec<u8>>, text: &[u8]) -> Result<(), AllocError> {
-    messages.reserve(1)?;
-    messages.push_reserved(Vec::from_slice(alloc, text)?);
     Ok(())
 }
 

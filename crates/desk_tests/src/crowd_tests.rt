@@ -1,68 +1,56 @@
-ghost use Rattle.std.specs.Prelude.{◌≡◌, ◌+◌, ◌∷◌, [], ◌≤◌, ◌<◌, IfSome, All, length, vec_capacity, false};
+ghost use Rattle.std.specs.Prelude.{◌≡◌, ◌+◌, ◌≤◌, ◌<◌, [], vec_capacity, false};
 ghost use Rattle.flush_core.specs.Flushed.{Flushed};
 ghost use Rattle.engine_core.specs.Hubs.{IsWhole};
 ghost use Rattle.desk_tests.specs.Crowds.{AreFour, IsAt};
 
-use crate::clients::Client;
-use crate::rooms::{Free, HubFlusher, HubRing, HubSeat, MemDesk, MemHub, new_hub};
+use crate::clients::{Client, Guest};
+use crate::rooms::{
+    Free, HubFlusher, HubRing, HubSeat, MemDesk, MemHub, close, close_unused, new_hub, take_seat,
+};
+use crate::says::Say;
 use crate::texts::{CONNECT, CONNECTED};
 use desk_core::{Desk, Next, Turned};
-use disk_core::MemDisk;
-use engine_core::{Closed, flush_loop};
+use engine_core::flush_loop;
 use outbox_core::Silent;
 use std::alloc::Global;
-use std::test::Fail;
 use std::thread::{self, Threads, join_mut};
 use std::time::{Clock, Duration};
 
 // How many clients each of four desks has.
 const CLIENTS: u32 = 48;
 
-// A frame with a receipt of three digits, from `text` on: the number stands at that place.
-fn numbered(alloc: Global, front: &[u8], number: u32, rest: &[u8]) -> Option<Vec<u8>> {
-    let mut text = Vec::new(alloc);
-    text.extend_from_slice(front).ok()?;
-    text.extend_from_slice(&digits(number)).ok()?;
-    text.extend_from_slice(rest).ok()?;
-    Some(text)
-}
-
-fn digits(number: u32) -> [u8; 3] {
-    [digit(number / 100), digit(number / 10), digit(number)]
-}
-
-fn digit(number: u32) -> u8 {
-    b'0' + (number % 10) as u8
-}
-
-// A client that sends one message and goes, with receipts of its own number.
-fn client_of(alloc: Global, number: u32) -> Option<Client> {
-    let send = numbered(
-        alloc,
-        b"SEND\ndestination:/topic/a\nreceipt:s",
-        number,
-        b"\n\n\0",
-    )?;
-    let last = numbered(alloc, b"DISCONNECT\nreceipt:d", number, b"\n\n\0")?;
-    Client::new(alloc, &[CONNECT, send.as_slice(), last.as_slice()], 0)
-}
-
-// Whether it heard its own receipts, each once, and nothing else.
-fn has_heard(alloc: Global, client: &Client, number: u32) -> Option<bool> {
-    let sent = numbered(alloc, b"RECEIPT\nreceipt-id:s", number, b"\n\n\0")?;
-    let last = numbered(alloc, b"RECEIPT\nreceipt-id:d", number, b"\n\n\0")?;
-    Some(client.heard(&[CONNECTED, sent.as_slice(), last.as_slice()]))
-}
-
+// Each sends one message and goes, with receipts of its own number.
 fn admit_all(alloc: Global, desk: &mut MemDesk, first: u32)
     requires { first < 1000 }
     ensures { desk.new.seat.ring ≡ desk.old.seat.ring }
 {
     for i in 0..CLIENTS {
-        if let Some(client) = client_of(alloc, first + i) {
+        let guest = Guest {
+            says: &[
+                CONNECT,
+                Say::Numbered(
+                    b"SEND\ndestination:/topic/a\nreceipt:s",
+                    first + i,
+                    b"\n\n\0",
+                ),
+                Say::Numbered(b"DISCONNECT\nreceipt:d", first + i, b"\n\n\0"),
+            ],
+            stuck: 0,
+            short: 0,
+        };
+        if let Some(client) = Client::new(alloc, &guest) {
             let _ = desk.admit(alloc, i as usize, client);
         }
     }
+}
+
+// Whether it heard its own receipts, each once, and nothing else.
+fn has_heard(client: &Client, number: u32) -> bool {
+    client.heard(&[
+        CONNECTED,
+        Say::Numbered(b"RECEIPT\nreceipt-id:s", number, b"\n\n\0"),
+        Say::Numbered(b"RECEIPT\nreceipt-id:d", number, b"\n\n\0"),
+    ])
 }
 
 // A turn of each; how many have ended.
@@ -99,7 +87,33 @@ fn serve<R: Clock>(rt: &R, alloc: Global, ring: &HubRing, desk: &mut MemDesk)
     }
 }
 
-// Serves so many clients at a desk, and answers how many heard what they should.
+fn count_right(desk: &mut MemDesk, first: u32) -> u32
+    requires { first < 1000 }
+    ensures { desk.new.seat.ring ≡ desk.old.seat.ring }
+{
+    let mut right = 0u32;
+    for i in 0..CLIENTS {
+        if let Some(client) = desk.dismiss(i as usize) {
+            if has_heard(&client, first + i) {
+                right = right.saturating_add(1);
+            }
+            drop(client);
+        }
+    }
+    right
+}
+
+fn serve_all<R: Clock>(rt: &R, alloc: Global, ring: &HubRing, desk: &mut MemDesk, first: u32) -> u32
+    requires ring { desk.old.seat.ring ≡ ring.now }
+    requires first { first < 1000 }
+    ensures { desk.new.seat.ring ≡ desk.old.seat.ring }
+{
+    admit_all(alloc, desk, first);
+    serve(rt, alloc, ring, desk);
+    count_right(desk, first)
+}
+
+// Serves so many clients at a desk, and answers how many heard what they should. Seats go to other threads, and desks do not.
 fn work<R: Clock>(
     rt: &R,
     alloc: Global,
@@ -119,75 +133,6 @@ fn work<R: Clock>(
             right
         }
         None => 0,
-    }
-}
-
-fn serve_all<R: Clock>(rt: &R, alloc: Global, ring: &HubRing, desk: &mut MemDesk, first: u32) -> u32
-    requires ring { desk.old.seat.ring ≡ ring.now }
-    requires first { first < 1000 }
-    ensures { desk.new.seat.ring ≡ desk.old.seat.ring }
-{
-    admit_all(alloc, desk, first);
-    serve(rt, alloc, ring, desk);
-    count_right(alloc, desk, first)
-}
-
-fn count_right(alloc: Global, desk: &mut MemDesk, first: u32) -> u32
-    requires { first < 1000 }
-    ensures { desk.new.seat.ring ≡ desk.old.seat.ring }
-{
-    let mut right = 0u32;
-    for i in 0..CLIENTS {
-        if let Some(client) = desk.dismiss(i as usize) {
-            if has_heard(alloc, &client, first + i) == Some(true) {
-                right = right.saturating_add(1);
-            }
-            drop(client);
-        }
-    }
-    right
-}
-
-// A hub, four of its seats, and its flusher. Tests own these here alone, and lend them.
-#[derive(Drop)]
-struct Crowd {
-    hub: MemHub,
-    first: Option<HubSeat>,
-    second: Option<HubSeat>,
-    third: Option<HubSeat>,
-    fourth: Option<HubSeat>,
-    flusher: HubFlusher,
-}
-
-// The next seat.
-fn take_seat(hub: &mut MemHub) -> Option<HubSeat>
-    requires { 0 < length hub.old.seats }
-    ensures seat { IsAt hub.new.ring result }
-    ensures count { length hub.new.seats + 1 ≡ length hub.old.seats }
-    ensures same { (hub.new.ring ≡ hub.old.ring) × (hub.new.flusher ≡ hub.old.flusher) }
-{
-    let seat = hub.seat().unwrap();
-    Some(seat)
-}
-
-fn crowd_of(hub: MemHub) -> Crowd
-    requires { (f : Flushed _) × IsWhole hub f }
-    ensures four { AreFour result.hub result.first result.second result.third result.fourth result.flusher }
-    ensures executed { result.flusher.executed ≡ result.flusher.stored }
-{
-    let mut hub = hub;
-    let first = take_seat(&mut hub);
-    let second = take_seat(&mut hub);
-    let third = take_seat(&mut hub);
-    let fourth = take_seat(&mut hub);
-    let flusher = hub.flusher().unwrap();
-    Crowd {
-        hub,
-        first,
-        second,
-        third,
-        fourth,
-        flusher,
     }
 }
 
@@ -226,32 +171,7 @@ fn work_two<R: Threads + Clock + Sync>(
     )
 }
 
-// All four threads, and the flusher.
-fn work_and_flush<R: Threads + Clock + Sync>(
-    rt: &R,
-    alloc: Global,
-    crowd: &mut Crowd,
-) -> ((u32, u32), (u32, u32))
-    requires four { AreFour crowd.old.hub crowd.old.first crowd.old.second crowd.old.third crowd.old.fourth crowd.old.flusher }
-    requires executed { crowd.old.flusher.executed ≡ crowd.old.flusher.stored }
-    ensures { AreFour crowd.new.hub crowd.new.first crowd.new.second crowd.new.third crowd.new.fourth crowd.new.flusher }
-{
-    let ring = crowd.hub.ring();
-    let first = &mut crowd.first;
-    let second = &mut crowd.second;
-    let third = &mut crowd.third;
-    let fourth = &mut crowd.fourth;
-    let flusher = &mut crowd.flusher;
-    let (right, ()) = join_mut(
-        rt,
-        &mut || -> ((u32, u32), (u32, u32))
-            requires { IsAt ring.now first.now × IsAt ring.now second.now × IsAt ring.now third.now × IsAt ring.now fourth.now }
-        { work_four(rt, alloc, ring, first, second, third, fourth) },
-        &mut || flush_to(rt, alloc, ring, flusher, 576),
-    );
-    right
-}
-
+// All four threads.
 fn work_four<R: Threads + Clock + Sync>(
     rt: &R,
     alloc: Global,
@@ -275,61 +195,103 @@ fn work_four<R: Threads + Clock + Sync>(
     )
 }
 
-// Ends the hub, with all four seats.
-fn close(alloc: Global, crowd: Crowd) -> Option<Closed<MemDisk>>
-    requires { AreFour crowd.hub crowd.first crowd.second crowd.third crowd.fourth crowd.flusher }
+// All four, and the flusher.
+fn work_and_flush<R: Threads + Clock + Sync>(
+    rt: &R,
+    alloc: Global,
+    ring: &HubRing,
+    first: &mut Option<HubSeat>,
+    second: &mut Option<HubSeat>,
+    third: &mut Option<HubSeat>,
+    fourth: &mut Option<HubSeat>,
+    flusher: &mut HubFlusher,
+) -> ((u32, u32), (u32, u32))
+    requires seats { IsAt ring.now first.old × IsAt ring.now second.old × IsAt ring.now third.old × IsAt ring.now fourth.old }
+    requires flusher { (flusher.old.seat.ring ≡ ring.now) × (flusher.old.executed ≡ flusher.old.stored) }
+    ensures seats { IsAt ring.now first.new × IsAt ring.now second.new × IsAt ring.now third.new × IsAt ring.now fourth.new }
+    ensures flusher { (flusher.new.seat.ring ≡ ring.now) × (flusher.new.seat.seats ≡ flusher.old.seat.seats) }
 {
+    let (right, ()) = join_mut(
+        rt,
+        &mut || -> ((u32, u32), (u32, u32))
+            requires { IsAt ring.now first.now × IsAt ring.now second.now × IsAt ring.now third.now × IsAt ring.now fourth.now }
+        { work_four(rt, alloc, ring, first, second, third, fourth) },
+        &mut || flush_to(rt, alloc, ring, flusher, 576),
+    );
+    right
+}
+
+// How many clients of each desk heard what they should.
+type Right = ((u32, u32), (u32, u32));
+
+// Ends the hub with all four seats, for which there is room, and answers its numbers.
+fn close_four(
+    hub: MemHub,
+    first: Option<HubSeat>,
+    second: Option<HubSeat>,
+    third: Option<HubSeat>,
+    fourth: Option<HubSeat>,
+    flusher: HubFlusher,
+    seats: Vec<HubSeat>,
+) -> Option<[u64; 4]>
+    requires four { AreFour hub first second third fourth flusher }
+    requires room { (seats.items ≡ []) × (4 ≤ vec_capacity seats) }
+{
+    let mut seats = seats;
+    seats.push_reserved(first.unwrap());
+    seats.push_reserved(second.unwrap());
+    seats.push_reserved(third.unwrap());
+    seats.push_reserved(fourth.unwrap());
+    close(hub, seats, flusher)
+}
+
+// The same, and the numbers at the end of the hub, for whose four seats there is room.
+fn run_at<R: Threads + Clock + Sync>(
+    rt: &R,
+    alloc: Global,
+    hub: MemHub,
+    seats: Vec<HubSeat>,
+) -> (Right, Option<[u64; 4]>)
+    requires hub { (f : Flushed _) × IsWhole hub f }
+    requires room { (seats.items ≡ []) × (4 ≤ vec_capacity seats) }
+{
+    let mut hub = hub;
+    let mut flusher = hub.flusher().unwrap();
+    let mut first = Some(take_seat(&mut hub));
+    let mut second = Some(take_seat(&mut hub));
+    let mut third = Some(take_seat(&mut hub));
+    let mut fourth = Some(take_seat(&mut hub));
+    let right = work_and_flush(
+        rt,
+        alloc,
+        hub.ring(),
+        &mut first,
+        &mut second,
+        &mut third,
+        &mut fourth,
+        &mut flusher,
+    );
+    (
+        right,
+        close_four(hub, first, second, third, fourth, flusher, seats),
+    )
+}
+
+fn run<R: Threads + Clock + Sync>(rt: &R, alloc: Global) -> Option<(Right, Option<[u64; 4]>)> {
+    let hub = new_hub(alloc, 262_144)?;
     match Vec::with_capacity(alloc, 4) {
-        Ok(seats) => close_with(crowd, seats),
+        Ok(seats) => Some(run_at(rt, alloc, hub, seats)),
         Err(_) => {
-            drop(crowd);
+            close_unused(alloc, hub);
             None
         }
     }
 }
 
-fn close_with(crowd: Crowd, seats: Vec<HubSeat>) -> Option<Closed<MemDisk>>
-    requires four { AreFour crowd.hub crowd.first crowd.second crowd.third crowd.fourth crowd.flusher }
-    requires room { (seats.items ≡ []) × (4 ≤ vec_capacity seats) }
-{
-    let mut seats = seats;
-    let Crowd {
-        hub,
-        first,
-        second,
-        third,
-        fourth,
-        flusher,
-    } = crowd;
-    seats.push_reserved(first.unwrap());
-    seats.push_reserved(second.unwrap());
-    seats.push_reserved(third.unwrap());
-    seats.push_reserved(fourth.unwrap());
-    match hub.close(seats, flusher) {
-        Ok(closed) => Some(closed),
-        Err(_) => None,
-    }
-}
-
-// How many clients of each desk heard what they should, and the numbers at the end: the first, the next, the one after those that
-// were taken, and the mark.
-fn run<R: Threads + Clock + Sync>(
-    rt: &R,
-    alloc: Global,
-) -> Option<(((u32, u32), (u32, u32)), [u64; 4])> {
-    let mut crowd = crowd_of(new_hub(alloc, 262_144)?);
-    let right = work_and_flush(rt, alloc, &mut crowd);
-    let closed = close(alloc, crowd)?;
-    let numbers = [closed.base, closed.claimed, closed.taken, closed.mark];
-    drop(closed);
-    Some((right, numbers))
-}
-
+// The first number, the next, the one after those that were taken, and the mark: three commands for each of 192 clients.
 #[test]
-fn clients_192_at_desks_in_four_threads_hear_their_own_receipts(
-    rt: HostRuntime,
-) -> Result<(), Fail> {
+fn clients_192_at_desks_in_four_threads_hear_their_own_receipts(rt: HostRuntime) {
     let all = ((CLIENTS, CLIENTS), (CLIENTS, CLIENTS));
-    assert_eq!(rt; run(&rt, rt.alloc()), Some((all, [0, 576, 576, 576])));
-    Ok(())
+    let numbers = Some([0, 576, 576, 576]);
+    assert_eq!(rt; run(&rt, rt.alloc()), Some((all, numbers)));
 }

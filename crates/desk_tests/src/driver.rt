@@ -1,229 +1,279 @@
-//! Does what a row says with a link, and shows what comes of it.
+//! Does what a row says with a client, and tells whether that comes of it. Memory has one owner, and all else borrows.
 
-ghost use Rattle.frame_core.specs.Writable.{Writable};
-
-use crate::frames::frames;
+use crate::acts::{Do, act};
+use crate::feeds::{Feed, letter, put_feeds, put_request};
 use crate::wire::Wire;
-use claim_core::{Released, Ring};
-use command_core::Out;
-use frame_core::{Bytes, Frame, Headers, Verb, writable};
 use std::alloc::{AllocError, Global};
-use std::io::ErrorKind;
+use std::cell::RefCell;
 use std::sync::Arc;
-use std::test::Fail;
-use ws_core::{CloseReason, Greeted, Greeting, Link, LinkFault, Outgoing, Received, WsLink};
+use ws_core::{Greeted, Greeting, Refusal, Vacancy, WsLink};
 
 /// The request of RFC 6455, section 1.2, with no subprotocol.
 pub const REQUEST: &str =
     "GET /chat HTTP/1.1\r\nHost: server.example.com\r\nUpgrade: websocket\r\nConnection: Upgrade\r\nSec-WebSocket-Key: dGhlIHNhbXBsZSBub25jZQ==\r\nOrigin: http://example.com\r\nSec-WebSocket-Version: 13\r\n\r\n";
 
-/// What is done with a link.
+/// A client, and the stream that leads to it.
 #[derive(Clone, Copy)]
-pub enum Do {
-    /// One read.
-    Hear,
-    /// An ERROR with no headers and this body is sent.
-    Send(&'static [u8]),
-    /// The same with a body of so many bytes.
-    SendLong(usize),
-    Flush,
-    Ping,
-    End(CloseReason),
-    /// So many bytes after the request are open.
-    Open(usize),
-    /// The stream takes so many bytes more, and then it would block.
-    Take(usize),
-    /// The stream takes nothing more: each write fails.
-    Cut,
-    /// The same, and each write was tried for as long as it may take.
-    Stall,
+pub struct Visitor<'a> {
+    /// What it asks for at first, with one read, where the first text is replaced by the second.
+    pub request: &'a str,
+    pub edit: (&'a str, &'a str),
+    /// What follows, at most so many bytes with each read.
+    pub feeds: &'a [Feed<'a>],
+    pub step: usize,
+    /// How far the stream is open, how many bytes it takes, and how many of them a write takes.
+    pub open: usize,
+    pub room: usize,
+    pub gulp: usize,
+    /// Whether only pages of `http://a.example` and of `null` are served.
+    pub is_choosy: bool,
+    /// Whom there is a place for.
+    pub vacancy: Vacancy,
+    /// What is done with its link, if the first call of its handshake accepts it.
+    pub acts: &'a [Do],
 }
 
-fn put_received(shown: &mut Vec<u8>, received: &Received) -> Result<(), AllocError> {
-    match received {
-        Received::Bytes(bytes) => {
-            shown.push(b'<')?;
-            shown.extend_from_slice(bytes.as_slice())?;
-            shown.push(b'>')?;
-        }
-        Received::Skipped => shown.push(b'-')?,
-        Received::Nothing => shown.push(b'.')?,
-        Received::Failed => shown.push(b'x')?,
-        Received::Closed => shown.push(b'!')?,
-    }
-    Ok(())
+/// A client that any server accepts at once.
+pub const VISITOR: Visitor<'static> = Visitor {
+    request: REQUEST,
+    edit: ("", ""),
+    feeds: &[],
+    step: usize::MAX,
+    open: usize::MAX,
+    room: usize::MAX,
+    gulp: usize::MAX,
+    is_choosy: false,
+    vacancy: Vacancy::Any,
+    acts: &[],
+};
+
+/// What is to come of a client. A handshake that waits has the mark of a point; + is for a client that is accepted, - for one that is refused,
+/// f for one that is told that the server is full, and ! if the handshake has failed.
+#[derive(Clone, Copy)]
+pub enum Want<'a> {
+    /// A mark at the first call, and what is written then.
+    Hears(u8, &'a str),
+    /// The same, and how many bytes are read.
+    Reads(u8, &'a str, usize),
+    /// The handshake waits once so many bytes are written. Then the stream is open and takes all: a mark, and all that is written.
+    Waits(usize, u8, &'a str),
+    /// What its acts show.
+    Shows(&'a [u8]),
+    /// How many bytes they show.
+    ShowsMany(usize),
+    /// They show so many letters in pieces of 1,024, and a dash, each between two marks.
+    ShowsPieces(usize),
 }
 
-fn put_done(shown: &mut Vec<u8>, done: &Result<(), LinkFault>) -> Result<(), AllocError> {
-    shown.push(match done {
-        Ok(()) => b'k',
-        Err(LinkFault::Memory) => b'm',
-        Err(LinkFault::Gone) => b'g',
-    })?;
-    Ok(())
+// What a handshake has come to: its marks at the first call and at the last, and how many bytes were written at the first.
+#[derive(Clone, Copy)]
+struct Outcome {
+    first: u8,
+    last: u8,
+    front: usize,
 }
 
-// What a send shows.
-fn put_sent(
-    shown: &mut Vec<u8>,
-    link: &WsLink<&Wire>,
-    done: &Result<(), LinkFault>,
-) -> Result<(), AllocError> {
-    if done.is_ok() && link.waits() {
-        shown.push(b'w')?;
-        return Ok(());
-    }
-    put_done(shown, done)
-}
-
-// What a flush shows. After it something waits exactly if it says so.
-fn put_flushed(
-    shown: &mut Vec<u8>,
-    link: &WsLink<&Wire>,
-    flushed: &Result<bool, LinkFault>,
-) -> Result<(), Fail> {
-    shown.push(match flushed {
-        Ok(all) if *all == link.waits() => return Err(Fail::from("a flush says otherwise")),
-        Ok(true) => b't',
-        Ok(false) => b'f',
-        Err(LinkFault::Memory) => b'm',
-        Err(LinkFault::Gone) => b'g',
-    })?;
-    Ok(())
-}
-
-fn error(alloc: Global, body: &[u8]) -> Result<Frame, AllocError> {
-    Ok(Frame {
-        verb: Verb::Error,
-        headers: Headers::new(Vec::new(alloc)),
-        body: Bytes::new(Vec::from_slice(alloc, body)?),
-    })
-}
-
-fn send(
-    alloc: Global,
-    link: &mut WsLink<&Wire>,
-    body: &[u8],
-) -> Result<Result<(), LinkFault>, Fail> {
-    let frame = error(alloc, body)?;
-    if !writable(&frame) {
-        return Err(Fail::from("no frame to send"));
-    }
-    let released = released(alloc, frame)?;
-    Ok(link.send(alloc, &released))
-}
-
-// An output that may leave, since its number is under the first mark of a ring.
-fn released(alloc: Global, frame: Frame) -> Result<Released, Fail>
-    requires { Writable frame }
-{
-    let (ring, mut seats, _flush) = Ring::<(), 1, 1, 1>::new(alloc, 1)?;
-    let Some(mut seat) = seats.pop() else {
-        return Err(Fail::from("no seat"));
+fn origins(alloc: Global, is_choosy: bool) -> Result<Arc<Vec<Vec<u8>>>, AllocError> {
+    let mut served = Vec::new(alloc);
+    let done = if is_choosy {
+        put_origins(alloc, &mut served)
+    } else {
+        Ok(())
     };
-    match ring.release(&mut seat, Out::new(alloc, 0, 0, frame)?) {
-        Ok(released) => Ok(released),
-        Err(_) => Err(Fail::from("it may not leave")),
+    match done {
+        Ok(()) => Ok(Arc::new(alloc, served)?),
+        Err(refused) => Err(refused),
     }
 }
 
-fn send_long(
-    alloc: Global,
-    link: &mut WsLink<&Wire>,
-    length: usize,
-) -> Result<Result<(), LinkFault>, Fail> {
-    let body = vec![in alloc; b'a'; length]?;
-    send(alloc, link, body.as_slice())
+fn put_origins(alloc: Global, served: &mut Vec<Vec<u8>>) -> Result<(), AllocError> {
+    served.reserve(2)?;
+    served.push_reserved(Vec::from_slice(alloc, b"http://a.example")?);
+    served.push_reserved(Vec::from_slice(alloc, b"null")?);
+    Ok(())
 }
 
-fn act(
-    alloc: Global,
-    wire: &Wire,
-    link: &mut WsLink<&Wire>,
-    one: Do,
-    shown: &mut Vec<u8>,
-) -> Result<(), Fail> {
-    match one {
-        Do::Hear => put_received(shown, &link.receive(alloc))?,
-        Do::Send(body) => {
-            let done = send(alloc, link, body)?;
-            put_sent(shown, link, &done)?;
-        }
-        Do::SendLong(length) => {
-            let done = send_long(alloc, link, length)?;
-            put_sent(shown, link, &done)?;
-        }
-        Do::Flush => {
-            let flushed = link.flush();
-            put_flushed(shown, link, &flushed)?;
-        }
-        Do::Ping => put_done(shown, &link.ping())?,
-        Do::End(reason) => put_done(shown, &link.end(reason))?,
-        Do::Open(count) => wire.open_to(REQUEST.len().saturating_add(count)),
-        Do::Take(count) => wire.take_only(count),
-        Do::Cut => wire.break_with(ErrorKind::ConnectionReset),
-        Do::Stall => wire.break_with(ErrorKind::TimedOut),
-    }
-    Ok(wire.move_output(shown)?)
-}
-
-/// No origins, so that all are served.
-pub fn all_origins(alloc: Global) -> Result<Arc<Vec<Vec<u8>>>, AllocError> {
-    Ok(Arc::new(alloc, Vec::new(alloc))?)
-}
-
-/// The link of a client that is accepted at once.
-pub fn accepted(alloc: Global, wire: &Wire) -> Result<WsLink<&Wire>, Fail> {
-    let origins = all_origins(alloc)?;
-    match Greeting::new(alloc, wire, origins).greet(alloc) {
-        Greeted::Accepted(link) => Ok(link),
-        _ => Err(Fail::from("not accepted")),
-    }
-}
-
-/// What these acts show of a link whose handshake is done. A read shows bytes between < and >, a dash for what is skipped, a point for
-/// nothing, x for a link that has failed, and ! for a closed one. A send, a ping and an end show k, or m and g for their faults, or w if a
-/// send finds that the stream doesn't take all. A flush shows t if nothing waits any more, and else f. After it stands what was written,
-/// and | if the stream's writing side was shut.
-pub fn run(alloc: Global, wire: &Wire, acts: &[Do]) -> Result<Vec<u8>, Fail> {
-    let mut link = accepted(alloc, wire)?;
-    let mut response = Vec::new(alloc);
-    wire.move_output(&mut response)?;
-    go_on(alloc, wire, &mut link, acts)
-}
-
-/// The same of that link.
-pub fn go_on(
+// Adds to what is shown what each act shows of that link, and what is written then.
+fn go_on(
     alloc: Global,
     wire: &Wire,
     link: &mut WsLink<&Wire>,
     acts: &[Do],
-) -> Result<Vec<u8>, Fail> {
-    let mut shown = Vec::new(alloc);
+    shown: &mut Vec<u8>,
+) -> Result<(), AllocError> {
     for one in acts {
-        act(alloc, wire, link, *one, &mut shown)?;
+        act(alloc, wire, link, *one, shown)?;
+        wire.move_output(shown)?;
     }
-    Ok(shown)
+    Ok(())
 }
 
-/// The same, over a stream that gives the request with one read, and then these bytes, at most so many with each read.
-pub fn shown(alloc: Global, input: &[u8], step: usize, acts: &[Do]) -> Result<Vec<u8>, Fail> {
-    let wire = Wire::new(alloc, REQUEST.as_bytes(), input, step)?;
-    run(alloc, &wire, acts)
+// The mark of a handshake. If it has a link, acts are done with that.
+fn finish(
+    alloc: Global,
+    wire: &Wire,
+    greeted: Greeted<&Wire>,
+    acts: &[Do],
+    shown: &mut Vec<u8>,
+) -> Result<u8, AllocError> {
+    match greeted {
+        Greeted::Accepted(link) => {
+            let mut link = link;
+            let done = go_on(alloc, wire, &mut link, acts, shown);
+            drop(link);
+            match done {
+                Ok(()) => Ok(b'+'),
+                Err(refused) => Err(refused),
+            }
+        }
+        Greeted::Waits(_greeting) => Ok(b'.'),
+        Greeted::Refused(Refusal::Full, _wire) => Ok(b'f'),
+        Greeted::Refused(_refusal, _wire) => Ok(b'-'),
+        Greeted::Failed(_fault) => Ok(b'!'),
+    }
 }
 
-/// A row: the frames that come, each of a first byte and a payload, what is done, and what it shows.
-pub type Row = (&'static [(u8, &'static [u8])], &'static [Do], &'static [u8]);
+// Its handshake, and what is done then.
+fn greet(
+    alloc: Global,
+    wire: &Wire,
+    visitor: &Visitor,
+    shown: &mut Vec<u8>,
+) -> Result<Outcome, AllocError> {
+    let origins = origins(alloc, visitor.is_choosy)?;
+    let greeted = Greeting::begin(alloc, wire, origins, visitor.vacancy).greet(alloc);
+    let moved = wire.move_output(shown);
+    let front = shown.len();
+    let (first, last) = match greeted {
+        Greeted::Waits(greeting) => {
+            wire.open.set(usize::MAX);
+            wire.room.set(usize::MAX);
+            (
+                Ok(b'.'),
+                finish(alloc, wire, greeting.greet(alloc), &[], shown),
+            )
+        }
+        greeted => {
+            let mark = finish(alloc, wire, greeted, visitor.acts, shown);
+            (mark, mark)
+        }
+    };
+    moved?;
+    wire.move_output(shown)?;
+    Ok(Outcome {
+        first: first?,
+        last: last?,
+        front,
+    })
+}
 
-/// The first row that shows something else, with whole reads and with one byte a read.
-pub fn first_wrong(alloc: Global, rows: &[Row]) -> Result<Option<usize>, Fail> {
-    for (i, (sent, acts, want)) in rows.iter().enumerate() {
-        let input = frames(alloc, sent)?;
-        let whole = shown(alloc, input.as_slice(), usize::MAX, acts)?;
-        let byte_by_byte = shown(alloc, input.as_slice(), 1, acts)?;
-        if whole.as_slice() != *want || byte_by_byte.as_slice() != *want {
-            return Ok(Some(i));
+// Whether these are so many letters in pieces, and a dash.
+fn is_in_pieces(shown: &[u8], length: usize) -> bool {
+    let Some(pieces) = shown.strip_suffix(b"<->") else {
+        return false;
+    };
+    let mut place = 0usize;
+    for piece in pieces.chunks(1_026) {
+        if !is_piece(piece, place) {
+            return false;
+        }
+        place = place.saturating_add(piece.len().saturating_sub(2));
+    }
+    place == length
+}
+
+// Whether a piece has the letters from that place on.
+fn is_piece(piece: &[u8], place: usize) -> bool {
+    let Some(letters) = piece.strip_prefix(b"<") else {
+        return false;
+    };
+    let Some(letters) = letters.strip_suffix(b">") else {
+        return false;
+    };
+    for (i, found) in letters.iter().enumerate() {
+        if *found != letter(place.saturating_add(i)) {
+            return false;
         }
     }
-    Ok(None)
+    true
+}
+
+fn is_met(want: &Want, wire: &Wire, outcome: Outcome, shown: &[u8]) -> bool {
+    let (said, acted) = shown.split_at(outcome.front.min(shown.len()));
+    match *want {
+        Want::Hears(mark, text) => outcome.first == mark && said == text.as_bytes(),
+        Want::Reads(mark, text, count) => {
+            outcome.first == mark && said == text.as_bytes() && wire.at.get() == count
+        }
+        Want::Waits(front, mark, text) => {
+            outcome.first == b'.'
+                && outcome.front == front
+                && outcome.last == mark
+                && shown == text.as_bytes()
+        }
+        Want::Shows(bytes) => acted == bytes,
+        Want::ShowsMany(count) => acted.len() == count,
+        Want::ShowsPieces(length) => is_in_pieces(acted, length),
+    }
+}
+
+// Whether that comes of a client, whose bytes these become.
+fn is_shown(
+    alloc: Global,
+    visitor: &Visitor,
+    want: &Want,
+    input: &mut Vec<u8>,
+    output: &RefCell<Vec<u8>>,
+    shown: &mut Vec<u8>,
+) -> Result<bool, AllocError> {
+    put_request(input, visitor.request, visitor.edit)?;
+    let head = input.len();
+    put_feeds(input, visitor.feeds)?;
+    let wire = Wire::new(input.as_slice(), head, visitor.step, output);
+    wire.open.set(visitor.open);
+    wire.room.set(visitor.room);
+    wire.gulp.set(visitor.gulp);
+    let outcome = greet(alloc, &wire, visitor, shown)?;
+    Ok(is_met(want, &wire, outcome, shown.as_slice()))
+}
+
+/// Whether that comes of a client; `None` if memory is refused.
+pub fn is_right(alloc: Global, visitor: &Visitor, want: &Want) -> Option<bool> {
+    let mut input = Vec::new(alloc);
+    let output = RefCell::new(Vec::new(alloc));
+    let mut shown = Vec::new(alloc);
+    let right = is_shown(alloc, visitor, want, &mut input, &output, &mut shown);
+    drop(shown);
+    drop(output);
+    drop(input);
+    right.ok()
+}
+
+/// The first of these of which something else comes; `None` if memory is refused.
+pub fn first_wrong(alloc: Global, rows: &[(Visitor, Want)]) -> Option<Option<usize>> {
+    for (i, (visitor, want)) in rows.iter().enumerate() {
+        if !is_right(alloc, visitor, want)? {
+            return Some(Some(i));
+        }
+    }
+    Some(None)
+}
+
+/// What follows the request of a client that is accepted, what is done with its link, and what comes of that.
+pub type Talk = (&'static [Feed<'static>], &'static [Do], Want<'static>);
+
+/// The first of these of which something else comes, if a read gives at most so many bytes behind the request; `None` if memory is refused.
+pub fn first_wrong_talk(alloc: Global, talks: &[Talk], step: usize) -> Option<Option<usize>> {
+    for (i, (feeds, acts, want)) in talks.iter().enumerate() {
+        let visitor = Visitor {
+            feeds: *feeds,
+            acts: *acts,
+            step,
+            ..VISITOR
+        };
+        if !is_right(alloc, &visitor, want)? {
+            return Some(Some(i));
+        }
+    }
+    Some(None)
 }

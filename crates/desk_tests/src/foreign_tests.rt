@@ -1,31 +1,36 @@
-ghost use Rattle.std.specs.Prelude.{◌≡◌, IfSome};
+ghost use Rattle.std.specs.Prelude.{◌≡◌};
 
-use crate::clients::Client;
-use crate::rooms::{HubRing, HubSeat, MemDesk};
+use crate::clients::{Client, Guest};
+use crate::rooms::{HubRing, MemDesk};
+use crate::says::Say;
 use crate::texts::{CONNECT, CONNECTED};
 use claim_core::{FlushSeat, Ring};
 use command_core::{Out, connected_reply};
 use desk_core::Desk;
 use outbox_core::{OutSender, Silent};
 use std::alloc::Global;
-use std::test::Fail;
 
 type RawFlusher = FlushSeat<OutSender<Silent>>;
 
 // Takes the next command, an Open, and answers where the outputs of its session go.
 fn take_box(ring: &HubRing, flusher: &mut RawFlusher) -> Option<OutSender<Silent>>
     requires { flusher.old.ring ≡ ring.now }
-    ensures { flusher.new.ring ≡ flusher.old.ring }
+    ensures { (flusher.new.ring ≡ flusher.old.ring) × (flusher.new.seats ≡ flusher.old.seats) }
 {
-    let (command, sender) = ring.take(flusher)?.into_parts();
-    drop(command);
-    sender
+    match ring.take(flusher) {
+        Some(entry) => {
+            let (command, sender) = entry.into_parts();
+            drop(command);
+            sender
+        }
+        None => None,
+    }
 }
 
 // Publishes all that was taken.
 fn publish(ring: &HubRing, flusher: &mut RawFlusher)
     requires { flusher.old.ring ≡ ring.now }
-    ensures { flusher.new.ring ≡ flusher.old.ring }
+    ensures { (flusher.new.ring ≡ flusher.old.ring) × (flusher.new.seats ≡ flusher.old.seats) }
 {
     let next = flusher.next();
     if flusher.mark() <= next {
@@ -33,29 +38,43 @@ fn publish(ring: &HubRing, flusher: &mut RawFlusher)
     }
 }
 
-// Gives an outbox the CONNECTED of the command of that number for that session.
-fn give(alloc: Global, sender: &mut OutSender<Silent>, number: u64, session: u64) -> bool {
-    let Ok(frame) = connected_reply(alloc, session) else {
+// Gives an outbox the CONNECTED of the second command for its session. Tickets are the numbers of commands, from 0.
+fn give(alloc: Global, sender: &mut Option<OutSender<Silent>>) -> bool {
+    let Some(sender) = sender else {
         return false;
     };
-    match Out::new(alloc, number, session, frame) {
+    let Ok(frame) = connected_reply(alloc, 1) else {
+        return false;
+    };
+    match Out::new(alloc, 1, 1, frame) {
         Ok(out) => sender.give(out).is_ok(),
         Err(_) => false,
     }
 }
 
-fn turn_both(alloc: Global, ring: &HubRing, desk: &mut MemDesk, rounds: u32)
-    requires { desk.old.seat.ring ≡ ring.now }
+fn admit(alloc: Global, desk: &mut MemDesk, at: usize)
     ensures { desk.new.seat.ring ≡ desk.old.seat.ring }
 {
-    for _ in 0..rounds {
-        desk.turn(alloc, ring, 0, &Silent);
-        desk.turn(alloc, ring, 1, &Silent);
+    let guest = Guest {
+        says: &[CONNECT],
+        stuck: 0,
+        short: 0,
+    };
+    if let Some(client) = Client::new(alloc, &guest) {
+        let _ = desk.admit(alloc, at, client);
     }
 }
 
+fn turn_both(alloc: Global, ring: &HubRing, desk: &mut MemDesk)
+    requires { desk.old.seat.ring ≡ ring.now }
+    ensures { desk.new.seat.ring ≡ desk.old.seat.ring }
+{
+    desk.turn(alloc, ring, 0, &Silent);
+    desk.turn(alloc, ring, 1, &Silent);
+}
+
 // What the client there was closed with, where it heard these.
-fn end_of(desk: &MemDesk, at: usize, wanted: &[&[u8]]) -> Option<Option<u16>> {
+fn end_of(desk: &MemDesk, at: usize, wanted: &[Say]) -> Option<Option<u16>> {
     let client = desk.link(at)?;
     if client.heard(wanted) {
         Some(client.code())
@@ -64,49 +83,49 @@ fn end_of(desk: &MemDesk, at: usize, wanted: &[&[u8]]) -> Option<Option<u16>> {
     }
 }
 
-fn desk_of_two(alloc: Global, seat: HubSeat) -> Option<MemDesk>
-    ensures { IfSome result (λ desk. desk.seat.ring ≡ seat.ring) }
-{
-    let mut desk = Desk::new(alloc, seat, 1_048_576);
-    let first = Client::new(alloc, &[CONNECT], 0);
-    let second = Client::new(alloc, &[CONNECT], 0);
-    match (first, second) {
-        (Some(first), Some(second)) => {
-            let _ = desk.admit(alloc, 0, first);
-            let _ = desk.admit(alloc, 1, second);
-            Some(desk)
-        }
-        _ => None,
-    }
-}
+// How each of two clients ends: its code, where it heard what it should.
+type Ends = (Option<Option<u16>>, Option<Option<u16>>);
 
-// How each of two clients ends, where the outbox of the first is given an output of the second's session: its code, where it heard
-// what it should. Tickets are the numbers of commands, from 0.
-fn run(alloc: Global) -> Option<(Option<Option<u16>>, Option<Option<u16>>)> {
-    let Ok((ring, mut seats, mut flusher)) = Ring::new(alloc, 0) else {
-        return None;
-    };
-    let seat = seats.pop()?;
-    let mut desk = desk_of_two(alloc, seat)?;
-    turn_both(alloc, &ring, &mut desk, 1);
-    let mut first = take_box(&ring, &mut flusher)?;
-    let mut second = take_box(&ring, &mut flusher)?;
-    if !give(alloc, &mut first, 1, 1) || !give(alloc, &mut second, 1, 1) {
-        return None;
-    }
-    publish(&ring, &mut flusher);
-    turn_both(alloc, &ring, &mut desk, 3);
-    let ends = (end_of(&desk, 0, &[]), end_of(&desk, 1, &[CONNECTED]));
-    drop(desk);
+// The outboxes of both clients are given an output of the second's session.
+fn hear_both(
+    alloc: Global,
+    ring: &HubRing,
+    desk: &mut MemDesk,
+    flusher: &mut RawFlusher,
+) -> Option<Ends>
+    requires desk { desk.old.seat.ring ≡ ring.now }
+    requires flusher { flusher.old.ring ≡ ring.now }
+    ensures desk { desk.new.seat.ring ≡ desk.old.seat.ring }
+    ensures flusher { (flusher.new.ring ≡ flusher.old.ring) × (flusher.new.seats ≡ flusher.old.seats) }
+{
+    admit(alloc, desk, 0);
+    admit(alloc, desk, 1);
+    turn_both(alloc, ring, desk);
+    let mut first = take_box(ring, flusher);
+    let mut second = take_box(ring, flusher);
+    let given = give(alloc, &mut first) && give(alloc, &mut second);
+    publish(ring, flusher);
+    turn_both(alloc, ring, desk);
+    turn_both(alloc, ring, desk);
+    turn_both(alloc, ring, desk);
+    let ends = (end_of(desk, 0, &[]), end_of(desk, 1, &[CONNECTED]));
     drop(first);
     drop(second);
-    Some(ends)
+    if given { Some(ends) } else { None }
+}
+
+fn run(alloc: Global) -> Option<Ends> {
+    let (ring, mut seats, mut flusher) = Ring::new(alloc, 0).ok()?;
+    let mut desk = Desk::new(alloc, seats.pop().unwrap(), 1_048_576);
+    let ends = hear_both(alloc, &ring, &mut desk, &mut flusher);
+    drop(desk.into_seat());
+    drop(flusher);
+    drop(seats);
+    drop(ring);
+    ends
 }
 
 #[test]
-fn an_output_of_another_session_is_never_sent_and_ends_the_connection(
-    rt: HostRuntime,
-) -> Result<(), Fail> {
+fn an_output_of_another_session_is_never_sent_and_ends_the_connection(rt: HostRuntime) {
     assert_eq!(rt; run(rt.alloc()), Some((Some(Some(1001)), Some(None))));
-    Ok(())
 }

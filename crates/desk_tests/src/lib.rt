@@ -1,8 +1,10 @@
 //! Tests of WebSocket links, and of desks with many clients, by their public faces: on one thread, where each turn comes when a test gives
-//! it, and in threads. Those of links are rows of data over one driver, since each function that holds a link has a long proof.
+//! it, and in threads. They are rows of data, since each function that owns a link or a desk has a long proof.
 
 #![tactic(auto)]
 
+#[cfg(test)]
+mod acts;
 #[cfg(test)]
 mod budget_tests;
 #[cfg(test)]
@@ -14,9 +16,9 @@ mod driver;
 #[cfg(test)]
 mod failing_tests;
 #[cfg(test)]
-mod foreign_tests;
+mod feeds;
 #[cfg(test)]
-mod frames;
+mod foreign_tests;
 #[cfg(test)]
 mod handshake_tests;
 #[cfg(test)]
@@ -25,6 +27,8 @@ mod place_tests;
 mod receiving_tests;
 #[cfg(test)]
 mod rooms;
+#[cfg(test)]
+mod says;
 #[cfg(test)]
 mod sending_tests;
 #[cfg(test)]

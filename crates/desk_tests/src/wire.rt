@@ -1,112 +1,98 @@
 //! A stream in memory, which many may hold, as they may a socket.
 
-use std::alloc::{AllocError, Global};
+use std::alloc::AllocError;
 use std::cell::{Cell, RefCell};
 use std::io;
 use std::io::{ErrorKind, Read, Write};
 use ws_core::Ending;
 
-/// Gives what is open of its input, and keeps what is written.
+/// Gives what is open of its input, and adds what is written to its output. It owns neither, so that a proof has less to follow.
 #[derive(Drop)]
-pub struct Wire {
-    input: Vec<u8>,
+pub struct Wire<'a> {
+    input: &'a [u8],
+    output: &'a RefCell<Vec<u8>>,
     // So many bytes come with one read, and after them at most `step` with each.
     head: usize,
     step: usize,
-    // How far the input is open. After that a read is refused; after all of it the stream has ended.
-    open: Cell<usize>,
-    at: Cell<usize>,
-    output: RefCell<Vec<u8>>,
-    // How many bytes a write takes at most, how many more are taken at all, and how many writes took some.
-    gulp: Cell<usize>,
-    room: Cell<usize>,
-    writes: Cell<u64>,
-    // What each write fails with from now on.
-    broken: Cell<Option<ErrorKind>>,
-    // What a read that finds nothing open is refused with, and how many were.
-    refusal: ErrorKind,
-    refused: Cell<u64>,
+    /// What a read that finds nothing open is refused with, and how many were.
+    pub refusal: Cell<ErrorKind>,
+    pub refused: Cell<u64>,
+    /// How many bytes have been read.
+    pub at: Cell<usize>,
+    /// How far the input is open. After that a read is refused; after all of it the stream has ended.
+    pub open: Cell<usize>,
+    /// How many bytes a write takes at most.
+    pub gulp: Cell<usize>,
+    /// How many bytes are taken at all. After that each write would block.
+    pub room: Cell<usize>,
+    /// How many writes took some.
+    pub writes: Cell<u64>,
+    /// What each write fails with from now on.
+    pub broken: Cell<Option<ErrorKind>>,
 }
 
-impl Wire {
-    pub fn new(alloc: Global, head: &[u8], input: &[u8], step: usize) -> Result<Wire, AllocError> {
-        let mut all = Vec::from_slice(alloc, head)?;
-        all.extend_from_slice(input)?;
-        let open = Cell::new(all.len());
-        Ok(Wire {
-            input: all,
-            head: head.len(),
+impl<'a> Wire<'a> {
+    /// One that is open, and takes all.
+    pub fn new(
+        input: &'a [u8],
+        head: usize,
+        step: usize,
+        output: &'a RefCell<Vec<u8>>,
+    ) -> Wire<'a> {
+        Wire {
+            input,
+            output,
+            head,
             step,
-            open,
+            refusal: Cell::new(ErrorKind::WouldBlock),
+            refused: Cell::new(0),
             at: Cell::new(0),
-            output: RefCell::new(Vec::new(alloc)),
+            open: Cell::new(usize::MAX),
             gulp: Cell::new(usize::MAX),
             room: Cell::new(usize::MAX),
             writes: Cell::new(0),
             broken: Cell::new(None),
-            refusal: ErrorKind::WouldBlock,
-            refused: Cell::new(0),
-        })
+        }
     }
 
-    /// From now on a read that finds nothing open is refused with this error.
-    pub fn refuse_with(&mut self, refusal: ErrorKind) {
-        self.refusal = refusal;
+    // Where the next read begins, and how far the input is open.
+    fn span(&self) -> (usize, usize) {
+        (self.at.get(), self.open.get().min(self.input.len()))
     }
 
-    /// How many reads were refused.
-    pub fn refused_so_far(&self) -> u64 {
-        self.refused.get()
-    }
-
-    /// Opens the input up to there and no further.
-    pub fn open_to(&self, end: usize) {
-        self.open.set(end);
-    }
-
-    /// How many bytes have been read.
-    pub fn read_so_far(&self) -> usize {
-        self.at.get()
+    // Adds these to what was written.
+    fn put(&self, bytes: &[u8]) -> io::Result<()> {
+        let done = match self.output.try_borrow_mut() {
+            Ok(mut output) => output.extend_from_slice(bytes).is_ok(),
+            Err(_) => false,
+        };
+        if done {
+            Ok(())
+        } else {
+            Err(io::Error::from(ErrorKind::OutOfMemory))
+        }
     }
 
     /// Moves what was written to the end of these bytes.
     pub fn move_output(&self, bytes: &mut Vec<u8>) -> Result<(), AllocError> {
-        if let Ok(mut output) = self.output.try_borrow_mut() {
-            bytes.extend_from_slice(output.as_slice())?;
-            output.clear();
+        match self.output.try_borrow_mut() {
+            Ok(mut output) => {
+                let done = bytes.extend_from_slice(output.as_slice());
+                output.clear();
+                done
+            }
+            Err(_) => Ok(()),
         }
-        Ok(())
-    }
-
-    /// From now on a write takes at most so many bytes.
-    pub fn take_by(&self, gulp: usize) {
-        self.gulp.set(gulp);
-    }
-
-    /// So many bytes more are taken, and then each write would block.
-    pub fn take_only(&self, room: usize) {
-        self.room.set(room);
-    }
-
-    /// How many writes took something.
-    pub fn writes_so_far(&self) -> u64 {
-        self.writes.get()
-    }
-
-    /// From now on each write fails with this error.
-    pub fn break_with(&self, error: ErrorKind) {
-        self.broken.set(Some(error));
     }
 }
 
-impl Read for &Wire {
+impl Read for &Wire<'_> {
     fn read(&mut self, buf: &mut [u8]) -> io::Result<usize> {
-        let at = self.at.get();
-        let end = self.open.get().min(self.input.len());
+        let (at, end) = self.span();
         let rest = self.input.get(at..end).unwrap_or(&[]);
         if rest.is_empty() && end < self.input.len() {
             self.refused.set(self.refused.get().saturating_add(1));
-            return Err(io::Error::from(self.refusal));
+            return Err(io::Error::from(self.refusal.get()));
         }
         let most = if at < self.head {
             self.head - at
@@ -120,7 +106,7 @@ impl Read for &Wire {
     }
 }
 
-impl Write for &Wire {
+impl Write for &Wire<'_> {
     fn write(&mut self, buf: &[u8]) -> io::Result<usize> {
         if let Some(error) = self.broken.get() {
             return Err(io::Error::from(error));
@@ -130,16 +116,11 @@ impl Write for &Wire {
             return Err(io::Error::from(ErrorKind::WouldBlock));
         }
         let n = buf.len().min(self.gulp.get()).min(room);
-        match self.output.try_borrow_mut() {
-            Ok(mut output) => {
-                if output.extend_from_slice(&buf[..n]).is_err() {
-                    return Err(io::Error::from(ErrorKind::OutOfMemory));
-                }
-                self.room.set(room - n);
-                self.writes.set(self.writes.get().saturating_add(1));
-                Ok(n)
-            }
-            Err(_) => Err(io::Error::from(ErrorKind::Other)),
+        self.room.set(room - n);
+        self.writes.set(self.writes.get().saturating_add(1));
+        match self.put(&buf[..n]) {
+            Ok(()) => Ok(n),
+            Err(error) => Err(error),
         }
     }
 
@@ -149,24 +130,17 @@ impl Write for &Wire {
 }
 
 // All that is open is dropped at once. A stream that is shut shows |.
-impl Ending for &Wire {
+impl Ending for &Wire<'_> {
     fn drop_some(&self) -> io::Result<usize> {
-        let at = self.at.get();
-        let end = self.open.get().min(self.input.len());
+        let (at, end) = self.span();
         if at >= end && end < self.input.len() {
-            return Err(io::Error::from(self.refusal));
+            return Err(io::Error::from(self.refusal.get()));
         }
         self.at.set(end.max(at));
         Ok(end.saturating_sub(at))
     }
 
     fn shut_down(&self) -> io::Result<()> {
-        match self.output.try_borrow_mut() {
-            Ok(mut output) => match output.push(b'|') {
-                Ok(()) => Ok(()),
-                Err(_) => Err(io::Error::from(ErrorKind::OutOfMemory)),
-            },
-            Err(_) => Err(io::Error::from(ErrorKind::Other)),
-        }
+        self.put(b"|")
     }
 }
