@@ -1,6 +1,9 @@
 use crate::acts::Do;
 use crate::driver::{Talk, Want, first_wrong_talk};
 use crate::feeds::Feed;
+use command_core::Op;
+use session_core::{Act, Session};
+use std::alloc::Global;
 use std::io::ErrorKind;
 
 const ONCE: &[Do] = &[Do::Hear];
@@ -284,4 +287,30 @@ fn a_write_that_timed_out_within_a_read_ends_the_link(rt: HostRuntime) {
         first_wrong_talk(rt.alloc(), UNANSWERED, 1),
     ];
     assert_eq!(rt; wrong, [Some(None); 2]);
+}
+
+// What a session does for some bytes: nothing, a command that opens it, or something else.
+fn mark_of(alloc: Global, session: &mut Session, bytes: &[u8]) -> char {
+    match session.feed(alloc, bytes) {
+        Ok(acts) => {
+            let mark = match acts.as_slice() {
+                [] => '.',
+                [Act::Do(Op::Open { .. }, None)] => 'o',
+                _ => '?',
+            };
+            drop(acts);
+            mark
+        }
+        Err(_) => '!',
+    }
+}
+
+// That its link gives these two parts is tried above.
+#[test]
+fn a_frame_of_stomp_may_be_cut_over_two_messages(rt: HostRuntime) {
+    let mut session = Session::new(rt.alloc());
+    let first = mark_of(rt.alloc(), &mut session, b"CONNECT\naccept-vers");
+    let second = mark_of(rt.alloc(), &mut session, b"ion:1.2\n\n\0");
+    drop(session);
+    assert_eq!(rt; (first, second), ('.', 'o'));
 }
