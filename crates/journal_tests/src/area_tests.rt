@@ -1,182 +1,370 @@
-use area_core::{Area, AreaFault, ReadFault, format};
-use command_core::{Entry, decode};
-use disk_core::{Call, Disk, MemDisk};
-use std::alloc::{AllocError, Global};
-use std::process::Abort;
-use std::test::Fail;
+use crate::area_steps::{AreaStep, Visit, told_front, visits};
+use crate::journals::{JournalImage, Told, empty_image, put};
+use disk_core::Call;
+use log::info;
+use std::alloc::Global;
 
-// The size of a disk with two areas of 4,096 bytes.
-const SIZE: u64 = 8_224;
+// The snapshot of a new journal.
+const FIRST: [u8; 32] = [0; 32];
 
-// A plain SEND to `/queue/q`: its record has 28 bytes and those of the body.
-fn record_of(alloc: Global, body: u32) -> Result<Vec<u8>, AllocError> {
-    let mut record = Vec::from_slice(alloc, b"\0\0\0\0\0\0\0\0\0\x02\0\0\0\x08/queue/q\0\0")?;
-    record.extend_from_slice(&body.to_be_bytes())?;
-    for _ in 0..body {
-        record.push(b'x')?;
-    }
-    Ok(record)
-}
+// The live area of a new journal, as it is read.
+const NEW: AreaStep<'static> = AreaStep::Shows(0, 41, 2, 40);
 
-fn sending(alloc: Global, body: u32) -> Result<Entry<()>, Fail> {
-    let record = record_of(alloc, body)?;
-    let decoded = decode(alloc, record.as_slice());
-    drop(record);
-    let (command, _) = decoded?;
-    match Entry::new(alloc, command, None) {
-        Ok(entry) => Ok(entry),
-        Err(_) => Err(Fail::from("no memory for a record")),
-    }
-}
+// What a block that fills the area asks of the disk.
+const FILLING: [Call; 4] = [
+    Call::Write { at: 73, len: 4_055 },
+    Call::Sync,
+    Call::Write { at: 72, len: 1 },
+    Call::Sync,
+];
 
-fn formatted(alloc: Global) -> Result<MemDisk, Fail> {
-    let mut disk = MemDisk::new(alloc, SIZE)?;
-    format(alloc, &mut disk, 4_096)?;
-    Ok(disk)
-}
-
-// The live area, which lies within the disk, and its snapshot.
-fn front<D: Disk>(
-    rt: &impl Abort,
-    alloc: Global,
-    disk: &mut D,
-) -> Result<(Area, Vec<u8>), ReadFault> {
-    let (area, snapshot) = Area::front(alloc, disk)?;
-    assert!(rt; area.size() == 4_096 && disk.size() == SIZE);
-    Ok((area, snapshot))
-}
-
-// How many commands the blocks of the live area have.
-fn commands<D: Disk>(
-    rt: &impl Abort,
-    alloc: Global,
-    disk: &mut D,
-    area: &mut Area,
-) -> Result<usize, ReadFault> {
-    let mut count: usize = 0;
-    for _ in 0..8_u8 {
-        assert!(rt; area.size() == 4_096 && disk.size() == SIZE && count < 1_000);
-        match area.next_block(alloc, disk)? {
-            Some(commands) => count += commands.len().min(1_000),
-            None => return Ok(count),
-        }
-    }
-    Ok(count)
-}
-
-// The area is new, and answers whether a batch of `bytes` bytes fits.
-fn expect_new(
-    rt: &impl Abort,
-    alloc: Global,
-    disk: &mut MemDisk,
-    area: &mut Area,
-    bytes: u64,
-    fits: bool,
-) -> Result<(), ReadFault> {
-    let count = commands(rt, alloc, disk, area)?;
-    assert_eq!(rt; count, 0);
-    assert_eq!(rt; (area.used(), area.snapshot_place()), (41, 40));
-    assert_eq!(rt; area.fits(bytes), fits);
-    Ok(())
-}
-
-// The area takes the batch, which fills it.
-fn fill(
-    rt: &impl Abort,
-    alloc: Global,
-    disk: &mut MemDisk,
-    area: &mut Area,
-    batch: &[Entry<()>; 1],
-) -> Result<(), AreaFault> {
-    let before = disk.calls().len();
-    assert!(rt; area.size() == 4_096 && disk.size() == SIZE);
-    area.append(alloc, disk, batch)?;
-    assert_eq!(rt; area.used(), 4_096);
-    let calls = [
-        Call::Write { at: 73, len: 4_055 },
-        Call::Sync,
-        Call::Write { at: 72, len: 1 },
-        Call::Sync,
-    ];
-    assert!(rt; before <= disk.calls().len());
-    assert!(rt; &disk.calls()[before..] == calls.as_slice());
-    Ok(())
-}
-
-// The area has no room for the batch: it is broken, and the disk is not touched.
-fn overfill(
-    rt: &impl Abort,
-    alloc: Global,
-    disk: &mut MemDisk,
-    area: &mut Area,
-    batch: &[Entry<()>; 1],
-) {
-    let before = disk.calls().len();
-    assert!(rt; area.size() == 4_096 && disk.size() == SIZE);
-    let answer = area.append(alloc, disk, batch);
-    assert!(rt; matches!(answer, Err(AreaFault::Full)) && area.is_broken());
-    assert!(rt; area.size() == 4_096 && disk.size() == SIZE);
-    let again = area.append(alloc, disk, batch);
-    assert!(rt; matches!(again, Err(AreaFault::Broken)));
-    assert_eq!(rt; disk.calls().len(), before);
-}
-
-// Offers a new area the batch, which fits or doesn't.
-fn offer(
-    rt: &impl Abort,
-    alloc: Global,
-    disk: &mut MemDisk,
-    area: &mut Area,
-    batch: &[Entry<()>; 1],
-    fits: bool,
-) -> Result<(), AreaFault> {
-    if fits {
-        return fill(rt, alloc, disk, area, batch);
-    }
-    overfill(rt, alloc, disk, area, batch);
-    Ok(())
-}
-
-// Offers a new journal a batch with a body of `body` bytes, which fits or doesn't.
-fn offer_to_new(
-    rt: &impl Abort,
-    alloc: Global,
-    disk: &mut MemDisk,
-    body: u32,
-    fits: bool,
-) -> Result<(), Fail> {
-    let batch = [sending(alloc, body)?];
-    let (mut area, snapshot) = front(rt, alloc, disk)?;
-    let is_first = snapshot.as_slice() == [0_u8; 32].as_slice();
-    drop(snapshot);
-    let known = expect_new(rt, alloc, disk, &mut area, u64::from(body) + 28, fits);
-    let answer = offer(rt, alloc, disk, &mut area, &batch, fits);
-    drop(area);
-    drop(batch);
-    assert!(rt; is_first);
-    known?;
-    Ok(answer?)
-}
-
-// How many commands the journal has, once its area is read again.
-fn commands_again(rt: &impl Abort, alloc: Global, disk: &mut MemDisk) -> Result<usize, ReadFault> {
-    let (mut area, snapshot) = front(rt, alloc, disk)?;
-    drop(snapshot);
-    let count = commands(rt, alloc, disk, &mut area);
-    drop(area);
-    count
-}
+const FILLED: [Visit<'static>; 3] = [
+    Visit {
+        snapshot: &FIRST,
+        passed: u64::MAX,
+        steps: &[
+            (AreaStep::Next(0), Told::Done),
+            (NEW, Told::Done),
+            (AreaStep::Fits(4_046, true), Told::Done),
+            (AreaStep::Fits(4_047, false), Told::Done),
+        ],
+        calls: None,
+    },
+    Visit {
+        snapshot: &FIRST,
+        passed: u64::MAX,
+        steps: &[
+            (AreaStep::Append(4_018), Told::Done),
+            (AreaStep::Shows(0, 4_096, 2, 40), Told::Done),
+        ],
+        calls: Some(&FILLING),
+    },
+    Visit {
+        snapshot: &FIRST,
+        passed: u64::MAX,
+        steps: &[
+            (AreaStep::Next(1), Told::Done),
+            (AreaStep::Next(0), Told::Done),
+        ],
+        calls: None,
+    },
+];
 
 // The block's closing gate is the last byte of the area.
 #[test]
-fn a_block_of_4046_bytes_fills_a_new_area_of_4096(rt: HostRuntime) -> Result<(), Fail> {
-    for (body, fits) in [(4_018, true), (4_019, false)] {
-        let mut disk = formatted(rt.alloc())?;
-        let offered = offer_to_new(&rt, rt.alloc(), &mut disk, body, fits);
-        let count = commands_again(&rt, rt.alloc(), &mut disk);
-        drop(disk);
-        offered?;
-        assert_eq!(rt; count?, usize::from(fits));
+fn a_block_of_4046_bytes_fills_a_new_area_of_4096(rt: HostRuntime) {
+    assert!(rt; visits(rt.alloc(), &empty_image(), &FILLED));
+}
+
+const OVERFILLED: [Visit<'static>; 2] = [
+    Visit {
+        snapshot: &FIRST,
+        passed: u64::MAX,
+        steps: &[
+            (AreaStep::Append(4_019), Told::Full),
+            (AreaStep::IsBroken, Told::Done),
+            (AreaStep::Append(4_019), Told::Broken),
+        ],
+        calls: Some(&[]),
+    },
+    Visit {
+        snapshot: &FIRST,
+        passed: u64::MAX,
+        steps: &[(AreaStep::Next(0), Told::Done)],
+        calls: None,
+    },
+];
+
+// The area is broken, and the disk is not touched.
+#[test]
+fn a_block_of_4047_bytes_breaks_a_new_area_of_4096(rt: HostRuntime) {
+    assert!(rt; visits(rt.alloc(), &empty_image(), &OVERFILLED));
+}
+
+const SWITCH: (AreaStep<'static>, Told) = (AreaStep::Switch, Told::Done);
+
+const SELECT: Call = Call::Write { at: 16, len: 1 };
+
+const NO_BLOCK: (AreaStep<'static>, Told) = (AreaStep::Next(0), Told::Done);
+
+// A selector, and two visits. In the first a snapshot is written into the area that the selector does not name: it lies between its length
+// and a closed gate, then come a sync, the selector and a sync. In the second that area is live, with that snapshot and no block.
+const MOVES: [(u8, [Visit<'static>; 2]); 4] = [
+    // A selector of the first area, and the longest snapshot, which fills the second.
+    (
+        0,
+        [
+            Visit {
+                snapshot: &FIRST,
+                passed: u64::MAX,
+                steps: &[(AreaStep::Write(&[0x5a; 4_087]), Told::Done), SWITCH],
+                calls: Some(&[
+                    Call::Write {
+                        at: 4_128,
+                        len: 4_096,
+                    },
+                    Call::Sync,
+                    SELECT,
+                    Call::Sync,
+                ]),
+            },
+            Visit {
+                snapshot: &[0x5a; 4_087],
+                passed: u64::MAX,
+                steps: &[
+                    (AreaStep::Selects(1), Told::Done),
+                    NO_BLOCK,
+                    (AreaStep::Shows(1, 4_096, 2, 4_136), Told::Done),
+                ],
+                calls: None,
+            },
+        ],
+    ),
+    // One of the second area. Unless it was written, that has a snapshot of no bytes.
+    (
+        1,
+        [
+            Visit {
+                snapshot: &[],
+                passed: u64::MAX,
+                steps: &[(AreaStep::Write(&[0x5a; 32]), Told::Done), SWITCH],
+                calls: Some(&[
+                    Call::Write { at: 32, len: 41 },
+                    Call::Sync,
+                    SELECT,
+                    Call::Sync,
+                ]),
+            },
+            Visit {
+                snapshot: &[0x5a; 32],
+                passed: u64::MAX,
+                steps: &[
+                    (AreaStep::Selects(2), Told::Done),
+                    NO_BLOCK,
+                    (AreaStep::Shows(0, 41, 2, 40), Told::Done),
+                ],
+                calls: None,
+            },
+        ],
+    ),
+    (
+        0x7a,
+        [
+            Visit {
+                snapshot: &FIRST,
+                passed: u64::MAX,
+                steps: &[(AreaStep::Write(&[0x5a]), Told::Done), SWITCH],
+                calls: Some(&[
+                    Call::Write { at: 4_128, len: 10 },
+                    Call::Sync,
+                    SELECT,
+                    Call::Sync,
+                ]),
+            },
+            Visit {
+                snapshot: &[0x5a],
+                passed: u64::MAX,
+                steps: &[
+                    (AreaStep::Selects(0x7b), Told::Done),
+                    NO_BLOCK,
+                    (AreaStep::Shows(1, 10, 2, 4_136), Told::Done),
+                ],
+                calls: None,
+            },
+        ],
+    ),
+    // No selector is greater.
+    (
+        255,
+        [
+            Visit {
+                snapshot: &[],
+                passed: u64::MAX,
+                steps: &[(AreaStep::Write(&[]), Told::Done), SWITCH],
+                calls: Some(&[
+                    Call::Write { at: 32, len: 9 },
+                    Call::Sync,
+                    SELECT,
+                    Call::Sync,
+                ]),
+            },
+            Visit {
+                snapshot: &[],
+                passed: u64::MAX,
+                steps: &[
+                    (AreaStep::Selects(0), Told::Done),
+                    NO_BLOCK,
+                    (AreaStep::Shows(0, 9, 2, 40), Told::Done),
+                ],
+                calls: None,
+            },
+        ],
+    ),
+];
+
+// Whether all comes so of a journal with that selector.
+fn moves(alloc: Global, selector: u8, both: &[Visit<'_>]) -> bool {
+    let mut image = empty_image();
+    put(&mut image, 16, &[selector]);
+    visits(alloc, &image, both)
+}
+
+#[test]
+fn a_snapshot_goes_into_the_other_area_which_is_then_live(rt: HostRuntime) {
+    for (selector, both) in MOVES.iter() {
+        let is_right = moves(rt.alloc(), *selector, both);
+        assert!(rt; is_right, "selector {selector}");
     }
-    Ok(())
+}
+
+const TOO_LONG: [Visit<'static>; 1] = [Visit {
+    snapshot: &FIRST,
+    passed: u64::MAX,
+    steps: &[
+        (AreaStep::Write(&[0x5a; 4_088]), Told::Full),
+        (AreaStep::Write(&[]), Told::Broken),
+        (AreaStep::IsBroken, Told::Done),
+        (AreaStep::Switch, Told::Broken),
+    ],
+    calls: Some(&[]),
+}];
+
+// Both steps are then refused, and the disk is not touched.
+#[test]
+fn a_snapshot_that_is_too_long_breaks_the_area(rt: HostRuntime) {
+    assert!(rt; visits(rt.alloc(), &empty_image(), &TOO_LONG));
+}
+
+const FAILS_TO_WRITE: &[(AreaStep<'static>, Told)] = &[
+    (AreaStep::Write(&FIRST), Told::Device),
+    (AreaStep::Switch, Told::Broken),
+    (AreaStep::IsBroken, Told::Done),
+    (AreaStep::Write(&[]), Told::Broken),
+];
+
+const FAILS_TO_SWITCH: &[(AreaStep<'static>, Told)] = &[
+    (AreaStep::Write(&FIRST), Told::Done),
+    (AreaStep::Switch, Told::Device),
+    (AreaStep::IsBroken, Told::Done),
+    (AreaStep::Write(&[]), Told::Broken),
+    (AreaStep::Switch, Told::Broken),
+];
+
+const PASSES: &[(AreaStep<'static>, Told)] = &[
+    (AreaStep::Write(&FIRST), Told::Done),
+    (AreaStep::Switch, Told::Done),
+];
+
+// What comes of a move, by how many calls pass.
+const PASSED: [&[(AreaStep<'static>, Told)]; 5] = [
+    FAILS_TO_WRITE,
+    FAILS_TO_WRITE,
+    FAILS_TO_SWITCH,
+    FAILS_TO_SWITCH,
+    PASSES,
+];
+
+// Whether that comes of a move while so many calls pass.
+fn comes_of(alloc: Global, passed: u64, steps: &[(AreaStep<'_>, Told)]) -> bool {
+    let visited = [Visit {
+        snapshot: &FIRST,
+        passed,
+        steps,
+        calls: None,
+    }];
+    visits(alloc, &empty_image(), &visited)
+}
+
+// Each of its four calls may be the one that fails: two of writing, and two of switching. After a failure nothing more is done.
+#[test]
+fn a_snapshot_fails_where_its_disk_fails(rt: HostRuntime) {
+    for (passed, steps) in PASSED.iter().enumerate() {
+        info!(rt; "a snapshot: {passed} calls pass, and then all fail");
+        let is_right = comes_of(rt.alloc(), passed as u64, steps);
+        assert!(rt; is_right, "{passed} calls");
+    }
+}
+
+// The digits in the name, the byte that the live area begins with, and the version that this gives, or that the area's first word
+// is damaged.
+const VERSIONS: [(&[u8; 2], u8, (Told, u8)); 8] = [
+    (b"01", 0, (Told::Done, 1)),
+    (b"01", 2, (Told::Done, 2)),
+    (b"02", 0, (Told::Done, 1)),
+    (b"02", 2, (Told::Done, 2)),
+    (b"02", 1, (Told::Damaged(32), 0)),
+    (b"01", 3, (Told::Damaged(32), 0)),
+    (b"02", 4, (Told::Damaged(32), 0)),
+    (b"02", 255, (Told::Damaged(32), 0)),
+];
+
+// A new journal whose name has these digits, and whose live area begins with this byte.
+fn image_with(digits: &[u8; 2], first: u8) -> JournalImage {
+    let mut image = empty_image();
+    put(&mut image, 6, digits);
+    put(&mut image, 32, &[first]);
+    image
+}
+
+// Whether the front of such a journal gives that version, or that refusal.
+fn gives(alloc: Global, digits: &[u8; 2], first: u8, wanted: (Told, u8)) -> bool {
+    let (told, version) = told_front(alloc, &image_with(digits, first));
+    told == wanted.0 && version == wanted.1
+}
+
+// The name does not decide the version.
+#[test]
+fn an_area_tells_its_version_itself(rt: HostRuntime) {
+    for (digits, first, wanted) in VERSIONS {
+        let is_right = gives(rt.alloc(), digits, first, wanted);
+        assert!(rt; is_right, "byte {first}");
+    }
+}
+
+const UNKNOWN: (Told, u8) = (Told::UnknownVersion, 0);
+
+const NAMES: [(&[u8; 2], (Told, u8)); 6] = [
+    (b"00", UNKNOWN),
+    (b"01", (Told::Done, 2)),
+    (b"02", (Told::Done, 2)),
+    (b"03", UNKNOWN),
+    (b"12", UNKNOWN),
+    (b"21", UNKNOWN),
+];
+
+#[test]
+fn a_name_with_other_digits_is_of_another_version(rt: HostRuntime) {
+    for (digits, wanted) in NAMES {
+        assert!(rt; gives(rt.alloc(), digits, 2, wanted));
+    }
+}
+
+const FROM_OLD: [Visit<'static>; 2] = [
+    Visit {
+        snapshot: &FIRST,
+        passed: u64::MAX,
+        steps: &[
+            (AreaStep::Shows(0, 41, 1, 40), Told::Done),
+            (AreaStep::Write(&[0x5a; 7]), Told::Done),
+            (AreaStep::Switch, Told::Done),
+            (AreaStep::Shows(1, 16, 2, 4_136), Told::Done),
+        ],
+        calls: None,
+    },
+    Visit {
+        snapshot: &[0x5a; 7],
+        passed: u64::MAX,
+        steps: &[
+            (AreaStep::Selects(1), Told::Done),
+            (AreaStep::Next(0), Told::Done),
+            (AreaStep::Shows(1, 16, 2, 4_136), Told::Done),
+        ],
+        calls: None,
+    },
+];
+
+// The first area of a new journal becomes one of the first version. What is written after that is of the second.
+#[test]
+fn a_snapshot_is_written_as_the_second_version(rt: HostRuntime) {
+    assert!(rt; visits(rt.alloc(), &image_with(b"02", 0), &FROM_OLD));
 }

@@ -1,9 +1,8 @@
 //! A count that promises far more than there are bytes is reported as damage, and takes no memory.
-use crate::any_bytes_tests::{Reported, tells};
-use crate::journals::SIZE;
-use std::alloc::{AllocError, Global};
+use crate::journal_steps::told_of;
+use crate::journals::{JournalImage, SIZE, Told, put};
+use std::alloc::Global;
 use std::fs;
-use std::process::Abort;
 use std::test::Fail;
 
 // Bytes of a journal, and whether they are a count: of a list, of a text's bytes, of headers or of a transaction's members.
@@ -101,21 +100,25 @@ fn length_of(parts: &[Part]) -> u64 {
     length
 }
 
-// Adds the parts. The damaged one, if it is among them, is as large as it can be.
-fn push_parts(
-    image: &mut Vec<u8>,
+// Puts the parts from there on. The damaged one, if it is among them, is as large as it can be. It answers where they end.
+fn put_parts(
+    image: &mut JournalImage,
+    from: usize,
     parts: &[Part],
     damaged: Option<usize>,
-) -> Result<(), AllocError> {
+) -> usize {
+    let mut at = from;
     for (number, (bytes, _)) in parts.iter().enumerate() {
-        if damaged == Some(number) {
-            let end = image.len().saturating_add(bytes.len());
-            image.resize(end, 0xff)?;
-        } else {
-            image.extend_from_slice(bytes)?;
+        // A count has two bytes or four.
+        let is_short = bytes.len() == 2;
+        match (damaged == Some(number), is_short) {
+            (true, true) => put(image, at, b"\xff\xff"),
+            (true, false) => put(image, at, b"\xff\xff\xff\xff"),
+            _ => put(image, at, bytes),
         }
+        at = at.saturating_add(bytes.len());
     }
-    Ok(())
+    at
 }
 
 // Which part of the journal is damaged.
@@ -127,51 +130,43 @@ enum Damage {
 }
 
 // The journal, whose second area is live and has the snapshot and a block of the record.
-fn push_image(image: &mut Vec<u8>, damage: Damage) -> Result<(), AllocError> {
+fn image_with(damage: Damage) -> JournalImage {
     let (of_snapshot, of_record) = match damage {
         Damage::None => (None, None),
         Damage::Snapshot(number) => (Some(number), None),
         Damage::Record(number) => (None, Some(number)),
     };
-    image.extend_from_slice(b"STOMPJ02\0\0\0\0\0\0\x10\0\x01")?;
-    image.resize(4_128, 0)?;
+    let mut image = [0; SIZE];
+    put(&mut image, 0, b"STOMPJ02\0\0\0\0\0\0\x10\0\x01");
     // The area's version stands in the highest byte of the snapshot's length.
     let front = length_of(&SNAPSHOT).saturating_add(2 << 56);
-    image.extend_from_slice(&front.to_be_bytes())?;
-    push_parts(image, &SNAPSHOT, of_snapshot)?;
-    image.push(1)?;
-    image.extend_from_slice(&length_of(&RECORD).to_be_bytes())?;
-    push_parts(image, &RECORD, of_record)?;
-    image.resize(SIZE as usize, 0)
+    put(&mut image, 4_128, &front.to_be_bytes());
+    let gate = put_parts(&mut image, 4_136, &SNAPSHOT, of_snapshot);
+    put(&mut image, gate, b"\x01");
+    let length = gate.saturating_add(1);
+    put(&mut image, length, &length_of(&RECORD).to_be_bytes());
+    put_parts(&mut image, length.saturating_add(8), &RECORD, of_record);
+    image
 }
 
-fn tells_of(
-    rt: &impl Abort,
-    alloc: Global,
-    damage: Damage,
-    wanted: Reported,
-) -> Result<bool, Fail> {
-    let mut image = Vec::new(alloc);
-    push_image(&mut image, damage)?;
-    tells(rt, alloc, image.as_slice(), 0, wanted)
+fn is_told(alloc: Global, damage: Damage, wanted: Told) -> bool {
+    told_of(alloc, &image_with(damage), 0) == wanted
 }
 
 // The first count that, once it is as large as it can be, is not reported at the place of the snapshot or the record that has it.
-fn first_wrong(rt: &impl Abort, alloc: Global) -> Result<Option<usize>, Fail> {
+fn first_wrong(alloc: Global) -> Option<usize> {
     let record = length_of(&SNAPSHOT).saturating_add(4_145);
     for (number, (_, is_count)) in SNAPSHOT.iter().enumerate() {
-        let told = Reported::Damaged(4_136);
-        if *is_count && !tells_of(rt, alloc, Damage::Snapshot(number), told)? {
-            return Ok(Some(number));
+        if *is_count && !is_told(alloc, Damage::Snapshot(number), Told::Damaged(4_136)) {
+            return Some(number);
         }
     }
     for (number, (_, is_count)) in RECORD.iter().enumerate() {
-        let told = Reported::Damaged(record);
-        if *is_count && !tells_of(rt, alloc, Damage::Record(number), told)? {
-            return Ok(Some(number.saturating_add(SNAPSHOT.len())));
+        if *is_count && !is_told(alloc, Damage::Record(number), Told::Damaged(record)) {
+            return Some(number.saturating_add(SNAPSHOT.len()));
         }
     }
-    Ok(None)
+    None
 }
 
 // The most address space, in kB, that a process has had, as its status says.
@@ -187,11 +182,11 @@ fn peak_in(status: &str) -> Option<u64> {
 // A list, a text or a body of 2^32 - 1 bytes or more would take 4 GB. Less than a hundredth of that is taken.
 #[test]
 fn a_count_takes_no_more_memory_than_the_bytes_there(rt: HostRuntime) -> Result<(), Fail> {
-    let is_whole = tells_of(&rt, rt.alloc(), Damage::None, Reported::Holds(6, 4))?;
+    let is_whole = is_told(rt.alloc(), Damage::None, Told::Holds(6, 4));
     let status = fs::read_to_string(&rt, "/proc/self/status")?;
     let before = peak_in(status.as_str());
     drop(status);
-    let wrong = first_wrong(&rt, rt.alloc())?;
+    let wrong = first_wrong(rt.alloc());
     let status = fs::read_to_string(&rt, "/proc/self/status")?;
     let after = peak_in(status.as_str());
     drop(status);

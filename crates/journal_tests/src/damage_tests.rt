@@ -1,14 +1,11 @@
-use crate::journals::{OPEN, SEND, SIZE, formatted, journal_of, tells};
+use crate::journal_steps::{FailingCalls, JournalStep, StoreWork, play, told_of};
+use crate::journals::{JournalImage, OPEN, SEND, SIZE, Told, empty_image, put};
 use byteorder::{BigEndian, ByteOrder};
-use disk_core::{Disk, MemDisk};
-use recover_core::{OpenFault, read};
 use std::alloc::Global;
-use std::process::Abort;
-use std::test::Fail;
 
-// What is written over a disk.
+// What is written over a journal.
 #[derive(Clone, Copy)]
-enum Patch {
+enum Overwrite {
     Bytes(&'static [u8]),
     // A number, in eight bytes.
     Word(u64),
@@ -16,252 +13,202 @@ enum Patch {
     Front(u64),
 }
 
-// Writes these bytes over a disk.
-fn write<D: Disk>(rt: &impl Abort, disk: &mut D, at: u64, bytes: &[u8]) -> Result<(), Fail> {
-    assert!(rt; disk.size() == SIZE && at <= 8_000 && bytes.len() <= 100);
-    disk.write_at(at, bytes)?;
-    Ok(())
+fn put_word(image: &mut JournalImage, at: usize, number: u64) {
+    let mut word = [0; 8];
+    BigEndian::write_u64(&mut word, number);
+    put(image, at, &word);
 }
 
-fn write_patch(rt: &impl Abort, disk: &mut MemDisk, at: u64, patch: Patch) -> Result<(), Fail> {
-    match patch {
-        Patch::Bytes(bytes) => write(rt, disk, at, bytes),
-        Patch::Word(number) => {
-            let mut word = [0; 8];
-            BigEndian::write_u64(&mut word, number);
-            write(rt, disk, at, &word)
-        }
-        Patch::Front(count) => {
-            let mut word = [0; 8];
-            BigEndian::write_u64(&mut word, count);
-            word[0] = 2;
-            write(rt, disk, at, &word)
+fn write_over(image: &mut JournalImage, at: usize, what: Overwrite) {
+    match what {
+        Overwrite::Bytes(bytes) => put(image, at, bytes),
+        Overwrite::Word(number) => put_word(image, at, number),
+        Overwrite::Front(count) => {
+            put_word(image, at, count);
+            put(image, at, b"\x02");
         }
     }
 }
 
 // A journal whose second area is live, from place 4,128 on. It has the empty state, a block of an Open and a SEND, and two blocks of a SEND
 // each. The gates stand at 4,168, 4,217, 4,255 and 4,293. All bytes that are not named here are zero.
-const JOURNAL: [(u64, Patch); 15] = [
-    (0, Patch::Bytes(b"STOMPJ02")),
-    (8, Patch::Word(4_096)),
-    (16, Patch::Bytes(b"\x01")),
+const JOURNAL: [(usize, Overwrite); 15] = [
+    (0, Overwrite::Bytes(b"STOMPJ02")),
+    (8, Overwrite::Word(4_096)),
+    (16, Overwrite::Bytes(b"\x01")),
     // The first area, as it was formatted.
-    (32, Patch::Front(32)),
+    (32, Overwrite::Front(32)),
     // The second area.
-    (4_128, Patch::Front(32)),
-    (4_168, Patch::Bytes(b"\x01")),
-    (4_169, Patch::Word(40)),
-    (4_177, Patch::Bytes(OPEN)),
-    (4_188, Patch::Bytes(SEND)),
-    (4_217, Patch::Bytes(b"\x01")),
-    (4_218, Patch::Word(29)),
-    (4_226, Patch::Bytes(SEND)),
-    (4_255, Patch::Bytes(b"\x01")),
-    (4_256, Patch::Word(29)),
-    (4_264, Patch::Bytes(SEND)),
+    (4_128, Overwrite::Front(32)),
+    (4_168, Overwrite::Bytes(b"\x01")),
+    (4_169, Overwrite::Word(40)),
+    (4_177, Overwrite::Bytes(OPEN)),
+    (4_188, Overwrite::Bytes(SEND)),
+    (4_217, Overwrite::Bytes(b"\x01")),
+    (4_218, Overwrite::Word(29)),
+    (4_226, Overwrite::Bytes(SEND)),
+    (4_255, Overwrite::Bytes(b"\x01")),
+    (4_256, Overwrite::Word(29)),
+    (4_264, Overwrite::Bytes(SEND)),
 ];
 
-pub(crate) fn journal(rt: &impl Abort, alloc: Global) -> Result<MemDisk, Fail> {
-    let mut disk = MemDisk::new(alloc, SIZE)?;
-    for (at, patch) in JOURNAL {
-        write_patch(rt, &mut disk, at, patch)?;
+pub(crate) fn journal() -> JournalImage {
+    let mut image = [0; SIZE];
+    for (at, what) in JOURNAL {
+        write_over(&mut image, at, what);
     }
-    Ok(disk)
-}
-
-pub(crate) fn bytes_of(rt: &impl Abort, disk: &mut MemDisk) -> Result<[u8; SIZE as usize], Fail> {
-    let mut bytes = [0; SIZE as usize];
-    assert!(rt; disk.size() == SIZE);
-    disk.read_at(0, &mut bytes)?;
-    Ok(bytes)
+    image
 }
 
 #[test]
-fn a_journal_is_written_as_its_format_says(rt: HostRuntime) -> Result<(), Fail> {
-    let mut made = journal(&rt, rt.alloc())?;
-    let wanted = bytes_of(&rt, &mut made);
-    drop(made);
-    let wanted = wanted?;
-    let mut written = journal_of(rt.alloc(), &[&[OPEN, SEND], &[SEND], &[SEND]])?;
-    let bytes = bytes_of(&rt, &mut written);
-    drop(written);
-    assert!(rt; bytes? == wanted);
-    Ok(())
+fn a_journal_is_written_as_its_format_says(rt: HostRuntime) {
+    let batches: [&[&[u8]]; 3] = [&[OPEN, SEND], &[SEND], &[SEND]];
+    let add = JournalStep::Open(FailingCalls::None, StoreWork::Add(&batches));
+    let image = journal();
+    let steps = [
+        (JournalStep::Format(4_096, u64::MAX), Told::Done),
+        (add, Told::Done),
+        (JournalStep::Has(0, &image), Told::Done),
+    ];
+    assert_eq!(rt; play(rt.alloc(), SIZE as u64, &steps), None);
 }
 
 // What is written over the journal, from a place on, and what opening then reports.
-const DAMAGES: [(u64, Patch, &str); 32] = [
-    (0, Patch::Bytes(b"X"), "J1 not a journal"),
-    (6, Patch::Bytes(b"03"), "J7 unknown version"),
-    (6, Patch::Bytes(b"00"), "J7 unknown version"),
-    (8, Patch::Word(4_095), "J8 disk too small"),
-    (8, Patch::Word(4_097), "J8 disk too small"),
+const DAMAGES: [(usize, Overwrite, Told); 32] = [
+    (0, Overwrite::Bytes(b"X"), Told::NotAJournal),
+    (6, Overwrite::Bytes(b"03"), Told::UnknownVersion),
+    (6, Overwrite::Bytes(b"00"), Told::UnknownVersion),
+    (8, Overwrite::Word(4_095), Told::TooSmall),
+    (8, Overwrite::Word(4_097), Told::TooSmall),
     // A name of the first version, which does not decide, and an area of that version.
-    (6, Patch::Bytes(b"01"), "4 3"),
-    (4_128, Patch::Bytes(b"\0"), "4 3"),
+    (6, Overwrite::Bytes(b"01"), Told::Holds(4, 3)),
+    (4_128, Overwrite::Bytes(b"\0"), Told::Holds(4, 3)),
     // Bytes that no version's area begins with, even if the snapshot's length would not fit.
-    (4_128, Patch::Bytes(b"\x01"), "J2 damaged at 4128"),
-    (4_128, Patch::Bytes(b"\x03"), "J2 damaged at 4128"),
-    (4_128, Patch::Bytes(b"\xff"), "J2 damaged at 4128"),
-    (4_128, Patch::Word(u64::MAX), "J2 damaged at 4128"),
+    (4_128, Overwrite::Bytes(b"\x01"), Told::Damaged(4_128)),
+    (4_128, Overwrite::Bytes(b"\x03"), Told::Damaged(4_128)),
+    (4_128, Overwrite::Bytes(b"\xff"), Told::Damaged(4_128)),
+    (4_128, Overwrite::Word(u64::MAX), Told::Damaged(4_128)),
     // The greatest length of a snapshot that fits into seven bytes.
-    (4_128, Patch::Front((1 << 56) - 1), "J2 damaged at 4128"),
+    (4_128, Overwrite::Front((1 << 56) - 1), Told::Damaged(4_128)),
     // Another odd selector; bytes that are not read; and an even selector, for the area as it was formatted.
-    (16, Patch::Bytes(b"\x7b"), "4 3"),
-    (17, Patch::Bytes(&[0xff; 15]), "4 3"),
-    (16, Patch::Bytes(b"\x7a"), "0 0"),
+    (16, Overwrite::Bytes(b"\x7b"), Told::Holds(4, 3)),
+    (17, Overwrite::Bytes(&[0xff; 15]), Told::Holds(4, 3)),
+    (16, Overwrite::Bytes(b"\x7a"), Told::Holds(0, 0)),
     // The snapshot's length: one less, one more, as much as fits, and one more than that.
-    (4_128, Patch::Front(31), "J2 damaged at 4136"),
-    (4_128, Patch::Front(33), "J2 damaged at 4136"),
-    (4_128, Patch::Front(4_087), "J2 damaged at 4136"),
-    (4_128, Patch::Front(4_088), "J2 damaged at 4128"),
+    (4_128, Overwrite::Front(31), Told::Damaged(4_136)),
+    (4_128, Overwrite::Front(33), Told::Damaged(4_136)),
+    (4_128, Overwrite::Front(4_087), Told::Damaged(4_136)),
+    (4_128, Overwrite::Front(4_088), Told::Damaged(4_128)),
     // A count of more than 2^61 before the blocks; one that is 2^61 after them; and one more.
-    (4_136, Patch::Word((1 << 61) + 1), "J5 count too large"),
-    (4_136, Patch::Word((1 << 61) - 4), "2305843009213693952 0"),
-    (4_136, Patch::Word((1 << 61) - 3), "J5 count too large"),
+    (4_136, Overwrite::Word((1 << 61) + 1), Told::TooMany),
+    (
+        4_136,
+        Overwrite::Word((1 << 61) - 4),
+        Told::Holds(1 << 61, 0),
+    ),
+    (4_136, Overwrite::Word((1 << 61) - 3), Told::TooMany),
     // The gates: a gate that is not 1 is closed.
-    (4_168, Patch::Bytes(b"\0"), "0 0"),
-    (4_217, Patch::Bytes(b"\x37"), "2 1"),
-    (4_255, Patch::Bytes(b"\x02"), "3 2"),
+    (4_168, Overwrite::Bytes(b"\0"), Told::Holds(0, 0)),
+    (4_217, Overwrite::Bytes(b"\x37"), Told::Holds(2, 1)),
+    (4_255, Overwrite::Bytes(b"\x02"), Told::Holds(3, 2)),
     // A block's length: zero, one less, one more, and more than the area has.
-    (4_169, Patch::Word(0), "J2 damaged at 4169"),
-    (4_169, Patch::Word(39), "J2 damaged at 4188"),
-    (4_169, Patch::Word(41), "J2 damaged at 4217"),
-    (4_218, Patch::Word(4_095), "J2 damaged at 4218"),
+    (4_169, Overwrite::Word(0), Told::Damaged(4_169)),
+    (4_169, Overwrite::Word(39), Told::Damaged(4_188)),
+    (4_169, Overwrite::Word(41), Told::Damaged(4_217)),
+    (4_218, Overwrite::Word(4_095), Told::Damaged(4_218)),
     // The tags of the first command and of the last.
-    (4_186, Patch::Bytes(b"\x0a"), "J2 damaged at 4177"),
-    (4_273, Patch::Bytes(b"\x0a"), "J2 damaged at 4264"),
+    (4_186, Overwrite::Bytes(b"\x0a"), Told::Damaged(4_177)),
+    (4_273, Overwrite::Bytes(b"\x0a"), Told::Damaged(4_264)),
     // The last gate open, with nothing behind it.
-    (4_293, Patch::Bytes(b"\x01"), "J2 damaged at 4294"),
+    (4_293, Overwrite::Bytes(b"\x01"), Told::Damaged(4_294)),
 ];
 
-// Whether opening the disk reports that, once this is written over it.
-fn tells_of(
-    rt: &impl Abort,
-    alloc: Global,
-    mut disk: MemDisk,
-    at: u64,
-    patch: Patch,
-    wanted: &str,
-) -> Result<bool, Fail> {
-    write_patch(rt, &mut disk, at, patch)?;
-    tells(alloc, disk, wanted)
+// Whether that is told of a journal once this is written over it.
+fn is_told(alloc: Global, was: &JournalImage, at: usize, what: Overwrite, wanted: Told) -> bool {
+    let mut image = *was;
+    write_over(&mut image, at, what);
+    told_of(alloc, &image, 0) == wanted
 }
 
 #[test]
-fn what_is_damaged_is_told_with_its_place(rt: HostRuntime) -> Result<(), Fail> {
-    for (at, patch, wanted) in DAMAGES {
-        let disk = journal(&rt, rt.alloc())?;
-        let is_told = tells_of(&rt, rt.alloc(), disk, at, patch, wanted)?;
-        assert!(rt; is_told, "at {at}");
+fn what_is_damaged_is_told_with_its_place(rt: HostRuntime) {
+    let image = journal();
+    for (at, what, wanted) in DAMAGES.iter() {
+        let is_right = is_told(rt.alloc(), &image, *at, *what, *wanted);
+        assert!(rt; is_right, "at {at}");
     }
-    Ok(())
 }
 
 // The same for an empty journal, whose first area is live.
-const DAMAGES_OF_EMPTY: [(u64, Patch, &str); 5] = [
-    (6, Patch::Bytes(b"03"), "J7 unknown version"),
-    (8, Patch::Word(4_095), "J8 disk too small"),
-    (32, Patch::Front(31), "J2 damaged at 40"),
-    (40, Patch::Word(1 << 61), "2305843009213693952 0"),
-    (40, Patch::Word((1 << 61) + 1), "J5 count too large"),
+const DAMAGES_OF_EMPTY: [(usize, Overwrite, Told); 5] = [
+    (6, Overwrite::Bytes(b"03"), Told::UnknownVersion),
+    (8, Overwrite::Word(4_095), Told::TooSmall),
+    (32, Overwrite::Front(31), Told::Damaged(40)),
+    (40, Overwrite::Word(1 << 61), Told::Holds(1 << 61, 0)),
+    (40, Overwrite::Word((1 << 61) + 1), Told::TooMany),
 ];
 
 #[test]
-fn what_is_damaged_in_an_empty_journal_is_told(rt: HostRuntime) -> Result<(), Fail> {
-    for (at, patch, wanted) in DAMAGES_OF_EMPTY {
-        let disk = formatted(rt.alloc())?;
-        let is_told = tells_of(&rt, rt.alloc(), disk, at, patch, wanted)?;
-        assert!(rt; is_told, "at {at}");
+fn what_is_damaged_in_an_empty_journal_is_told(rt: HostRuntime) {
+    let image = empty_image();
+    for (at, what, wanted) in DAMAGES_OF_EMPTY.iter() {
+        let is_right = is_told(rt.alloc(), &image, *at, *what, *wanted);
+        assert!(rt; is_right, "at {at}");
     }
-    let zeros = MemDisk::new(rt.alloc(), 64)?;
-    let is_told = tells(rt.alloc(), zeros, "J1 not a journal")?;
-    assert!(rt; is_told);
-    Ok(())
+    assert!(rt; told_of(rt.alloc(), &[0; 64], 0) == Told::NotAJournal);
 }
 
 // Damage after a count that is too large is reported, wherever in the live area it is.
 #[test]
-fn damage_is_told_before_a_count_that_is_too_large(rt: HostRuntime) -> Result<(), Fail> {
-    let mut disk = journal(&rt, rt.alloc())?;
-    write_patch(&rt, &mut disk, 4_136, Patch::Word((1 << 61) + 1))?;
-    write_patch(&rt, &mut disk, 4_273, Patch::Bytes(b"\x0a"))?;
-    let is_told = tells(rt.alloc(), disk, "J2 damaged at 4264")?;
-    assert!(rt; is_told);
-    Ok(())
+fn damage_is_told_before_a_count_that_is_too_large(rt: HostRuntime) {
+    let mut image = journal();
+    write_over(&mut image, 4_136, Overwrite::Word((1 << 61) + 1));
+    write_over(&mut image, 4_273, Overwrite::Bytes(b"\x0a"));
+    assert!(rt; told_of(rt.alloc(), &image, 0) == Told::Damaged(4_264));
 }
 
 // What opening reports if this byte is inverted.
-fn wanted_at(at: u64) -> &'static str {
+fn wanted_at(at: usize) -> Told {
     match at {
-        0..=5 => "J1 not a journal",
-        6 | 7 => "J7 unknown version",
-        8..=15 => "J8 disk too small",
-        17..=31 => "4 3",
-        4_169..=4_175 => "J2 damaged at 4169",
-        4_176 => "J2 damaged at 4217",
-        _ => "0 0",
+        0..=5 => Told::NotAJournal,
+        6 | 7 => Told::UnknownVersion,
+        8..=15 => Told::TooSmall,
+        17..=31 => Told::Holds(4, 3),
+        4_169..=4_175 => Told::Damaged(4_169),
+        4_176 => Told::Damaged(4_217),
+        _ => Told::Holds(0, 0),
     }
-}
-
-fn turn_over(rt: &impl Abort, disk: &mut MemDisk, at: u64) -> Result<(), Fail> {
-    let mut byte = [0];
-    assert!(rt; disk.size() == SIZE && at <= 8_000);
-    disk.read_at(at, &mut byte)?;
-    write(rt, disk, at, &[byte[0] ^ 0xff])
 }
 
 // The header, the first block's gate and its length.
 #[test]
-fn each_byte_of_the_frame_counts(rt: HostRuntime) -> Result<(), Fail> {
-    for step in 0..41_u64 {
+fn each_byte_of_the_frame_counts(rt: HostRuntime) {
+    for step in 0..41usize {
         let at = if step < 32 { step } else { step + 4_136 };
-        let mut disk = journal(&rt, rt.alloc())?;
-        turn_over(&rt, &mut disk, at)?;
-        let is_told = tells(rt.alloc(), disk, wanted_at(at))?;
-        assert!(rt; is_told, "at {at}");
+        let mut image = journal();
+        image[at] ^= 0xff;
+        assert!(rt; told_of(rt.alloc(), &image, 0) == wanted_at(at), "at {at}");
     }
-    Ok(())
-}
-
-fn shown(alloc: Global, disk: &mut MemDisk) -> Result<[u64; 6], OpenFault> {
-    let seen = read(alloc, disk)?;
-    Ok([
-        u64::from(seen.version),
-        u64::from(seen.area),
-        seen.used,
-        seen.count,
-        seen.held.messages,
-        seen.held.bytes,
-    ])
 }
 
 #[test]
-fn an_empty_journal_shows_that_it_holds_nothing(rt: HostRuntime) -> Result<(), Fail> {
-    let mut disk = formatted(rt.alloc())?;
-    let empty = shown(rt.alloc(), &mut disk);
-    drop(disk);
-    assert_eq!(rt; empty?, [2, 0, 41, 0, 0, 0]);
-    Ok(())
+fn an_empty_journal_shows_that_it_holds_nothing(rt: HostRuntime) {
+    let steps = [
+        (JournalStep::Format(4_096, u64::MAX), Told::Done),
+        (JournalStep::Shows([2, 0, 41, 0, 0, 0]), Told::Done),
+    ];
+    assert_eq!(rt; play(rt.alloc(), SIZE as u64, &steps), None);
 }
 
-// The journal is shown twice as it is: opening would leave another area and another used length. Then its count is made too large.
-fn show_again(rt: &impl Abort, alloc: Global, disk: &mut MemDisk) -> Result<(), Fail> {
-    for _ in 0..2_u8 {
-        let seen = shown(alloc, disk)?;
-        assert_eq!(rt; seen, [2, 1, 166, 4, 3, 27]);
-    }
-    write_patch(rt, disk, 4_136, Patch::Word((1 << 61) + 1))?;
-    let refused = shown(alloc, disk);
-    assert!(rt; matches!(refused, Err(OpenFault::CountTooLarge)));
-    Ok(())
-}
-
+// The journal is shown twice as it is: opening would leave another area and another used length.
 #[test]
-fn a_journal_shows_what_it_holds(rt: HostRuntime) -> Result<(), Fail> {
-    let mut disk = journal(&rt, rt.alloc())?;
-    let done = show_again(&rt, rt.alloc(), &mut disk);
-    drop(disk);
-    done
+fn a_journal_shows_what_it_holds(rt: HostRuntime) {
+    let image = journal();
+    let shows = JournalStep::Shows([2, 1, 166, 4, 3, 27]);
+    let steps = [
+        (JournalStep::Write(&image), Told::Done),
+        (shows, Told::Done),
+        (shows, Told::Done),
+    ];
+    assert_eq!(rt; play(rt.alloc(), SIZE as u64, &steps), None);
 }

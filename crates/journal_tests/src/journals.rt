@@ -1,16 +1,14 @@
-//! The journals that the tests use.
-
-use area_core::{AreaFault, format};
-use broker_core::Broker;
-use command_core::{Entry, decode};
+//! The journals that the tests use, as bytes and on disks, and what is told of them.
+use area_core::{AreaFault, FormatFault, ReadFault};
 use disk_core::{Disk, MemDisk};
-use recover_core::{Store, open};
-use snapshot_core::encode_state;
+use recover_core::OpenFault;
 use std::alloc::Global;
-use std::test::Fail;
 
 // The size of a disk with two areas of 4,096 bytes.
-pub(crate) const SIZE: u64 = 8_224;
+pub(crate) const SIZE: usize = 8_224;
+
+// The bytes of such a disk.
+pub(crate) type JournalImage = [u8; SIZE];
 
 // What a stop may fill unsynced bytes with; `None` leaves what was there.
 pub(crate) const FILLS: [Option<u8>; 4] = [None, Some(0x00), Some(0x01), Some(0x37)];
@@ -24,149 +22,125 @@ pub(crate) const SEND: &[u8] = b"\0\0\0\0\0\0\0\0\0\x02\0\0\0\x08/queue/q\0\0\0\
 // The session listens to `/queue/q` as `s`, and acknowledges.
 pub(crate) const SUBSCRIBE: &[u8] = b"\0\0\0\0\0\0\0\0\0\x03\0\0\0\x01s\0\0\0\x08/queue/q\x01\0";
 
-// Adds the command of a record to a batch.
-pub(crate) fn push_record(
-    alloc: Global,
-    batch: &mut Vec<Entry<()>>,
-    record: &[u8],
-) -> Result<(), Fail> {
-    let (command, _) = decode(alloc, record)?;
-    match Entry::new(alloc, command, None) {
-        Ok(entry) => Ok(batch.push(entry)?),
-        Err(_) => Err(Fail::from("no memory for a record")),
+// What comes of a step with a journal: what a disk that is read or opened holds, or why the step is refused.
+#[derive(Clone, Copy, PartialEq, Eq)]
+pub(crate) enum Told {
+    Done,
+    // So many commands were carried out, and so many messages are held.
+    Holds(u64, u64),
+    NotAJournal,
+    UnknownVersion,
+    TooSmall,
+    Damaged(u64),
+    TooMany,
+    Device,
+    Full,
+    Broken,
+    // Something that no test wants, a refusal of memory included.
+    Other,
+}
+
+pub(crate) fn told_of_reading(fault: &ReadFault) -> Told {
+    match fault {
+        ReadFault::NotAJournal => Told::NotAJournal,
+        ReadFault::UnknownVersion => Told::UnknownVersion,
+        ReadFault::TooSmall => Told::TooSmall,
+        ReadFault::Damaged(place) => Told::Damaged(*place),
+        ReadFault::Device => Told::Device,
+        ReadFault::Memory(_) => Told::Other,
     }
 }
 
-// A batch of the commands of these records.
-pub(crate) fn batch_of(alloc: Global, records: &[&[u8]]) -> Result<Vec<Entry<()>>, Fail> {
-    let mut batch = Vec::new(alloc);
-    for record in records {
-        push_record(alloc, &mut batch, record)?;
+pub(crate) fn told_of_area(done: Result<(), AreaFault>) -> Told {
+    match done {
+        Ok(()) => Told::Done,
+        Err(AreaFault::Device) => Told::Device,
+        Err(AreaFault::Full) => Told::Full,
+        Err(AreaFault::Broken) => Told::Broken,
+        Err(AreaFault::Memory(_)) => Told::Other,
     }
-    Ok(batch)
+}
+
+pub(crate) fn told_of_opening(fault: &OpenFault) -> Told {
+    match fault {
+        OpenFault::Read(fault) => told_of_reading(fault),
+        OpenFault::CountTooLarge => Told::TooMany,
+        OpenFault::Area(AreaFault::Device) => Told::Device,
+        OpenFault::Area(_) => Told::Other,
+    }
+}
+
+pub(crate) fn told_of_format(done: Result<(), FormatFault>) -> Told {
+    match done {
+        Ok(()) => Told::Done,
+        Err(FormatFault::TooSmall) => Told::TooSmall,
+        Err(FormatFault::Device) => Told::Device,
+        Err(FormatFault::Memory(_)) => Told::Other,
+    }
+}
+
+// Puts bytes into an image, from a place on where they fit.
+pub(crate) fn put(image: &mut JournalImage, at: usize, bytes: &[u8]) {
+    if at <= SIZE && bytes.len() <= SIZE - at {
+        image[at..at + bytes.len()].copy_from_slice(bytes);
+    }
+}
+
+// Where images have bytes that are not zero: in the header and the first area, and in the second area.
+const WRITTEN: [(usize, usize); 2] = [(0, 256), (4_128, 4_640)];
+
+// Writes the bytes that the image has from one place up to another, as far as it goes.
+fn write_range(disk: &mut MemDisk, image: &[u8], from: usize, to: usize) -> bool {
+    let end = to.min(image.len());
+    if from >= end {
+        return true;
+    }
+    disk.size() == image.len() as u64 && disk.write_at(from as u64, &image[from..end]).is_ok()
+}
+
+// Writes an image that is zero but for those ranges and the byte at that place, and syncs it.
+pub(crate) fn write_image(disk: &mut MemDisk, image: &[u8], place: usize) -> bool {
+    for (from, to) in WRITTEN {
+        if !write_range(disk, image, from, to) {
+            return false;
+        }
+    }
+    let is_written = write_range(disk, image, place, place.saturating_add(1));
+    let is_synced = disk.sync().is_ok();
+    disk.crash(None);
+    is_written && is_synced
+}
+
+// A disk with such an image.
+pub(crate) fn disk_of(alloc: Global, image: &[u8], place: usize) -> Option<MemDisk> {
+    let mut disk = MemDisk::new(alloc, image.len() as u64).ok()?;
+    if write_image(&mut disk, image, place) {
+        return Some(disk);
+    }
+    drop(disk);
+    None
+}
+
+// The bytes of a header with this name: how long an area is, and the selector of the first area.
+pub(crate) fn header_with(name: &[u8; 8]) -> [u8; 32] {
+    let mut bytes = [0; 32];
+    bytes[..8].copy_from_slice(name);
+    bytes[14] = 0x10;
+    bytes
+}
+
+// The front of an area that begins with this byte: the byte, the length of the snapshot, the empty snapshot, and a closed gate.
+pub(crate) fn front_with(first: u8) -> [u8; 41] {
+    let mut bytes = [0; 41];
+    bytes[0] = first;
+    bytes[7] = 32;
+    bytes
 }
 
 // An empty journal.
-pub(crate) fn formatted(alloc: Global) -> Result<MemDisk, Fail> {
-    let mut disk = MemDisk::new(alloc, SIZE)?;
-    match format(alloc, &mut disk, 4_096) {
-        Ok(()) => Ok(disk),
-        Err(fault) => Err(Fail::from(fault)),
-    }
-}
-
-// Adds the batch, which is not empty.
-pub(crate) fn append<D: Disk>(
-    alloc: Global,
-    store: &mut Store<D>,
-    batch: &[Entry<()>],
-) -> Result<(), AreaFault> {
-    if batch.is_empty() {
-        return Ok(());
-    }
-    store.append(alloc, batch)
-}
-
-// Adds batches of these records.
-fn add_all(alloc: Global, store: &mut Store<MemDisk>, batches: &[&[&[u8]]]) -> Result<(), Fail> {
-    for records in batches {
-        let batch = batch_of(alloc, records)?;
-        let answer = append(alloc, store, batch.as_slice());
-        drop(batch);
-        answer?;
-    }
-    Ok(())
-}
-
-// A journal that was opened and has these batches.
-pub(crate) fn journal_of(alloc: Global, batches: &[&[&[u8]]]) -> Result<MemDisk, Fail> {
-    let disk = formatted(alloc)?;
-    with_batches(alloc, disk, batches)
-}
-
-// That journal, after it was opened and took these batches.
-pub(crate) fn with_batches(
-    alloc: Global,
-    disk: MemDisk,
-    batches: &[&[&[u8]]],
-) -> Result<MemDisk, Fail> {
-    match open(alloc, disk) {
-        Ok(mut store) => {
-            let added = add_all(alloc, &mut store, batches);
-            let disk = store.into_disk();
-            match added {
-                Ok(()) => Ok(disk),
-                Err(fail) => {
-                    drop(disk);
-                    Err(fail)
-                }
-            }
-        }
-        Err((_, fault)) => Err(Fail::from(fault)),
-    }
-}
-
-// The snapshot of a broker.
-pub(crate) fn snapshot(alloc: Global, broker: &Broker) -> Result<Vec<u8>, Fail> {
-    if broker.is_broken()
-        || broker.sessions().len() > 1_000
-        || broker.subscription_count() > 1_000
-    {
-        return Err(Fail::from("not what the test made"));
-    }
-    Ok(encode_state(alloc, broker)?)
-}
-
-// The snapshot of the broker that was opened.
-pub(crate) fn opened_snapshot(alloc: Global, store: &mut Store<MemDisk>) -> Result<Vec<u8>, Fail> {
-    match store.broker() {
-        Some(broker) => snapshot(alloc, &broker),
-        None => Err(Fail::from("no broker")),
-    }
-}
-
-// How many commands the broker counts, and how many messages it holds.
-fn line_of(alloc: Global, broker: &Broker) -> Result<String, Fail> {
-    let held = broker.held().messages;
-    Ok(format!(in alloc; "{} {held}", broker.count())?)
-}
-
-// The same for the store that was opened.
-fn opened_line(alloc: Global, store: &mut Store<MemDisk>) -> Result<String, Fail> {
-    match store.broker() {
-        Some(broker) => line_of(alloc, &broker),
-        None => Ok(String::new(alloc)),
-    }
-}
-
-// Whether opening the disk gives a broker that has the state with this snapshot.
-pub(crate) fn opens_as(alloc: Global, disk: MemDisk, wanted: &[u8]) -> Result<bool, Fail> {
-    match open(alloc, disk) {
-        Ok(mut store) => {
-            let snapshot = opened_snapshot(alloc, &mut store);
-            drop(store);
-            Ok(snapshot?.as_slice() == wanted)
-        }
-        Err((_, fault)) => Err(Fail::from(fault)),
-    }
-}
-
-// Whether opening the disk reports that.
-pub(crate) fn tells(alloc: Global, disk: MemDisk, wanted: &str) -> Result<bool, Fail> {
-    let line = told(alloc, disk)?;
-    let is_right = line.as_str() == wanted;
-    drop(line);
-    Ok(is_right)
-}
-
-// What opening the disk reports: that line, or the fault.
-fn told(alloc: Global, disk: MemDisk) -> Result<String, Fail> {
-    match open(alloc, disk) {
-        Ok(mut store) => {
-            let line = opened_line(alloc, &mut store);
-            drop(store);
-            line
-        }
-        Err((_, fault)) => Ok(format!(in alloc; "{fault}")?),
-    }
+pub(crate) fn empty_image() -> JournalImage {
+    let mut image = [0; SIZE];
+    put(&mut image, 0, &header_with(b"STOMPJ02"));
+    put(&mut image, 32, &front_with(2));
+    image
 }

@@ -6,6 +6,8 @@
 #[cfg(test)]
 mod any_bytes_tests;
 #[cfg(test)]
+mod area_steps;
+#[cfg(test)]
 mod area_tests;
 #[cfg(test)]
 mod call_tests;
@@ -16,9 +18,11 @@ mod damage_tests;
 #[cfg(test)]
 mod disk_tests;
 #[cfg(test)]
-mod fail_once_tests;
-#[cfg(test)]
 mod failing_tests;
+#[cfg(test)]
+mod file_tests;
+#[cfg(test)]
+mod journal_steps;
 #[cfg(test)]
 mod journals;
 #[cfg(test)]

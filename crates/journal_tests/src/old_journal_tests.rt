@@ -1,11 +1,7 @@
 //! A journal that an older program wrote, whose NACK drops the message.
-use crate::journals::{FILLS, SIZE, opens_as};
-use crate::stop_tests::stopped_opening;
-use disk_core::{Disk, MemDisk};
-use recover_core::read;
-use std::alloc::Global;
-use std::process::Abort;
-use std::test::Fail;
+use crate::journal_steps::{JournalStep, play};
+use crate::journals::{JournalImage, SIZE, Told, put};
+use crate::stop_tests::{Cause, Given, first_lost};
 
 // The bytes of the file that are not zero. It was made on 26 November 2026 with the program of commit ac9e524: `stompd format FILE
 // 8224`, `stompd serve FILE PORT`, and then two WebSocket connections, after whose last frame the server was killed. A block each:
@@ -14,7 +10,7 @@ use std::test::Fail;
 // - 2: a second session opens, and in 3 sends `first` to `/topic/news`, which is handed to `anna` as delivery 0;
 // - 4: it listens to `/queue/jobs`, acknowledging one by one, and in 5 and 6 sends `x` and `y` there, deliveries 1 and 2;
 // - 7: it refuses delivery 1, and in 8 sends `second` to `/topic/news`, delivery 3.
-const WRITTEN: [(u64, &[u8]); 12] = [
+const WRITTEN: [(usize, &[u8]); 12] = [
     (0, b"STOMPJ01\0\0\0\0\0\0\x10\0\x01"),
     (32, b"\0\0\0\0\0\0\0 \0"),
     (4_128, b"\0\0\0\0\0\0\0 "),
@@ -64,62 +60,27 @@ pub(crate) const RESTARTED: &[u8] = b"\0\0\0\0\0\0\0\x09\0\0\0\0\0\0\0\x04\0\0\0
 \0\0\0\0\0\0\0\x06\0\0\0\0\0\0\0\x0b/queue/jobs\0\0\0\0\0\x01y\
 \0\0\0\0";
 
-pub(crate) fn journal(rt: &impl Abort, alloc: Global) -> Result<MemDisk, Fail> {
-    let mut disk = MemDisk::new(alloc, SIZE)?;
-    match write_journal(rt, &mut disk) {
-        Ok(()) => {
-            disk.crash(None);
-            Ok(disk)
-        }
-        Err(fail) => {
-            drop(disk);
-            Err(fail)
-        }
-    }
-}
-
-fn write_journal(rt: &impl Abort, disk: &mut MemDisk) -> Result<(), Fail> {
+pub(crate) fn old_journal() -> JournalImage {
+    let mut image = [0; SIZE];
     for (at, bytes) in WRITTEN {
-        assert!(rt; disk.size() == SIZE && at <= 8_000 && bytes.len() <= 100);
-        disk.write_at(at, bytes)?;
+        put(&mut image, at, bytes);
     }
-    disk.sync()?;
-    Ok(())
+    image
 }
 
 // Its second area is live. Three messages are not acknowledged: the two of the topic, and `y`.
 #[test]
-fn an_older_journal_is_shown(rt: HostRuntime) -> Result<(), Fail> {
-    let mut disk = journal(&rt, rt.alloc())?;
-    let seen = read(rt.alloc(), &mut disk);
-    drop(disk);
-    let seen = seen?;
-    assert_eq!(rt; (seen.version, seen.area, seen.used), (1, 1, 412));
-    assert_eq!(rt; (seen.count, seen.held.messages), (9, 3));
-    Ok(())
-}
-
-// Opens the journal while `passed` calls pass, and then again. It answers whether it was opened the first time.
-fn stop_opening(
-    rt: &impl Abort,
-    alloc: Global,
-    passed: u64,
-    fill: Option<u8>,
-) -> Result<bool, Fail> {
-    let disk = journal(rt, alloc)?;
-    let (disk, is_opened) = stopped_opening(alloc, disk, passed, fill)?;
-    let is_left = opens_as(alloc, disk, RESTARTED)?;
-    assert!(rt; is_left, "{passed} calls");
-    Ok(is_opened)
+fn an_older_journal_is_shown(rt: HostRuntime) {
+    let image = old_journal();
+    let steps = [
+        (JournalStep::Write(&image), Told::Done),
+        (JournalStep::Shows([1, 1, 412, 9, 3, 45]), Told::Done),
+    ];
+    assert_eq!(rt; play(rt.alloc(), SIZE as u64, &steps), None);
 }
 
 // Six calls read its header, two its front, and three each of the nine blocks, so opening it takes about forty.
 #[test]
-fn a_stop_at_each_call_of_opening_it_leaves_its_state(rt: HostRuntime) -> Result<(), Fail> {
-    for turn in 0..176_u64 {
-        let (passed, fill) = (turn / 4, FILLS[(turn % 4) as usize]);
-        let is_opened = stop_opening(&rt, rt.alloc(), passed, fill)?;
-        assert!(rt; is_opened || passed < 43, "{passed} calls are not enough");
-    }
-    Ok(())
+fn a_stop_at_each_call_of_opening_it_leaves_its_state(rt: HostRuntime) {
+    assert_eq!(rt; first_lost(&rt, rt.alloc(), Given::Old, Cause::Stop), None);
 }

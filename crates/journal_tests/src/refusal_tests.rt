@@ -24,7 +24,7 @@ const JOURNAL: &[u8] = b"STOMPJ02\0\0\0\0\0\0\x10\0\0\0\0\0\0\0\0\0\0\0\0\0\0\0\
 \0";
 
 fn journal(alloc: Global) -> Option<MemDisk> {
-    let mut disk = MemDisk::new(alloc, SIZE).ok()?;
+    let mut disk = MemDisk::new(alloc, SIZE as u64).ok()?;
     match disk.write_at(0, JOURNAL) {
         Ok(()) => Some(disk),
         Err(_) => None,

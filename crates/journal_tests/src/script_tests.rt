@@ -1,14 +1,16 @@
 ghost use Rattle.std.specs.Prelude.{◌<◌};
 
-use crate::journals::{FILLS, append, opened_snapshot, push_record, snapshot};
-use crate::stop_tests::{is_in, stopped, stopped_opening};
+use crate::journal_steps::{
+    FailingCalls, StoreWork, append, open_in, push_record, snapshot, told_of_store,
+};
+use crate::journals::{FILLS, Told};
 use area_core::format;
 use broker_core::Broker;
-use command_core::{Command, Entry, Op, decode, put_text};
-use disk_core::MemDisk;
+use command_core::{Command, Entry, HeaderText, Op, decode, put_text};
+use disk_core::{Disk, MemDisk};
 use recover_core::{Store, open};
-use std::alloc::Global;
-use std::process::Abort;
+use std::alloc::{AllocError, Global};
+use std::mem;
 use std::test::Fail;
 
 // A random script: the sessions that it opened since the last stop, the broker in memory that carries it out, and how many commands of each
@@ -82,80 +84,111 @@ const SETTLED: [&[u8]; 5] = [
 ];
 
 // A session opens; its number is that of this command.
-fn open_record(
-    alloc: Global,
+fn push_open(
+    record: &mut Vec<u8>,
     opened: &mut Vec<u64>,
     number: u64,
     chosen: u64,
-) -> Result<Vec<u8>, Fail> {
+) -> Result<(), AllocError> {
     opened.push(number)?;
-    Ok(Vec::from_slice(alloc, OPENS[(chosen % 4) as usize])?)
+    record.extend_from_slice(OPENS[(chosen % 4) as usize])
 }
 
 // One of the sessions asks for something.
-fn request_record(alloc: Global, opened: &[u64], chosen: u64) -> Result<Vec<u8>, Fail> {
+fn push_request(record: &mut Vec<u8>, opened: &[u64], chosen: u64) -> Result<(), AllocError> {
     let session = match opened.len() {
         0 => 0,
         count => opened[(chosen / 32) as usize % count],
     };
-    let mut record = Vec::from_slice(alloc, &session.to_be_bytes())?;
-    record.extend_from_slice(ASKED[(chosen % 23) as usize])?;
-    Ok(record)
+    record.extend_from_slice(&session.to_be_bytes())?;
+    record.extend_from_slice(ASKED[(chosen % 23) as usize])
 }
 
 // A session and one of its deliveries that wait to be acknowledged. The delivery is of the first subscription in waiting order that has
 // one.
-fn some_delivery(alloc: Global, memory: &Broker, chosen: u64) -> Result<Option<(u64, u64)>, Fail> {
-    for subscription in memory.subscriptions(alloc)? {
+fn some_delivery(alloc: Global, memory: &Broker, chosen: u64) -> Result<(u64, u64), AllocError> {
+    let subscriptions = memory.subscriptions(alloc)?;
+    let mut found = (0, 0);
+    for subscription in subscriptions.as_slice() {
         let waiting = subscription.unacknowledged.as_slice();
         if !waiting.is_empty() {
             let (delivery, _) = &waiting[chosen as usize % waiting.len()];
-            return Ok(Some((subscription.session, *delivery)));
+            found = (subscription.session, *delivery);
+            break;
         }
     }
-    Ok(None)
+    drop(subscriptions);
+    Ok(found)
 }
 
 // A session settles a delivery.
-fn acknowledgement_record(alloc: Global, memory: &Broker, chosen: u64) -> Result<Vec<u8>, Fail> {
-    let (session, delivery) = some_delivery(alloc, memory, chosen / 32)?.unwrap_or((0, 0));
-    let mut record = Vec::from_slice(alloc, &session.to_be_bytes())?;
+fn push_acknowledgement(
+    alloc: Global,
+    record: &mut Vec<u8>,
+    memory: &Broker,
+    chosen: u64,
+) -> Result<(), AllocError> {
+    let (session, delivery) = some_delivery(alloc, memory, chosen / 32)?;
+    record.extend_from_slice(&session.to_be_bytes())?;
     record.extend_from_slice(SETTLED[(chosen % 5) as usize])?;
-    record.extend_from_slice(&delivery.to_be_bytes())?;
-    Ok(record)
+    record.extend_from_slice(&delivery.to_be_bytes())
 }
 
-// A session stops listening to one of its subscriptions, or also gives up a durable one. If there is none, it is a note of a session that
-// is not open.
-fn unsubscribe_record(alloc: Global, memory: &Broker, chosen: u64) -> Result<Vec<u8>, Fail> {
+// A session stops listening to a subscription, or also gives up this durable name.
+fn push_end(
+    record: &mut Vec<u8>,
+    session: u64,
+    id: &HeaderText,
+    durable: Option<&HeaderText>,
+) -> Result<(), AllocError> {
+    record.extend_from_slice(&session.to_be_bytes())?;
+    record.extend_from_slice(b"\0\x04\x01")?;
+    put_text(record, id)?;
+    match durable {
+        Some(name) => {
+            record.push(1)?;
+            put_text(record, name)
+        }
+        None => Ok(record.push(0)?),
+    }
+}
+
+// One of the subscriptions ends. If there is none, it is a note of a session that is not open.
+fn push_unsubscribe(
+    alloc: Global,
+    record: &mut Vec<u8>,
+    memory: &Broker,
+    chosen: u64,
+) -> Result<(), AllocError> {
     let subscriptions = memory.subscriptions(alloc)?;
     let count = subscriptions.len() as u64;
-    if count == 0 {
-        return Ok(Vec::from_slice(alloc, b"\0\0\0\0\0\0\0\0\0\x08")?);
-    }
-    let subscription = subscriptions[(chosen / 32 % count) as usize];
-    let mut record = Vec::from_slice(alloc, &subscription.session.to_be_bytes())?;
-    record.extend_from_slice(b"\0\x04\x01")?;
-    put_text(&mut record, &subscription.id)?;
-    match &subscription.durable {
-        Some(name) if chosen % 2 == 0 => {
-            record.push(1)?;
-            put_text(&mut record, name.name().as_text())?;
-        }
-        _ => record.push(0)?,
-    }
-    Ok(record)
+    let pushed = if count == 0 {
+        record.extend_from_slice(b"\0\0\0\0\0\0\0\0\0\x08")
+    } else {
+        let subscription = subscriptions[(chosen / 32 % count) as usize];
+        let durable = match &subscription.durable {
+            Some(name) if chosen % 2 == 0 => Some(name.name().as_text()),
+            _ => None,
+        };
+        push_end(record, subscription.session, &subscription.id, durable)
+    };
+    drop(subscriptions);
+    pushed
 }
 
 // A random record.
-fn some_record(alloc: Global, script: &mut Script) -> Result<Vec<u8>, Fail> {
-    let kind = chance(&mut script.seed);
+fn push_some_record(
+    alloc: Global,
+    record: &mut Vec<u8>,
+    script: &mut Script,
+) -> Result<(), AllocError> {
+    let kind = chance(&mut script.seed) % 16;
     let chosen = chance(&mut script.seed);
-    match kind % 16 {
-        0 | 1 => open_record(alloc, &mut script.opened, script.memory.count(), chosen),
-        2..=4 => acknowledgement_record(alloc, &script.memory, chosen),
-        5 => unsubscribe_record(alloc, &script.memory, chosen),
-        _ => request_record(alloc, script.opened.as_slice(), chosen),
+    match kind {
+        0 | 1 => push_open(record, &mut script.opened, script.memory.count(), chosen),
+        2..=4 => push_acknowledgement(alloc, record, &script.memory, chosen),
+        5 => push_unsubscribe(alloc, record, &script.memory, chosen),
+        _ => push_request(record, script.opened.as_slice(), chosen),
     }
 }
 
@@ -176,174 +209,216 @@ fn kind_of(op: &Op) -> usize
     }
 }
 
-// Executes a command on the broker. It answers whether the command was of an open session and not refused; a refusal would have ended the
-// session.
-fn execute(alloc: Global, memory: &mut Broker, command: Command) -> Result<bool, Fail> {
-    let session = command.session();
-    let (opens, ends) = match command.op() {
+// Whether the command opens a session, and whether it ends one.
+fn opens_or_ends(op: &Op) -> (bool, bool) {
+    match op {
         Op::Open { client_id: _ } => (true, false),
         Op::End(_) => (false, true),
         _ => (false, false),
-    };
-    let was_open = memory.sessions().contains_key(&session);
-    if memory.count() >= 1 << 60 {
-        return Err(Fail::from("too many commands"));
     }
-    match memory.step(alloc, command) {
-        Ok(outs) => drop(outs),
-        Err(fault) => return Err(Fail::from(fault)),
-    }
-    let is_open = memory.sessions().contains_key(&session);
-    Ok(opens || was_open && (ends || is_open))
 }
 
-// Executes the command of a record on the broker in memory.
-fn step(alloc: Global, script: &mut Script, record: &[u8]) -> Result<(), Fail> {
-    let (command, _) = decode(alloc, record)?;
+// Executes a command on the broker, and answers whether it could.
+fn execute(alloc: Global, memory: &mut Broker, command: Command) -> bool {
+    if memory.count() >= 1 << 60 {
+        drop(command);
+        return false;
+    }
+    match memory.step(alloc, command) {
+        Ok(outs) => {
+            drop(outs);
+            true
+        }
+        Err(_) => false,
+    }
+}
+
+// Executes the command of a record on the broker in memory. It is counted if it was of an open session and not refused; a refusal would have
+// ended the session.
+fn step(alloc: Global, script: &mut Script, record: &[u8]) -> bool {
+    let Ok((command, _)) = decode(alloc, record) else {
+        return false;
+    };
     let kind = kind_of(command.op());
     let session = command.session();
-    if execute(alloc, &mut script.memory, command)? {
+    let (opens, ends) = opens_or_ends(command.op());
+    let was_open = script.memory.sessions().contains_key(&session);
+    let is_executed = execute(alloc, &mut script.memory, command);
+    let is_open = script.memory.sessions().contains_key(&session);
+    if opens || was_open && (ends || is_open) {
         script.done[kind] = script.done[kind].saturating_add(1);
     }
-    if !script.memory.sessions().contains_key(&session) {
+    if !is_open {
         script.opened.retain(|opened| *opened != session);
     }
-    Ok(())
+    is_executed
 }
 
 // Adds a random command to a batch. The broker in memory carries it out, unless the batch will be lost.
-fn push_some(
+fn push_some(alloc: Global, batch: &mut Vec<Entry<()>>, script: &mut Script, is_in: bool) -> bool {
+    let mut record = Vec::new(alloc);
+    let is_pushed = push_some_record(alloc, &mut record, script).is_ok()
+        && push_record(alloc, batch, record.as_slice())
+        && (!is_in || step(alloc, script, record.as_slice()));
+    drop(record);
+    is_pushed
+}
+
+fn push_twelve(
     alloc: Global,
     batch: &mut Vec<Entry<()>>,
     script: &mut Script,
     is_in: bool,
-) -> Result<(), Fail> {
-    let record = some_record(alloc, script)?;
-    push_record(alloc, batch, record.as_slice())?;
-    if is_in {
-        step(alloc, script, record.as_slice())?;
+) -> bool {
+    for _ in 0..12_u8 {
+        if !push_some(alloc, batch, script, is_in) {
+            return false;
+        }
     }
-    Ok(())
+    true
 }
 
-// Twelve random commands, which the broker in memory carries out, unless they will be lost.
-fn some_batch(alloc: Global, script: &mut Script, is_in: bool) -> Result<Vec<Entry<()>>, Fail> {
+// The store takes a batch of twelve random commands. The broker in memory carries them out, unless they will be lost.
+fn take_some<D: Disk>(
+    alloc: Global,
+    store: &mut Store<D>,
+    script: &mut Script,
+    is_in: bool,
+) -> Told {
     let mut batch = Vec::new(alloc);
-    for _ in 0..12_u8 {
-        push_some(alloc, &mut batch, script, is_in)?;
+    let mut told = Told::Other;
+    if push_twelve(alloc, &mut batch, script, is_in) {
+        told = append(alloc, store, batch.as_slice());
     }
-    Ok(batch)
+    drop(batch);
+    told
 }
 
 // Whether the store was opened with the state of the broker in memory.
-fn is_opened_as(alloc: Global, store: &mut Store<MemDisk>, memory: &Broker) -> Result<bool, Fail> {
-    let opened = opened_snapshot(alloc, store)?;
-    let is_same = match snapshot(alloc, memory) {
-        Ok(other) => Ok(opened.as_slice() == other.as_slice()),
-        Err(fail) => Err(fail),
-    };
-    drop(opened);
-    is_same
+fn is_opened_as(alloc: Global, store: &mut Store<MemDisk>, memory: &Broker) -> bool {
+    match snapshot(alloc, memory) {
+        Some(wanted) => {
+            let told = told_of_store(alloc, store, Some(wanted.as_slice()));
+            drop(wanted);
+            told == Told::Done
+        }
+        None => false,
+    }
 }
 
 // What is opened is the broker in memory; then both take `batches` batches.
-fn live(
-    rt: &impl Abort,
-    alloc: Global,
-    store: &mut Store<MemDisk>,
-    script: &mut Script,
-    batches: u64,
-) -> Result<(), Fail> {
-    let is_same = is_opened_as(alloc, store, &script.memory)?;
-    assert!(rt; is_same);
+fn lives(alloc: Global, store: &mut Store<MemDisk>, script: &mut Script, batches: u64) -> bool {
+    if !is_opened_as(alloc, store, &script.memory) {
+        return false;
+    }
     for _ in 0..batches {
-        let batch = some_batch(alloc, script, true)?;
-        let done = append(alloc, store, batch.as_slice());
-        drop(batch);
-        done?;
-    }
-    Ok(())
-}
-
-// The store stops within one more batch, which the broker in memory carries out if the batch is in.
-fn stop(
-    alloc: Global,
-    store: Store<MemDisk>,
-    script: &mut Script,
-    passed: u64,
-    fill: Option<u8>,
-) -> Result<MemDisk, Fail> {
-    match some_batch(alloc, script, is_in(passed, fill)) {
-        Ok(batch) => Ok(stopped(alloc, store, batch.as_slice(), passed, fill)),
-        Err(fail) => Err(fail),
-    }
-}
-
-// The disk after its opening was stopped at every fourth call, from one of the first four on, until all calls passed.
-fn stopped_openings(
-    alloc: Global,
-    mut disk: MemDisk,
-    first: u64,
-    fill: Option<u8>,
-) -> Result<MemDisk, Fail> {
-    for turn in 0..16_u64 {
-        let (left, is_opened) = stopped_opening(alloc, disk, first % 4 + 4 * turn, fill)?;
-        disk = left;
-        if is_opened {
-            return Ok(disk);
+        if take_some(alloc, store, script, true) != Told::Done {
+            return false;
         }
     }
-    drop(disk);
-    Err(Fail::from("64 calls are not enough to open a journal"))
+    true
 }
 
-// One life of a journal. Its opening is stopped again and again; then it is opened, takes up to four batches, and stops within the next.
-// The life's number says after how many batches, at which of the calls, and with what fill.
-fn life(
-    rt: &impl Abort,
-    alloc: Global,
-    disk: MemDisk,
-    script: &mut Script,
-    number: u64,
-) -> Result<MemDisk, Fail> {
+// After how many batches a life ends, after how many calls of the disk within the next, and what the unsynced bytes are then.
+#[derive(Clone, Copy)]
+struct Life {
+    batches: u64,
+    passed: u64,
+    fill: Option<u8>,
+}
+
+// Each five lives stop with one fill, each life at another call and in another batch. No two of forty are alike.
+fn life_of(number: u64) -> Life {
     let (passed, round) = (number % 5, number / 5);
-    let fill = FILLS[(round % 4) as usize];
-    let disk = stopped_openings(alloc, disk, number, fill)?;
-    match open(alloc, disk) {
-        Ok(mut store) => match live(rt, alloc, &mut store, script, (passed + round % 5) % 5) {
-            Ok(()) => stop(alloc, store, script, passed, fill),
-            Err(fail) => Err(fail),
-        },
-        Err((_, fault)) => Err(Fail::from(fault)),
+    Life {
+        batches: (passed + round % 5) % 5,
+        passed,
+        fill: FILLS[(round % 4) as usize],
     }
 }
 
-// Forty lives of a journal. Each five of them stop with one fill, each life at another call and in another batch. No two of the forty are
-// alike.
-fn lives(rt: &impl Abort, alloc: Global, script: &mut Script) -> Result<(), Fail> {
-    let mut disk = MemDisk::new(alloc, 2_097_184)?;
-    format(alloc, &mut disk, 1_048_576)?;
-    for number in 0..40_u64 {
-        disk = life(rt, alloc, disk, script, number)?;
-        script.memory.restart(alloc)?;
-        script.opened.clear();
+// Whether the last batch is in after that stop.
+fn is_in(life: Life) -> bool {
+    life.passed >= 4 || life.passed >= 2 && life.fill == Some(1)
+}
+
+// The journal is opened, takes its batches, and stops within one more. It answers whether all came as it should.
+fn lived(alloc: Global, disk: MemDisk, script: &mut Script, life: Life) -> (MemDisk, bool) {
+    match open(alloc, disk) {
+        Ok(mut store) => {
+            let has_lived = lives(alloc, &mut store, script, life.batches);
+            let mut store = store.fuse(life.passed);
+            let told = take_some(alloc, &mut store, script, is_in(life));
+            let ends = if life.passed < 4 {
+                Told::Device
+            } else {
+                Told::Done
+            };
+            (store.into_disk().into_inner(), has_lived && told == ends)
+        }
+        Err((disk, fault)) => {
+            drop(fault);
+            (disk, false)
+        }
     }
-    Ok(())
+}
+
+// Stops the opening of the journal at every fourth call, from one of the first four on, until all calls pass. It answers whether they do.
+fn stop_openings(alloc: Global, disk: &mut MemDisk, first: u64, fill: Option<u8>) -> bool {
+    for turn in 0..16_u64 {
+        let failing = FailingCalls::After(first % 4 + 4 * turn);
+        let told = open_in(alloc, disk, failing, StoreWork::Nothing);
+        disk.crash(fill);
+        if told != Told::Device {
+            return told == Told::Done;
+        }
+    }
+    false
+}
+
+// One life of a journal. Its opening is stopped again and again; then it is opened, takes up to four batches, and stops within the next. The
+// broker in memory restarts too.
+fn live(alloc: Global, slot: &mut MemDisk, script: &mut Script, number: u64) -> bool {
+    let life = life_of(number);
+    let is_opened = stop_openings(alloc, slot, number, life.fill);
+    let Ok(nothing) = MemDisk::new(alloc, 0) else {
+        return false;
+    };
+    let (mut disk, has_lived) = lived(alloc, mem::replace(slot, nothing), script, life);
+    disk.crash(life.fill);
+    drop(mem::replace(slot, disk));
+    script.opened.clear();
+    script.memory.restart(alloc).is_ok() && is_opened && has_lived
+}
+
+// The first of forty lives of a journal in which something else comes than should.
+fn first_wrong(alloc: Global, disk: &mut MemDisk, script: &mut Script) -> Option<u64> {
+    if format(alloc, disk, 1_048_576).is_err() {
+        return Some(0);
+    }
+    for number in 0..40_u64 {
+        if !live(alloc, disk, script, number) {
+            return Some(number);
+        }
+    }
+    None
 }
 
 // A thousand commands and more, some of each kind not refused. What is opened is the broker in memory after the same commands and restarts.
 #[test]
 fn what_is_opened_is_the_broker_that_did_the_same(rt: HostRuntime) -> Result<(), Fail> {
+    let mut disk = MemDisk::new(rt.alloc(), 2_097_184)?;
     let mut script = Script {
         seed: 88_172_645_463_325_252,
         opened: Vec::new(rt.alloc()),
         memory: Broker::new(rt.alloc()),
         done: [0; 9],
     };
-    let lived = lives(&rt, rt.alloc(), &mut script);
+    let wrong = first_wrong(rt.alloc(), &mut disk, &mut script);
     let (count, done) = (script.memory.count(), script.done);
     drop(script);
-    lived?;
+    drop(disk);
+    assert_eq!(rt; wrong, None);
     assert!(rt; count >= 1_000);
     for (kind, done) in done.iter().enumerate() {
         assert!(rt; *done >= 5, "{done} of kind {kind}");

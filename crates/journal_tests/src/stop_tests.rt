@@ -1,161 +1,151 @@
-use crate::journals::{
-    FILLS, OPEN, SEND, SIZE, SUBSCRIBE, append, batch_of, formatted, journal_of, opens_as, tells,
-    with_batches,
-};
-use area_core::{AreaFault, ReadFault, format};
-use command_core::Entry;
-use disk_core::{FileDisk, FuseDisk, MemDisk};
-use log::info;
-use recover_core::{OpenFault, Store, open, read};
+//! The disk stops or fails while a journal is opened, and then it is opened again.
+use crate::journal_steps::{FailingCalls, JournalStep, StoreWork, opened, play, shows};
+use crate::journals::{JournalImage, OPEN, SEND, SIZE, SUBSCRIBE, Told, told_of_format};
+use crate::old_journal_tests::{RESTARTED as RESTARTED_OF_OLD, old_journal};
+use area_core::format;
+use disk_core::FileDisk;
+use log::{Log, info};
 use std::alloc::Global;
 use std::fs;
-use std::process::Abort;
 use std::test::Fail;
 
-// The disk after opening it while `passed` calls pass, and whether it was opened. If it was not, the device failed.
-pub(crate) fn stopped_opening(
-    alloc: Global,
-    disk: MemDisk,
-    passed: u64,
-    fill: Option<u8>,
-) -> Result<(MemDisk, bool), Fail> {
-    let (fuse, is_opened) = match open(alloc, FuseDisk::new(disk, passed)) {
-        Ok(store) => (store.into_disk(), true),
-        Err((fuse, OpenFault::Read(ReadFault::Device) | OpenFault::Area(AreaFault::Device))) => (
-            fuse, false,
-        ),
-        Err((_, fault)) => return Err(Fail::from(fault)),
-    };
-    let mut disk = fuse.into_inner();
-    disk.crash(fill);
-    Ok((disk, is_opened))
+// Which journal is opened.
+#[derive(Clone, Copy)]
+pub(crate) enum Given {
+    // One with a block after the snapshot of the empty state, in the area of that number.
+    Area(u8),
+    // The one that an older program wrote.
+    Old,
 }
 
-// A journal with one block after the snapshot of the empty state, in the area of that number. Each opening writes into the other area; the
-// first writes into area 1.
-pub(crate) fn journal_in(alloc: Global, area: u8) -> Result<MemDisk, Fail> {
-    let disk = match area {
-        0 => journal_of(alloc, &[])?,
-        _ => formatted(alloc)?,
-    };
-    with_batches(alloc, disk, &[&[OPEN, SEND, SUBSCRIBE]])
+// Why it may not be opened.
+#[derive(Clone, Copy)]
+pub(crate) enum Cause {
+    // The disk stops after so many calls.
+    Stop,
+    // A single call fails.
+    Failure,
 }
+
+// What becomes of the disk before it is opened again.
+#[derive(Clone, Copy)]
+enum Then {
+    // It is as it was.
+    Again,
+    // It stops, and its unsynced bytes become that.
+    Stop(Option<u8>),
+}
+
+const THEN: [Then; 5] = [
+    Then::Again,
+    Then::Stop(None),
+    Then::Stop(Some(0x00)),
+    Then::Stop(Some(0x01)),
+    Then::Stop(Some(0x37)),
+];
 
 // The restart of the state after that block: three commands, one delivery, and in `/queue/q` the message of command 1, which
 // was not acknowledged.
-pub(crate) const RESTARTED: &[u8] = b"\0\0\0\0\0\0\0\x03\0\0\0\0\0\0\0\x01\
+const RESTARTED: &[u8] = b"\0\0\0\0\0\0\0\x03\0\0\0\0\0\0\0\x01\
 \0\0\0\0\0\0\0\0\
 \0\0\0\x01\0\0\0\x08/queue/q\
 \0\0\0\x01\0\0\0\0\0\0\0\x01\0\0\0\0\0\0\0\x08/queue/q\0\0\0\0\0\x01x\
 \0\0\0\0";
 
-// The area that is live in the journal.
-fn live_area(alloc: Global, journal: &mut MemDisk) -> Option<u8> {
-    match read(alloc, journal) {
-        Ok(seen) => Some(seen.area),
-        Err(_) => None,
+const BATCHES: [&[&[u8]]; 1] = [&[OPEN, SEND, SUBSCRIBE]];
+
+// A step that changes nothing.
+const REST: JournalStep<'static> = JournalStep::Has(0, b"STOMPJ0");
+
+const OPENING: JournalStep<'static> = JournalStep::Open(FailingCalls::None, StoreWork::Nothing);
+
+// How the journal is made, what it shows, and what is left of it. Each opening writes into the other area; the first writes into area 1.
+fn making(given: Given, old: &JournalImage) -> ([JournalStep<'_>; 3], [u64; 6], &'static [u8]) {
+    let format = JournalStep::Format(4_096, u64::MAX);
+    let add = JournalStep::Open(FailingCalls::None, StoreWork::Add(&BATCHES));
+    match given {
+        Given::Area(0) => ([format, OPENING, add], [2, 0, 119, 3, 1, 9], RESTARTED),
+        Given::Area(_) => ([format, REST, add], [2, 1, 119, 3, 1, 9], RESTARTED),
+        Given::Old => (
+            [JournalStep::Write(old), REST, REST],
+            [1, 1, 412, 9, 3, 45],
+            RESTARTED_OF_OLD,
+        ),
     }
 }
 
-// Opening that journal while `passed` calls pass leaves the state. It answers whether the journal was opened.
-fn stop_opening(
-    rt: &impl Abort,
+// Whether the state is left after such an opening of the journal. It may have to open.
+fn is_left(
     alloc: Global,
-    area: u8,
-    passed: u64,
-    fill: Option<u8>,
-) -> Result<bool, Fail> {
-    let mut journal = journal_in(alloc, area)?;
-    let live = live_area(alloc, &mut journal);
-    let (disk, is_opened) = stopped_opening(alloc, journal, passed, fill)?;
-    let is_left = opens_as(alloc, disk, RESTARTED)?;
-    assert!(rt; is_left, "{passed} calls, area {area}");
-    assert!(rt; live == Some(area));
-    Ok(is_opened)
+    given: Given,
+    old: &JournalImage,
+    failing: FailingCalls,
+    has_to: bool,
+    then: Then,
+) -> bool {
+    let (made, shown, left) = making(given, old);
+    let then = match then {
+        Then::Again => REST,
+        Then::Stop(fill) => JournalStep::Stop(fill),
+    };
+    let compare = JournalStep::Open(FailingCalls::None, StoreWork::Compare(left));
+    let steps = [
+        (made[0], Told::Done),
+        (made[1], Told::Done),
+        (made[2], Told::Done),
+        (JournalStep::Shows(shown), Told::Done),
+        (JournalStep::Attempt(failing, has_to), Told::Done),
+        (then, Told::Done),
+        (compare, Told::Done),
+    ];
+    play(alloc, SIZE as u64, &steps).is_none()
+}
+
+// The first call at which the state is lost. Opening a journal with one block takes fewer than twenty calls, whichever of its areas is
+// live, and opening the one with nine blocks takes about forty.
+pub(crate) fn first_lost(rt: &impl Log, alloc: Global, given: Given, cause: Cause) -> Option<u64> {
+    let old = old_journal();
+    let (calls, enough) = match given {
+        Given::Area(_) => (24, 20),
+        Given::Old => (44, 43),
+    };
+    for call in 0..calls {
+        info!(rt; "opening: call {call} fails, or the disk stops before it");
+        let (failing, thens) = match cause {
+            Cause::Stop => (FailingCalls::After(call), &THEN[1..]),
+            Cause::Failure => (FailingCalls::Once(call), &THEN[..]),
+        };
+        for then in thens {
+            if !is_left(alloc, given, &old, failing, call >= enough, *then) {
+                return Some(call);
+            }
+        }
+    }
+    None
 }
 
 // A stop at each call of opening leaves the same state, whichever area is live and whatever the unsynced bytes are.
 #[test]
-fn a_stop_at_each_call_of_opening_leaves_the_state(rt: HostRuntime) -> Result<(), Fail> {
-    for turn in 0..192_u64 {
-        let (area, passed, fill) = (turn % 2, turn / 8, FILLS[(turn / 2 % 4) as usize]);
-        info!(rt; "opening: area {area} is live, and the disk stops after {passed} calls");
-        let is_opened = stop_opening(&rt, rt.alloc(), area as u8, passed, fill)?;
-        assert!(rt; is_opened || passed < 20, "{passed} calls are not enough");
+fn a_stop_at_each_call_of_opening_leaves_the_state(rt: HostRuntime) {
+    for area in 0..2 {
+        let lost = first_lost(&rt, rt.alloc(), Given::Area(area), Cause::Stop);
+        assert_eq!(rt; lost, None, "area {area} is live");
     }
-    Ok(())
-}
-
-// The store over a disk that stops after `passed` calls takes the batch or fails. The disk is then as the stop left it.
-pub(crate) fn stopped(
-    alloc: Global,
-    store: Store<MemDisk>,
-    batch: &[Entry<()>],
-    passed: u64,
-    fill: Option<u8>,
-) -> MemDisk {
-    let mut store = store.fuse(passed);
-    let _answer = append(alloc, &mut store, batch);
-    let mut disk = store.into_disk().into_inner();
-    disk.crash(fill);
-    disk
-}
-
-// Whether a batch is in if a stop comes after `passed` calls.
-pub(crate) fn is_in(passed: u64, fill: Option<u8>) -> bool {
-    passed >= 4 || passed >= 2 && fill == Some(1)
-}
-
-fn fail_and_stay(
-    rt: &impl Abort,
-    alloc: Global,
-    store: &mut Store<FuseDisk<MemDisk>>,
-) -> Result<(), Fail> {
-    let batch = batch_of(alloc, &[OPEN])?;
-    let answer = append(alloc, store, batch.as_slice());
-    let again = append(alloc, store, batch.as_slice());
-    drop(batch);
-    assert!(rt; matches!(answer, Err(AreaFault::Device)));
-    assert!(rt; matches!(again, Err(AreaFault::Broken)));
-    Ok(())
 }
 
 // After a fault the store is broken, and no longer touches the disk.
 #[test]
-fn a_store_that_failed_stays_broken(rt: HostRuntime) -> Result<(), Fail> {
-    let journal = formatted(rt.alloc())?;
-    let Ok(store) = open(rt.alloc(), journal) else {
-        panic!(rt; "a new journal is not opened");
-    };
-    let mut store = store.fuse(1);
-    let failed = fail_and_stay(&rt, rt.alloc(), &mut store);
-    let disk = store.into_disk().into_inner();
-    if let Err(fail) = failed {
-        drop(disk);
-        return Err(fail);
-    }
-    let is_told = tells(rt.alloc(), disk, "0 0")?;
-    assert!(rt; is_told);
-    Ok(())
-}
-
-// The journal is opened, and two commands are stored.
-fn append_to(alloc: Global, disk: FileDisk) -> Result<(), Fail> {
-    match open(alloc, disk) {
-        Ok(mut store) => {
-            let added = append_two(alloc, &mut store);
-            drop(store);
-            added
-        }
-        Err((_, fault)) => Err(Fail::from(fault)),
-    }
-}
-
-fn append_two(alloc: Global, store: &mut Store<FileDisk>) -> Result<(), Fail> {
-    let batch = batch_of(alloc, &[OPEN, SEND])?;
-    let answer = append(alloc, store, batch.as_slice());
-    drop(batch);
-    Ok(answer?)
+fn a_store_that_failed_stays_broken(rt: HostRuntime) {
+    let add = JournalStep::Open(FailingCalls::OnceOpen(1), StoreWork::AddAgain(&[OPEN]));
+    let steps = [
+        (JournalStep::Format(4_096, u64::MAX), Told::Done),
+        (add, Told::Broken),
+        (
+            JournalStep::Open(FailingCalls::None, StoreWork::Look),
+            Told::Holds(0, 0),
+        ),
+    ];
+    assert_eq!(rt; play(rt.alloc(), SIZE as u64, &steps), None);
 }
 
 // No contract knows what a file holds.
@@ -163,19 +153,14 @@ fn append_two(alloc: Global, store: &mut Store<FileDisk>) -> Result<(), Fail> {
 fn a_store_over_a_file_is_opened_again(rt: HostRuntime) -> Result<(), Fail> {
     let path = "journal_tests_stopped_file";
     let _ = fs::remove_file(&rt, path);
-    let mut disk = FileDisk::create(&rt, path, SIZE)?;
-    match format(rt.alloc(), &mut disk, 4_096) {
-        Ok(()) => append_to(rt.alloc(), disk)?,
-        Err(fault) => {
-            drop(disk);
-            return Err(Fail::from(fault));
-        }
-    }
-    let mut disk = FileDisk::open(&rt, path)?;
-    let seen = read(rt.alloc(), &mut disk);
+    let mut disk = FileDisk::create(&rt, path, SIZE as u64)?;
+    let formatted = told_of_format(format(rt.alloc(), &mut disk, 4_096));
+    let (disk, added) = opened(rt.alloc(), disk, StoreWork::Add(&[&[OPEN, SEND]]));
     drop(disk);
-    let seen = seen?;
-    assert_eq!(rt; (seen.area, seen.count, seen.held.messages), (1, 2, 1));
+    let mut disk = FileDisk::open(&rt, path)?;
+    let is_shown = shows(rt.alloc(), &mut disk, &[2, 1, 90, 2, 1, 9]);
+    drop(disk);
+    assert!(rt; formatted == Told::Done && added == Told::Done && is_shown);
     fs::remove_file(&rt, path)?;
     Ok(())
 }
