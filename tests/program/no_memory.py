@@ -83,12 +83,15 @@ class Refusing:
     def __init__(self, program, library, folder):
         self.program, self.library, self.folder = program, library, folder
         self.counted = folder / "counted"
+        listed = subprocess.run([program, "--list"], cwd=folder, capture_output=True, text=True, check=True).stdout
+        # The full name of a test has the file that it stands in.
+        self.names = {it.rpartition("::")[2]: it for it in re.findall(r"^(\w+::\w+)", listed, re.M)}
 
     def run(self, test, number):
         """What the test says if that growth is refused, and how many growths it came to; without a number none is."""
         self.counted.write_bytes(bytes(mmap.PAGESIZE))
         how = {"LD_PRELOAD": str(self.library), "COUNTED": str(self.counted), "REFUSED": str(number)}
-        ran = subprocess.run([self.program, f"refusal_tests::{test}"], env=how, cwd=self.folder, capture_output=True, text=True, errors="replace", timeout=60)
+        ran = subprocess.run([self.program, self.names[test]], env=how, cwd=self.folder, capture_output=True, text=True, errors="replace", timeout=60)
         (growths,) = struct.unpack("=q", self.counted.read_bytes()[:8])
         return said(ran), growths
 
@@ -179,7 +182,7 @@ def words_of_rt(crate, number):
     """What each test says if the toolchain's runner refuses that growth."""
     words = [RT, "try", "--test", "--fail-alloc", str(number)]
     ran = subprocess.run(words, cwd=TOP / "crates" / crate, capture_output=True, text=True, errors="replace")
-    return dict(re.findall(r"^test refusal_tests::(\w+) \.\.\. ok\n +(\w+)$", ran.stdout + ran.stderr, re.M))
+    return dict(re.findall(r"^test \w+::(\w+) \.\.\. ok\n +(\w+)$", ran.stdout + ran.stderr, re.M))
 
 
 def main():
