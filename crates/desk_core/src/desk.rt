@@ -4,7 +4,8 @@ ghost use Rattle.std.specs.Prelude.{◌≡◌, IfErr, IfSome, IsNone, OnOk, is_s
 
 use crate::footprint::Cut;
 use crate::place::{
-    NotAdmitted, Place, Seated, evict_at, give_up_at, lose_at, ping_at, take_place, turn_at, vacate,
+    NotAdmitted, Place, Seated, evict_at, give_up_at, lose_at, ping_at, sitter, take_place,
+    turn_at, vacate,
 };
 use crate::places::{add_places, trim};
 use crate::slot::Slot;
@@ -103,10 +104,7 @@ impl<B: Bell, L: Link + Drop> Desk<B, L> {
     fn is_taken(&self, at: usize) -> bool
         ensures { result ≡ is_some (seated_at self.now.places at) }
     {
-        match self.places.get(at) {
-            Some(Some(_)) => true,
-            _ => false,
-        }
+        matches!(sitter(&self.places, at), Some(_))
     }
 
     /// Lets the connection at that place go on by one turn, as `Slot::turn` says; `None` if there is none. Its session may have what the
@@ -199,9 +197,9 @@ impl<B: Bell, L: Link + Drop> Desk<B, L> {
     pub fn is_open(&self, at: usize) -> bool
         ensures { result ≡ is_open_at (seated_at self.now.places at) }
     {
-        match self.places.get(at) {
-            Some(Some(seated)) => seated.slot.connection.number().is_some(),
-            _ => false,
+        match sitter(&self.places, at) {
+            Some(seated) => seated.slot.connection.number().is_some(),
+            None => false,
         }
     }
 
@@ -209,9 +207,9 @@ impl<B: Bell, L: Link + Drop> Desk<B, L> {
     pub fn cut(&self, at: usize) -> Cut
         ensures { result ≡ cut_at (seated_at self.now.places at) }
     {
-        match self.places.get(at) {
-            Some(Some(seated)) => seated.slot.connection.cut(),
-            _ => Cut::No,
+        match sitter(&self.places, at) {
+            Some(seated) => seated.slot.connection.cut(),
+            None => Cut::No,
         }
     }
 

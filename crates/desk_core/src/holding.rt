@@ -4,7 +4,7 @@ ghost use Rattle.desk_core.specs.Desks.{seated_at};
 ghost use Rattle.desk_core.specs.Holdings.{HeldAt};
 
 use crate::desk::Desk;
-use crate::place::Place;
+use crate::place::sitter;
 use outbox_core::Bell;
 use ws_core::Link;
 
@@ -16,19 +16,9 @@ impl<B: Bell, L: Link + Drop> Desk<B, L> {
     pub fn held(&self, at: usize) -> u64
         ensures { HeldAt L.keeps (seated_at self.now.places at) result }
     {
-        match self.places.get(at) {
-            Some(place) => held_at(place),
+        match sitter(&self.places, at) {
+            Some(seated) => seated.held(),
             None => 0,
         }
-    }
-}
-
-// How many bytes are kept for the connection there.
-fn held_at<B: Bell, L: Link>(place: &Place<B, L>) -> u64
-    ensures { HeldAt L.keeps place.now result }
-{
-    match place {
-        Some(seated) => seated.held(),
-        None => 0,
     }
 }

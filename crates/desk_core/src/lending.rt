@@ -5,7 +5,7 @@ ghost use Rattle.std.specs.Option.{option_copied};
 ghost use Rattle.desk_core.specs.Desks.{seated_at};
 
 use crate::desk::Desk;
-use crate::place::Place;
+use crate::place::sitter;
 use outbox_core::Bell;
 use ws_core::Link;
 
@@ -14,19 +14,9 @@ impl<B: Bell, L: Link + Drop> Desk<B, L> {
     pub fn link(&self, at: usize) -> Option<&L>
         ensures { option_copied result ≡ option_map (λ seated. seated.link) (seated_at self.now.places at) }
     {
-        match self.places.get(at) {
-            Some(place) => link_at(place),
+        match sitter(&self.places, at) {
+            Some(seated) => Some(&seated.link),
             None => None,
         }
-    }
-}
-
-// The link of the connection there.
-fn link_at<B: Bell, L>(place: &Place<B, L>) -> Option<&L>
-    ensures { option_copied result ≡ option_map (λ seated. seated.link) place.now }
-{
-    match place {
-        Some(seated) => Some(&seated.link),
-        None => None,
     }
 }

@@ -1,6 +1,8 @@
 //! A place at a desk, and what is done there.
 
 ghost use Rattle.std.specs.Prelude.{◌≡◌, ◌+◌, ◌-◌, Some, None, IfSome, IsNone, IsSome, true};
+ghost use Rattle.std.specs.Option.{option_copied};
+ghost use Rattle.desk_core.specs.Desks.{seated_at};
 ghost use Rattle.desk_core.specs.Connections.{evicted, with_given_up, with_lost};
 ghost use Rattle.desk_core.specs.Continues.{Continues};
 ghost use Rattle.desk_core.specs.Places.{ChangedAt, KeepsWithin, PingedAt, Recounts, ServedAt, UnservedAt, counted_at, is_over_at, progress_at};
@@ -45,6 +47,16 @@ impl<B: Bell, L: Link> Seated<B, L> {
             Stage::Leaving | Stage::Over(_) => 0,
             _ => self.slot.held().saturating_add(self.link.held()),
         }
+    }
+}
+
+// What sits at that place, if anything.
+pub fn sitter<B: Bell, L>(places: &[Place<B, L>], at: usize) -> Option<&Seated<B, L>>
+    ensures { option_copied result ≡ seated_at places.now at }
+{
+    match places.get(at) {
+        Some(Some(seated)) => Some(seated),
+        _ => None,
     }
 }
 
