@@ -1,5 +1,5 @@
 -- What a journal keeps at rest, and what is left of it where its disk stops.
-use Rattle.std.proofs.Common.{◌≡◌, ◌+◌, ◌-◌, ◌≤◌, ◌++◌, ℕ, zero, suc, List, [], ◌∷◌, false, length, take, set, slice_index_or, All, Option, Some, None, IsSome, IfSome, IfErr, IfOk, Result, Ok, Err, sym, ap, ◌∙◌, subst, arith, length-append}
+use Rattle.std.proofs.Common.{◌≡◌, ◌+◌, ◌-◌, ◌≤◌, ◌^◌, ◌++◌, ℕ, zero, suc, List, [], ◌∷◌, false, true, length, take, set, slice_index_or, All, Option, Some, None, IsSome, IfSome, IfErr, IfOk, Result, Ok, Err, sym, ap, ◌∙◌, subst, arith, length-append}
 use mathlib.Core.Option.{some, some-injective, some-ne-none}
 use Rattle.std.proofs.Math.Logic.{∥∥₁_map}
 use Rattle.disk_core.specs.Images.{IsImage}
@@ -128,7 +128,21 @@ memory_told content before disk back (opens.Area areas.Broken) calm is want = ab
 memory_told content before disk back opens.CountTooLarge calm is want = absurd want
 memory_told content before disk back (opens.Read fault) calm is want = absurd want
 
-pub refused_for_memory : (content : List ℕ) (before : ℕ) (disk : Memory) (result : Result (JournalValue Memory) (Memory × OpenFault)) → disk.failures ≡ before
-    → IfErr result (λ back. IsWantOfMemory back.1 × (back.0 ≡ disk)) → IfErr result (λ back. IsOpenTold back.1 content × IsOpenCausedBy back.1 before back.0.failures)
-refused_for_memory content before disk (Ok journal) calm want = tt
-refused_for_memory content before disk (Err back) calm want = memory_told content before disk back.0 back.1 calm want.1 want.0
+pub told_for_memory : (content : List ℕ) (before : ℕ) (disk : Memory) (result : Result (JournalValue Memory) (Memory × OpenFault)) → disk.failures ≡ before
+    → IfErr result (λ back. IsWantOfMemory back.1 × (back.0 ≡ disk)) → IfErr result (λ back. IsOpenTold back.1 content)
+told_for_memory content before disk (Ok journal) calm want = tt
+told_for_memory content before disk (Err back) calm want = (memory_told content before disk back.0 back.1 calm want.1 want.0).0
+
+pub caused_for_memory : (content : List ℕ) (before : ℕ) (disk : Memory) (result : Result (JournalValue Memory) (Memory × OpenFault)) → disk.failures ≡ before
+    → IfErr result (λ back. IsWantOfMemory back.1 × (back.0 ≡ disk)) → IfErr result (λ back. IsOpenCausedBy back.1 before back.0.failures)
+caused_for_memory content before disk (Ok journal) calm want = tt
+caused_for_memory content before disk (Err back) calm want = (memory_told content before disk back.0 back.1 calm want.1 want.0).1
+
+pub durable_of : (disk : Memory) (broker : BrokerValue) (journal : JournalValue Memory) → (broker.state.count ≤ 2 ^ 61) × (broker.broken ≡ false) → IsMade broker.state disk journal → journal.durable ≡ true
+durable_of disk broker journal small made = made.durable_is
+
+pub small_of : (disk : Memory) (broker : BrokerValue) (journal : JournalValue Memory) → (broker.state.count ≤ 2 ^ 61) × (broker.broken ≡ false) → IsMade broker.state disk journal → journal.state.count ≤ 2 ^ 61
+small_of disk broker journal small made = subst (λ (s : State). s.count ≤ 2 ^ 61) (sym made.state_is) small.0
+
+pub calm_of : (before : ℕ) (disk : Memory) → disk.failures ≡ before → (broker : BrokerValue) (journal : JournalValue Memory) → (broker.state.count ≤ 2 ^ 61) × (broker.broken ≡ false) → IsMade broker.state disk journal → journal.disk.failures ≡ before
+calm_of before disk calm broker journal small made = ap (λ (d : Memory). d.failures) made.disk_is ∙ calm
