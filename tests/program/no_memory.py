@@ -53,8 +53,8 @@ TESTS = {
     "hub_tests": (
         ("flush_loop", "a_flusher_that_is_refused_memory_stops_and_loses_nothing"),
         ("worker", "a_worker_that_is_refused_memory_sends_nothing_else"),
+        ("run_script", "a_script_that_is_refused_memory_prints_a_front_of_what_it_would"),
     ),
-    "script_tests": (("run_script", "a_script_that_is_refused_memory_prints_a_front_of_what_it_would"),),
 }
 
 # More growths than any of them has.

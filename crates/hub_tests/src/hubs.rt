@@ -38,16 +38,26 @@ pub struct Party {
     pub flusher: HubFlusher,
 }
 
+/// The disk of an empty journal with areas of so many bytes.
+pub fn new_disk(alloc: Global, area_bytes: u64) -> Option<MemDisk>
+    requires { (4096 ≤ area_bytes) × (area_bytes ≤ 262144) }
+{
+    let mut disk = MemDisk::new(alloc, 32 + 2 * area_bytes).ok()?;
+    match format(alloc, &mut disk, area_bytes) {
+        Ok(()) => Some(disk),
+        Err(_) => None,
+    }
+}
+
 /// The party with so many seats at an empty journal with areas of so many bytes.
 pub fn new_party(alloc: Global, area_bytes: u64, count: usize) -> Option<Party>
     requires { (4096 ≤ area_bytes) × (area_bytes ≤ 262144) × (count ≤ 64) }
     ensures together { IfSome result (λ party. AreTogether count party.hub party.seats.items party.flusher) }
     ensures executed { IfSome result (λ party. party.flusher.executed ≡ party.flusher.stored) }
 {
-    let mut disk = MemDisk::new(alloc, 32 + 2 * area_bytes).ok()?;
-    match format(alloc, &mut disk, area_bytes) {
-        Ok(()) => party_over(alloc, disk, count),
-        Err(_) => None,
+    match new_disk(alloc, area_bytes) {
+        Some(disk) => party_over(alloc, disk, count),
+        None => None,
     }
 }
 
@@ -181,17 +191,11 @@ fn push_text(alloc: Global, messages: &mut Vec<Vec<u8>>, text: &[u8]) -> Result<
     Ok(())
 }
 
-/// The first message that is another one than the text at its place, or that has no text; or how many they are, where each has
-/// its text and there are fewer.
-pub fn first_wrong(sent: &[Vec<u8>], texts: &[&[u8]]) -> Option<usize> {
-    for (i, message) in sent.iter().enumerate() {
-        if texts.get(i).is_none_or(|text| message.as_slice() != *text) {
-            return Some(i);
-        }
-    }
-    if sent.len() == texts.len() {
-        None
-    } else {
-        Some(sent.len())
-    }
+/// Whether each message is the text in its place.
+pub fn is_front(sent: &[Vec<u8>], texts: &[&[u8]]) -> bool {
+    sent.len() <= texts.len()
+        && sent
+            .iter()
+            .zip(texts)
+            .all(|(message, text)| message.as_slice() == *text)
 }

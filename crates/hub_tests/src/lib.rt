@@ -1,5 +1,5 @@
-//! Tests of the hub in threads, by its public face: workers over links in memory, and one flusher. They are a crate of their
-//! own, since a crate that has tests is proved twice.
+//! Tests of the hub in threads, by its public face: workers over links in memory, and one flusher; and of scripts over streams that fail,
+//! disks that hold something, and refused memory. They are a crate of their own, since a crate that has tests is proved twice.
 
 #![tactic(auto)]
 
@@ -14,11 +14,21 @@ mod links;
 #[cfg(test)]
 mod paces;
 #[cfg(test)]
+mod parts;
+#[cfg(test)]
 mod refusal_tests;
 #[cfg(test)]
 mod rows;
 #[cfg(test)]
+mod runs;
+#[cfg(test)]
+mod script_refusal_tests;
+#[cfg(test)]
 mod script_tests;
+#[cfg(test)]
+mod start_tests;
+#[cfg(test)]
+mod stream_tests;
 #[cfg(test)]
 mod texts;
 #[cfg(test)]

@@ -1,5 +1,6 @@
 //! Gates that let threads wait for one another.
 
+use crate::rows::{Awaited, Row};
 use engine_core::Gate;
 use std::sync::atomic::{AtomicBool, AtomicU64, Ordering};
 use std::thread;
@@ -26,51 +27,43 @@ impl Gate for Shut {
 }
 
 /// Lets each turn pass after a millisecond.
-#[derive(Drop)]
-pub struct Pause<R> {
-    pub rt: R,
+#[derive(Clone, Copy)]
+pub struct Pause<'a, R> {
+    pub rt: &'a R,
 }
 
-impl<R: Clock> Gate for Pause<R> {
+impl<R: Clock> Gate for Pause<'_, R> {
     fn pass(&self, _worker: u32, _turn: u64) -> bool {
-        thread::sleep(&self.rt, Duration::from_millis(1));
+        thread::sleep(self.rt, Duration::from_millis(1));
         true
     }
 }
 
 /// Holds up worker 0 until it is opened. Each turn sleeps a millisecond; once it is closed for the flusher that turns no more.
 #[derive(Drop)]
-pub struct Turnstile<R> {
-    pub rt: R,
+pub struct Turnstile<'a, R> {
+    pub rt: &'a R,
     pub opened: AtomicBool,
     pub finished: AtomicBool,
 }
 
-impl<R: Clock> Gate for Turnstile<R> {
+impl<R: Clock> Gate for Turnstile<'_, R> {
     fn pass(&self, worker: u32, _turn: u64) -> bool {
         if self.finished.load(Ordering::SeqCst) {
             return false;
         }
-        thread::sleep(&self.rt, Duration::from_millis(1));
+        thread::sleep(self.rt, Duration::from_millis(1));
         worker != 0 || self.opened.load(Ordering::SeqCst)
     }
-}
-
-/// A turn of a worker that is taken once every number under a mark is published.
-#[derive(Clone, Copy)]
-pub struct Awaited {
-    pub turn: u64,
-    pub mark: u64,
-    pub holds: bool,
 }
 
 /// The pace of worker 0 and of a flusher, which notes what it hears. Each turn sleeps a millisecond. The flusher is held up
 /// until it is let go, or the worker has found its window full, or awaits a mark, or has ended; then that one turns no more. A
 /// worker whose window is full is held up until the mark has risen, or will rise no more.
 #[derive(Drop)]
-pub struct Noting<R> {
-    rt: R,
-    shut: AtomicBool,
+pub struct Noting<'a, R> {
+    rt: &'a R,
+    row: &'a Row,
     waits: AtomicBool,
     flushes: AtomicBool,
     ended: AtomicBool,
@@ -79,49 +72,23 @@ pub struct Noting<R> {
     stopped: AtomicBool,
     short: AtomicBool,
     mark: AtomicU64,
-    awaited_turn: AtomicU64,
-    awaited_mark: AtomicU64,
-    holds: AtomicBool,
 }
 
-impl<R> Noting<R> {
-    pub fn new(rt: R) -> Noting<R> {
+impl<'a, R> Noting<'a, R> {
+    /// That of a row.
+    pub fn new(rt: &'a R, row: &'a Row) -> Noting<'a, R> {
         Noting {
             rt,
-            shut: AtomicBool::new(false),
+            row,
             waits: AtomicBool::new(false),
-            flushes: AtomicBool::new(false),
+            flushes: AtomicBool::new(row.flushes),
             ended: AtomicBool::new(false),
             appended: AtomicBool::new(false),
             full: AtomicBool::new(false),
             stopped: AtomicBool::new(false),
             short: AtomicBool::new(false),
             mark: AtomicU64::new(0),
-            awaited_turn: AtomicU64::new(u64::MAX),
-            awaited_mark: AtomicU64::new(0),
-            holds: AtomicBool::new(false),
         }
-    }
-
-    /// Begins anew: whether the worker is held up, whether the flusher is let go from the beginning, and for which turn the
-    /// worker awaits a mark.
-    pub fn begin(&self, shut: bool, flushes: bool, awaits: Option<Awaited>) {
-        self.shut.store(shut, Ordering::SeqCst);
-        self.waits.store(false, Ordering::SeqCst);
-        self.flushes.store(flushes, Ordering::SeqCst);
-        self.ended.store(false, Ordering::SeqCst);
-        self.appended.store(false, Ordering::SeqCst);
-        self.full.store(false, Ordering::SeqCst);
-        self.stopped.store(false, Ordering::SeqCst);
-        self.short.store(false, Ordering::SeqCst);
-        self.mark.store(0, Ordering::SeqCst);
-        let (turn, mark, holds) = match awaits {
-            Some(awaited) => (awaited.turn, awaited.mark, awaited.holds),
-            None => (u64::MAX, 0, false),
-        };
-        self.awaited_turn.store(turn, Ordering::SeqCst);
-        self.awaited_mark.store(mark, Ordering::SeqCst);
-        self.holds.store(holds, Ordering::SeqCst);
     }
 
     /// The worker has ended.
@@ -144,34 +111,30 @@ impl<R> Noting<R> {
     }
 }
 
-impl<R: Clock> Noting<R> {
+impl<R: Clock> Noting<'_, R> {
     // Lets the flusher go, waits for the mark, for ten seconds at most, and holds the flusher up again where that is asked for.
-    fn await_mark(&self) {
+    fn await_mark(&self, awaited: Awaited) {
         self.flushes.store(true, Ordering::SeqCst);
-        let wanted = self.awaited_mark.load(Ordering::SeqCst);
         for _ in 0..10_000u32 {
-            if self.mark.load(Ordering::SeqCst) >= wanted {
-                self.flushes
-                    .store(!self.holds.load(Ordering::SeqCst), Ordering::SeqCst);
+            if self.mark.load(Ordering::SeqCst) >= awaited.mark {
+                self.flushes.store(!awaited.holds, Ordering::SeqCst);
                 return;
             }
-            thread::sleep(&self.rt, Duration::from_millis(1));
+            thread::sleep(self.rt, Duration::from_millis(1));
         }
     }
-}
 
-impl<R: Clock> Noting<R> {
     // Whether the flusher's turn is taken.
     fn lets_flush(&self) -> bool {
         if self.ended.load(Ordering::SeqCst) {
             return true;
         }
-        thread::sleep(&self.rt, Duration::from_millis(1));
+        thread::sleep(self.rt, Duration::from_millis(1));
         self.flushes.load(Ordering::SeqCst)
     }
 }
 
-impl<R: Clock> Gate for Noting<R> {
+impl<R: Clock> Gate for Noting<'_, R> {
     fn pass(&self, worker: u32, turn: u64) -> bool {
         if worker == u32::MAX {
             return self.lets_flush();
@@ -179,11 +142,12 @@ impl<R: Clock> Gate for Noting<R> {
         if self.ended.load(Ordering::SeqCst) {
             return false;
         }
-        thread::sleep(&self.rt, Duration::from_millis(1));
-        if worker == 0 && turn == self.awaited_turn.load(Ordering::SeqCst) {
-            self.await_mark();
+        thread::sleep(self.rt, Duration::from_millis(1));
+        match self.row.awaits {
+            Some(awaited) if worker == 0 && turn == awaited.turn => self.await_mark(awaited),
+            _ => {}
         }
-        worker == 0 && !self.shut.load(Ordering::SeqCst) && !self.waits.load(Ordering::SeqCst)
+        worker == 0 && !self.row.shut && !self.waits.load(Ordering::SeqCst)
     }
 
     fn appended(&self, _worker: u32) {

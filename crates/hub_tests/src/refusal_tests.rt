@@ -6,7 +6,8 @@ ghost use Rattle.hub_tests.specs.Parties.{AreTogether};
 
 use crate::hubs::{HubRing, HubSeat, Party, SMALL_AREA, link_of, new_party, party_over};
 use crate::paces::{Free, Noting};
-use crate::rows::{Flushed, Row, flush, run};
+use crate::rows::Row;
+use crate::runs::{Flushed, Worked, flush, run};
 use crate::script_tests::TWICE;
 use crate::texts::{CONNECT, SEND_X, SEND_Y, SUBSCRIBE};
 use disk_core::MemDisk;
@@ -145,18 +146,7 @@ fn a_flusher_that_is_refused_memory_stops_and_loses_nothing(rt: HostRuntime) -> 
 
 // What the script beside the gate reads. A worker asks again for what memory was refused for, so that all comes out as ever; its
 // session can't, and is told as lost. What was sent is a front of what should be.
-fn word_of_work<R: Threads + Wait + Clock + Sync>(
-    rt: &R,
-    alloc: Global,
-    pace: &Noting<R>,
-) -> &'static str {
-    let row = Row {
-        turns: PACED_TURNS,
-        ..TWICE
-    };
-    let Some((worked, flushed)) = run(rt, alloc, &row, pace, PACED_TURNS) else {
-        return "unseen";
-    };
+fn word_of(worked: &Worked, flushed: Flushed) -> &'static str {
     if !worked.is_front {
         return "wrong";
     }
@@ -170,10 +160,23 @@ fn word_of_work<R: Threads + Wait + Clock + Sync>(
     }
 }
 
+fn word_of_work<R: Threads + Wait + Clock + Sync>(rt: &R, alloc: Global) -> &'static str {
+    let row = Row {
+        turns: PACED_TURNS,
+        ..TWICE
+    };
+    let pace = Noting::new(rt, &row);
+    let word = match run(rt, alloc, &row, &pace, PACED_TURNS) {
+        Some((worked, flushed)) => word_of(&worked, flushed),
+        None => "unseen",
+    };
+    drop(pace);
+    word
+}
+
 #[test]
 fn a_worker_that_is_refused_memory_sends_nothing_else(rt: HostRuntime) -> Result<(), Fail> {
-    let pace = Noting::new(rt.clone()?);
-    let seen = word_of_work(&rt, rt.alloc(), &pace);
+    let seen = word_of_work(&rt, rt.alloc());
     println!(rt; "{seen}")?;
     assert!(rt; seen != "wrong");
     Ok(())

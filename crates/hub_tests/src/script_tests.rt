@@ -1,13 +1,12 @@
 use crate::links::Shortage;
-use crate::paces::{Awaited, Noting};
-use crate::rows::{Row, SILENT, first_wrong_row};
+use crate::rows::{Awaited, Row, SILENT};
+use crate::runs::first_wrong_row;
 use crate::texts::{
     ALL_RECEIPTS, CONNECT, CONNECTED, DISCONNECT, FIFTEEN_SUBSCRIBERS, FIVE_RECEIPTS, FIVE_SENDS,
     LAST_RECEIPT, LAST_WORD, LONG_BODY, LONG_END, LONG_HEAD, NOT_EXPECTED, SEND_X, SUBSCRIBER,
     THREE_MESSAGES, TRANSACTION, TWENTY_RECEIPTED, TWENTY_SENDS,
 };
 use engine_core::Ended;
-use std::test::Fail;
 
 const ROWS: [Row; 10] = [
     // More commands than the window lets in, and a DISCONNECT that asks for a receipt.
@@ -179,29 +178,21 @@ const SCARCE: [Row; 2] = [
 ];
 
 #[test]
-fn worker_like_script(rt: HostRuntime) -> Result<(), Fail> {
-    let pace = Noting::new(rt.clone()?);
-    assert_eq!(rt; first_wrong_row(&rt, rt.alloc(), &[TWICE], &pace), None);
-    Ok(())
+fn worker_like_script(rt: HostRuntime) {
+    assert_eq!(rt; first_wrong_row(&rt, rt.alloc(), &[TWICE]), None);
 }
 
 #[test]
-fn each_connection_ends_as_it_should(rt: HostRuntime) -> Result<(), Fail> {
-    let pace = Noting::new(rt.clone()?);
-    assert_eq!(rt; first_wrong_row(&rt, rt.alloc(), &ROWS, &pace), None);
-    Ok(())
+fn each_connection_ends_as_it_should(rt: HostRuntime) {
+    assert_eq!(rt; first_wrong_row(&rt, rt.alloc(), &ROWS), None);
 }
 
 #[test]
-fn all_that_may_leave_is_sent_in_one_turn(rt: HostRuntime) -> Result<(), Fail> {
-    let pace = Noting::new(rt.clone()?);
-    assert_eq!(rt; first_wrong_row(&rt, rt.alloc(), &[AT_ONCE], &pace), None);
-    Ok(())
+fn all_that_may_leave_is_sent_in_one_turn(rt: HostRuntime) {
+    assert_eq!(rt; first_wrong_row(&rt, rt.alloc(), &[AT_ONCE]), None);
 }
 
 #[test]
-fn what_memory_was_refused_for_is_done_in_a_later_turn(rt: HostRuntime) -> Result<(), Fail> {
-    let pace = Noting::new(rt.clone()?);
-    assert_eq!(rt; first_wrong_row(&rt, rt.alloc(), &SCARCE, &pace), None);
-    Ok(())
+fn what_memory_was_refused_for_is_done_in_a_later_turn(rt: HostRuntime) {
+    assert_eq!(rt; first_wrong_row(&rt, rt.alloc(), &SCARCE), None);
 }

@@ -11,7 +11,7 @@ use engine_core::{Gate, flush_loop};
 use outbox_core::{OutSender, Silent};
 use std::alloc::Global;
 use std::mem;
-use std::test::Fail;
+use std::sync::atomic::{AtomicBool, Ordering};
 use std::thread::{self, Threads, join_mut};
 use std::time::{Clock, Duration};
 
@@ -130,67 +130,50 @@ fn append_round<R: Clock>(
     true
 }
 
-// Goes round up to sixteen seats a thousand times, and answers whether the tickets of each rose.
-fn append_all<R: Clock>(rt: &R, alloc: Global, ring: &HubRing, seats: &mut [HubSeat]) -> bool
-    requires at { AreAt ring.now seats.old }
-    requires few { length seats.old ≤ 16 }
-    ensures { AreAt ring.now seats.new }
-{
-    let mut last = [None; 16];
-    for i in 0..1_000u64 {
-        if !append_round(rt, alloc, ring, seats, &mut last, i) {
-            return false;
-        }
-    }
-    true
-}
-
-// Half of up to 32 seats in one thread, and the other half in another.
-fn append_in_two<R: Threads + Clock + Sync>(
+// Goes round up to sixteen seats a thousand times, and notes it if a ticket of one of them did not rise.
+fn append_all<R: Clock>(
     rt: &R,
     alloc: Global,
     ring: &HubRing,
     seats: &mut [HubSeat],
-) -> bool
+    rose: &AtomicBool,
+)
     requires at { AreAt ring.now seats.old }
-    requires few { length seats.old ≤ 32 }
-    ensures { AreAt ring.now seats.new }
+    requires few { length seats.old ≤ 16 }
+    ensures at { AreAt ring.now seats.new }
+    ensures count { length seats.new ≡ length seats.old }
 {
-    let (ones, others) = seats.split_at_mut(seats.len() / 2);
-    let (rose, others_rose) = join_mut(
-        rt,
-        &mut || -> bool
-            requires { AreAt ring.now ones.now × (length ones.now ≤ 16) }
-        { append_all(rt, alloc, ring, ones) },
-        &mut || -> bool
-            requires { AreAt ring.now others.now × (length others.now ≤ 16) }
-        { append_all(rt, alloc, ring, others) },
-    );
-    rose && others_rose
+    let mut last = [None; 16];
+    for i in 0..1_000u64 {
+        if !append_round(rt, alloc, ring, seats, &mut last, i) {
+            rose.store(false, Ordering::SeqCst);
+            return;
+        }
+    }
 }
 
-// Half of up to 64 seats in two threads, and the other half in two others.
+// The same at up to 64 seats, a fourth of them in a thread.
 fn append_in_four<R: Threads + Clock + Sync>(
     rt: &R,
     alloc: Global,
     ring: &HubRing,
     seats: &mut [HubSeat],
-) -> bool
+    rose: &AtomicBool,
+)
     requires at { AreAt ring.now seats.old }
     requires few { length seats.old ≤ 64 }
     ensures { AreAt ring.now seats.new }
 {
-    let (ones, others) = seats.split_at_mut(seats.len() / 2);
-    let (rose, others_rose) = join_mut(
+    let share = seats.len().div_ceil(4).max(1);
+    thread::for_each_chunk_mut(
         rt,
-        &mut || -> bool
-            requires { AreAt ring.now ones.now × (length ones.now ≤ 32) }
-        { append_in_two(rt, alloc, ring, ones) },
-        &mut || -> bool
-            requires { AreAt ring.now others.now × (length others.now ≤ 32) }
-        { append_in_two(rt, alloc, ring, others) },
+        seats,
+        share,
+        &|_, part: &mut [HubSeat]|
+            requires { AreAt ring.now part.now × (length part.now ≤ 16) }
+            ensures { AreAt ring.entry.now part.exit.now × (length part.exit.now ≡ length part.entry.now) }
+        { append_all(rt, alloc, ring, part, rose) },
     );
-    rose && others_rose
 }
 
 // Makes a turn, and compacts the journal after it if that is asked for and the mark has risen. Answers the mark, and nothing after a fault.
@@ -251,10 +234,10 @@ fn append_and_flush<R: Threads + Clock + Sync>(
     rt: &R,
     alloc: Global,
     party: &mut Party,
-    pace: &Pause<R>,
     wanted: u64,
     compacts: bool,
-) -> bool
+    rose: &AtomicBool,
+)
     requires together { AreTogether (length party.old.seats.items) party.old.hub party.old.seats.items party.old.flusher }
     requires few { length party.old.seats.items ≤ 64 }
     requires executed { party.old.flusher.executed ≡ party.old.flusher.stored }
@@ -263,38 +246,35 @@ fn append_and_flush<R: Threads + Clock + Sync>(
     let ring = party.hub.ring();
     let seats = party.seats.as_mut_slice();
     let flusher = &mut party.flusher;
-    let (rose, ()) = join_mut(
+    join_mut(
         rt,
-        &mut || -> bool
+        &mut ||
             requires { AreAt ring.now seats.now × (length seats.now ≤ 64) }
-        { append_in_four(rt, alloc, ring, seats) },
-        &mut || flush_to(alloc, ring, flusher, pace, wanted, compacts),
+        { append_in_four(rt, alloc, ring, seats, rose) },
+        &mut || flush_to(alloc, ring, flusher, &Pause { rt }, wanted, compacts),
     );
-    rose
 }
 
 // Whether the tickets of each of so many seats rose, and the numbers at the end.
 fn run<R: Threads + Clock + Sync>(
     rt: &R,
     alloc: Global,
-    pace: &Pause<R>,
     count: usize,
     compacts: bool,
 ) -> Option<(bool, [u64; 4])>
     requires { count ≤ 64 }
 {
-    match new_party(alloc, AREA, count) {
-        Some(mut party) => {
-            let wanted = count as u64 * 1_000;
-            let rose = append_and_flush(rt, alloc, &mut party, pace, wanted, compacts);
-            match close(party) {
-                Some(closed) => {
-                    let numbers = numbers(&closed);
-                    drop(closed);
-                    Some((rose, numbers))
-                }
-                None => None,
-            }
+    let mut party = new_party(alloc, AREA, count)?;
+    let wanted = count as u64 * 1_000;
+    let rose = AtomicBool::new(true);
+    append_and_flush(rt, alloc, &mut party, wanted, compacts, &rose);
+    let all_rose = rose.load(Ordering::SeqCst);
+    drop(rose);
+    match close(party) {
+        Some(closed) => {
+            let numbers = numbers(&closed);
+            drop(closed);
+            Some((all_rose, numbers))
         }
         None => None,
     }
@@ -309,22 +289,16 @@ fn all(thousands: u64) -> Option<(bool, [u64; 4])>
 }
 
 #[test]
-fn two_threads_and_a_flusher_close_with_2000_commands(rt: HostRuntime) -> Result<(), Fail> {
-    let pace = Pause { rt: rt.clone()? };
-    assert_eq!(rt; run(&rt, rt.alloc(), &pace, 2, false), all(2));
-    Ok(())
+fn two_threads_and_a_flusher_close_with_2000_commands(rt: HostRuntime) {
+    assert_eq!(rt; run(&rt, rt.alloc(), 2, false), all(2));
 }
 
 #[test]
-fn they_do_with_a_compaction_after_each_batch(rt: HostRuntime) -> Result<(), Fail> {
-    let pace = Pause { rt: rt.clone()? };
-    assert_eq!(rt; run(&rt, rt.alloc(), &pace, 2, true), all(2));
-    Ok(())
+fn they_do_with_a_compaction_after_each_batch(rt: HostRuntime) {
+    assert_eq!(rt; run(&rt, rt.alloc(), 2, true), all(2));
 }
 
 #[test]
-fn four_threads_of_sixteen_seats_close_with_64000_commands(rt: HostRuntime) -> Result<(), Fail> {
-    let pace = Pause { rt: rt.clone()? };
-    assert_eq!(rt; run(&rt, rt.alloc(), &pace, 64, false), all(64));
-    Ok(())
+fn four_threads_of_sixteen_seats_close_with_64000_commands(rt: HostRuntime) {
+    assert_eq!(rt; run(&rt, rt.alloc(), 64, false), all(64));
 }

@@ -1,15 +1,11 @@
 //! A script while memory is refused. In an ordinary run none is, and it prints all. `tests/program/no_memory.py` has each growth refused in
 //! turn, and reads what this test says of it.
 
-ghost use Rattle.std.specs.Prelude.{◌≤◌, length};
-
-use area_core::format;
+use crate::hubs::{SMALL_AREA, new_disk};
 use disk_core::MemDisk;
 use engine_core::{ScriptFault, run_script};
 use std::alloc::Global;
 use std::test::Fail;
-
-const DISK_BYTES: u64 = 8_224;
 
 // A subscriber that acknowledges a message twice.
 const SCRIPT: &[u8] = b"0 CONNECT%0Aaccept-version:1.2%0A%0A%00
@@ -32,59 +28,47 @@ const PRINTED: &[u8] = b"0 CONNECTED%0Aversion:1.2%0Asession:0%0Aheart-beat:0,0%
 open 7 1
 ";
 
-// The texts of the two faults that it may report: of memory, and of the device if the growth was the disk's.
-fn is_want(alloc: Global, fault: &ScriptFault) -> Option<bool> {
+// Whether its text is one of the two that it may report: of memory, and of the device if the growth was the disk's.
+fn is_want(alloc: Global, fault: &ScriptFault) -> bool {
     match format!(in alloc; "{fault}") {
         Ok(text) => {
             let is_want = text.as_str() == "no memory" || text.as_str() == "J3 device failed";
             drop(text);
-            Some(is_want)
+            is_want
         }
-        Err(_) => None,
+        Err(_) => false,
     }
 }
 
-fn formatted(alloc: Global) -> Option<MemDisk> {
-    let mut disk = MemDisk::new(alloc, DISK_BYTES).ok()?;
-    match format(alloc, &mut disk, 4_096) {
-        Ok(()) => Some(disk),
-        Err(_) => None,
+// What the script beside the gate reads of one that has ended, and has written these bytes.
+fn word_of_ended(alloc: Global, ended: &Result<(), ScriptFault>, written: &[u8]) -> &'static str {
+    match ended {
+        Ok(()) if written == PRINTED => "whole",
+        Err(fault) if is_want(alloc, fault) && PRINTED.starts_with(written) => "refused",
+        _ => "wrong",
     }
 }
 
-// What the script beside the gate reads. The room of what it prints is made before.
+fn word_of_written(alloc: Global, disk: MemDisk, written: &mut Vec<u8>) -> &'static str {
+    let mut reader = SCRIPT;
+    let (disk, ended) = run_script(alloc, &mut reader, written, disk);
+    drop(disk);
+    let word = word_of_ended(alloc, &ended, written.as_slice());
+    drop(ended);
+    word
+}
+
+// The room of what it prints is made before.
 fn word_of_script(alloc: Global) -> &'static str {
     let Ok(mut written) = Vec::<u8>::with_capacity(alloc, 4_096) else {
         return "unseen";
     };
-    let word = word_of_written(alloc, &mut written);
+    let word = match new_disk(alloc, SMALL_AREA) {
+        Some(disk) => word_of_written(alloc, disk, &mut written),
+        None => "unseen",
+    };
     drop(written);
     word
-}
-
-fn word_of_written(alloc: Global, written: &mut Vec<u8>) -> &'static str {
-    let Some(disk) = formatted(alloc) else {
-        return "unseen";
-    };
-    let mut reader = SCRIPT;
-    let (disk, ended) = run_script(alloc, &mut reader, written, disk);
-    drop(disk);
-    match ended {
-        Ok(()) => if written.as_slice() == PRINTED {
-            "whole"
-        } else {
-            "wrong"
-        },
-        Err(fault) => {
-            let wanted = is_want(alloc, &fault);
-            drop(fault);
-            if wanted == Some(true) && PRINTED.starts_with(written.as_slice()) {
-                "refused"
-            } else {
-                "wrong"
-            }
-        }
-    }
 }
 
 #[test]
