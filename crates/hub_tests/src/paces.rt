@@ -72,6 +72,8 @@ pub struct Noting<'a, R> {
     stopped: AtomicBool,
     short: AtomicBool,
     mark: AtomicU64,
+    begun: AtomicBool,
+    beside: AtomicBool,
 }
 
 impl<'a, R> Noting<'a, R> {
@@ -88,6 +90,8 @@ impl<'a, R> Noting<'a, R> {
             stopped: AtomicBool::new(false),
             short: AtomicBool::new(false),
             mark: AtomicU64::new(0),
+            begun: AtomicBool::new(false),
+            beside: AtomicBool::new(false),
         }
     }
 
@@ -103,6 +107,12 @@ impl<'a, R> Noting<'a, R> {
         let full = self.full.load(Ordering::SeqCst);
         let stopped = self.stopped.load(Ordering::SeqCst);
         ([appended, full, stopped], self.mark.load(Ordering::SeqCst))
+    }
+
+    /// Whether the flusher had a turn once the worker had begun. Where no thread can be made, the worker begins behind all turns of the
+    /// flusher.
+    pub fn was_beside(&self) -> bool {
+        self.beside.load(Ordering::SeqCst)
     }
 
     /// Whether it heard that memory was refused.
@@ -130,6 +140,9 @@ impl<R: Clock> Noting<'_, R> {
             return true;
         }
         thread::sleep(self.rt, Duration::from_millis(1));
+        if self.begun.load(Ordering::SeqCst) {
+            self.beside.store(true, Ordering::SeqCst);
+        }
         self.flushes.load(Ordering::SeqCst)
     }
 }
@@ -139,6 +152,7 @@ impl<R: Clock> Gate for Noting<'_, R> {
         if worker == u32::MAX {
             return self.lets_flush();
         }
+        self.begun.store(true, Ordering::SeqCst);
         if self.ended.load(Ordering::SeqCst) {
             return false;
         }

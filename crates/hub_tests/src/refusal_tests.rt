@@ -146,7 +146,7 @@ fn a_flusher_that_is_refused_memory_stops_and_loses_nothing(rt: HostRuntime) -> 
 
 // What the script beside the gate reads. A worker asks again for what memory was refused for, so that all comes out as ever; its
 // session can't, and is told as lost. What was sent is a front of what should be.
-fn word_of(worked: &Worked, flushed: Flushed) -> &'static str {
+fn word_of(worked: &Worked, flushed: Flushed, was_beside: bool) -> &'static str {
     if !worked.is_front {
         return "wrong";
     }
@@ -156,6 +156,9 @@ fn word_of(worked: &Worked, flushed: Flushed) -> &'static str {
         // All was appended before the flusher stopped, so that what is still to come does not come. A worker that stalls beside a
         // flusher that goes on is wrong.
         (Ended::Stopped | Ended::Lost | Ended::Bad | Ended::Turns, Flushed::Refused) => "unseen",
+        // The thread of the worker was refused memory, so that it began once the flusher's turns were used up: nothing is published, and
+        // nothing is sent.
+        (Ended::Turns, Flushed::To(0)) if worked.sent == 0 && !was_beside => "unseen",
         _ => "wrong",
     }
 }
@@ -167,7 +170,7 @@ fn word_of_work<R: Threads + Wait + Clock + Sync>(rt: &R, alloc: Global) -> &'st
     };
     let pace = Noting::new(rt, &row);
     let word = match run(rt, alloc, &row, &pace, PACED_TURNS) {
-        Some((worked, flushed)) => word_of(&worked, flushed),
+        Some((worked, flushed)) => word_of(&worked, flushed, pace.was_beside()),
         None => "unseen",
     };
     drop(pace);
