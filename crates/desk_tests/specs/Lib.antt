@@ -1,1 +1,1 @@
-pub mod Crowds
+pub mod Parties

@@ -1,7 +1,8 @@
 ghost use Rattle.std.specs.Prelude.{◌≡◌};
 
-use crate::clients::{Client, Guest};
-use crate::rooms::{HubRing, MemDesk};
+use crate::clients::Guest;
+use crate::hubs::HubRing;
+use crate::rooms::{MemDesk, admit};
 use crate::says::Say;
 use crate::texts::{CONNECT, CONNECTED};
 use claim_core::{FlushSeat, Ring};
@@ -52,18 +53,12 @@ fn give(alloc: Global, sender: &mut Option<OutSender<Silent>>) -> bool {
     }
 }
 
-fn admit(alloc: Global, desk: &mut MemDesk, at: usize)
-    ensures { desk.new.seat.ring ≡ desk.old.seat.ring }
-{
-    let guest = Guest {
-        says: &[CONNECT],
-        stuck: 0,
-        short: 0,
-    };
-    if let Some(client) = Client::new(alloc, &guest) {
-        let _ = desk.admit(alloc, at, client);
-    }
-}
+// One that opens a session.
+const OPENER: Guest<'static> = Guest {
+    says: &[CONNECT],
+    stuck: 0,
+    short: 0,
+};
 
 fn turn_both(alloc: Global, ring: &HubRing, desk: &mut MemDesk)
     requires { desk.old.seat.ring ≡ ring.now }
@@ -98,8 +93,8 @@ fn hear_both(
     ensures desk { desk.new.seat.ring ≡ desk.old.seat.ring }
     ensures flusher { (flusher.new.ring ≡ flusher.old.ring) × (flusher.new.seats ≡ flusher.old.seats) }
 {
-    admit(alloc, desk, 0);
-    admit(alloc, desk, 1);
+    admit(alloc, desk, 0, &OPENER);
+    admit(alloc, desk, 1, &OPENER);
     turn_both(alloc, ring, desk);
     let mut first = take_box(ring, flusher);
     let mut second = take_box(ring, flusher);

@@ -22,6 +22,8 @@ mod foreign_tests;
 #[cfg(test)]
 mod handshake_tests;
 #[cfg(test)]
+mod hubs;
+#[cfg(test)]
 mod place_tests;
 #[cfg(test)]
 mod receiving_tests;
