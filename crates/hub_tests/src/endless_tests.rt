@@ -3,7 +3,7 @@
 ghost use Rattle.std.specs.Prelude.{◌≡◌};
 ghost use Rattle.hub_tests.specs.Parties.{AreTogether};
 
-use crate::hubs::{HubRing, HubSeat, Party, SMALL_AREA, link_of, new_party};
+use crate::hubs::{HubRing, HubSeat, Party, SMALL_AREA, close, link_of, new_party};
 use crate::links::Endless;
 use crate::paces::Free;
 use crate::texts::{CONNECT, SEND_X};
@@ -34,6 +34,7 @@ fn serve(
     bytes: &'static [u8],
 ) -> Option<(Ended, usize)>
     requires { seat.old.ring ≡ ring.now }
+    ensures { seat.new.ring ≡ ring.now }
 {
     match link_of(alloc, texts) {
         Some(link) => {
@@ -56,6 +57,7 @@ fn serve_and_flush(
 ) -> Option<(Ended, usize, u64)>
     requires together { AreTogether 1 party.old.hub party.old.seats.items party.old.flusher }
     requires executed { party.old.flusher.executed ≡ party.old.flusher.stored }
+    ensures { AreTogether 1 party.new.hub party.new.seats.items party.new.flusher }
 {
     let ring = party.hub.ring();
     let (ended, sent) = serve(alloc, ring, &mut party.seats[0], texts, bytes)?;
@@ -70,7 +72,7 @@ fn run(alloc: Global, texts: &[&[u8]], bytes: &'static [u8]) -> Option<(Ended, u
     match new_party(alloc, SMALL_AREA, 1) {
         Some(mut party) => {
             let ran = serve_and_flush(alloc, &mut party, texts, bytes);
-            drop(party);
+            drop(close(party));
             ran
         }
         None => None,

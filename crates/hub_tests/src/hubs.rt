@@ -30,8 +30,8 @@ pub const AREA: u64 = 262_144;
 /// The bytes of the smallest area.
 pub const SMALL_AREA: u64 = 4_096;
 
-/// A hub, the seats that it has handed out, and its flusher. Tests own these here alone, and lend them.
-#[derive(Drop)]
+/// A hub, the seats that it has handed out, and its flusher. Tests own these here alone, and lend them. A party is closed and never
+/// dropped, since each value that is dropped has a proof.
 pub struct Party {
     pub hub: MemHub,
     pub seats: Vec<HubSeat>,
@@ -137,6 +137,18 @@ pub fn close(party: Party) -> Option<Closed<MemDisk>>
     match hub.close(seats, flusher) {
         Ok(closed) => Some(closed),
         Err(_) => None,
+    }
+}
+
+/// The number behind all commands that a disk stands for.
+pub fn next_over(alloc: Global, disk: MemDisk) -> Option<u64> {
+    match party_over(alloc, disk, 0) {
+        Some(party) => {
+            let next = party.flusher.next();
+            drop(close(party));
+            Some(next)
+        }
+        None => None,
     }
 }
 

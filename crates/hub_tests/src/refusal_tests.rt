@@ -4,14 +4,14 @@
 ghost use Rattle.std.specs.Prelude.{◌≡◌};
 ghost use Rattle.hub_tests.specs.Parties.{AreTogether};
 
-use crate::hubs::{HubRing, HubSeat, Party, SMALL_AREA, link_of, new_party, party_over};
+use crate::hubs::{HubRing, HubSeat, Party, SMALL_AREA, close, link_of, new_party, next_over};
 use crate::paces::{Free, Noting};
 use crate::rows::Row;
 use crate::runs::{Flushed, Worked, flush, run};
 use crate::script_tests::TWICE;
 use crate::texts::{CONNECT, SEND_X, SEND_Y, SUBSCRIBE};
 use disk_core::MemDisk;
-use engine_core::{Ended, worker};
+use engine_core::{Closed, Ended, worker};
 use outbox_core::Silent;
 use std::alloc::Global;
 use std::sync::Wait;
@@ -43,6 +43,7 @@ fn append_four(alloc: Global, ring: &HubRing, seat: &mut HubSeat) -> bool
 // How a worker that asks to open a session ends.
 fn open_another(alloc: Global, ring: &HubRing, seat: &mut HubSeat) -> Option<Ended>
     requires { seat.old.ring ≡ ring.now }
+    ensures { seat.new.ring ≡ ring.now }
 {
     let mut link = link_of(alloc, &[CONNECT])?;
     let ended = worker(alloc, ring, seat, &mut link, &Silent, &Free, TURNS);
@@ -50,18 +51,18 @@ fn open_another(alloc: Global, ring: &HubRing, seat: &mut HubSeat) -> Option<End
     Some(ended)
 }
 
-// How many commands the disk stands for, once its unsynced bytes are lost.
-fn count_of(alloc: Global, disk: MemDisk) -> Option<u64> {
+// How many commands the disk of a closed hub stands for, once its unsynced bytes are lost.
+fn count_of(alloc: Global, closed: Closed<MemDisk>) -> Option<u64> {
+    let Closed {
+        base: _,
+        claimed: _,
+        taken: _,
+        mark: _,
+        disk,
+    } = closed;
     let mut disk = disk;
     disk.crash(None);
-    match party_over(alloc, disk, 0) {
-        Some(party) => {
-            let next = party.flusher.next();
-            drop(party);
-            Some(next)
-        }
-        None => None,
-    }
+    next_over(alloc, disk)
 }
 
 // What came of the loop, whether the flusher is broken, the mark, and how another worker ends then.
@@ -70,6 +71,7 @@ type Sight = (Flushed, bool, u64, Option<Ended>);
 fn see_four(alloc: Global, party: &mut Party) -> Option<Sight>
     requires together { AreTogether 2 party.old.hub party.old.seats.items party.old.flusher }
     requires executed { party.old.flusher.executed ≡ party.old.flusher.stored }
+    ensures { AreTogether 2 party.new.hub party.new.seats.items party.new.flusher }
 {
     let ring = party.hub.ring();
     if !append_four(alloc, ring, &mut party.seats[0]) {
@@ -82,24 +84,15 @@ fn see_four(alloc: Global, party: &mut Party) -> Option<Sight>
     Some((flushed, is_broken, mark, ended))
 }
 
-// The disk of a party.
-fn into_disk(party: Party) -> MemDisk {
-    let Party {
-        hub,
-        seats,
-        flusher,
-    } = party;
-    drop(seats);
-    drop(hub);
-    flusher.into_disk()
-}
-
 // What is seen, and how many commands are on the disk.
 fn flush_four(alloc: Global) -> Option<(Sight, Option<u64>)> {
     match new_party(alloc, SMALL_AREA, 2) {
         Some(mut party) => {
             let seen = see_four(alloc, &mut party);
-            let count = count_of(alloc, into_disk(party));
+            let count = match close(party) {
+                Some(closed) => count_of(alloc, closed),
+                None => None,
+            };
             match seen {
                 Some(seen) => Some((seen, count)),
                 None => None,

@@ -4,7 +4,8 @@ ghost use Rattle.std.specs.Prelude.{◌≡◌};
 ghost use Rattle.hub_tests.specs.Parties.{AreTogether};
 
 use crate::hubs::{
-    AREA, HubFlusher, HubRing, HubSeat, Party, SMALL_AREA, is_front, link_of_rounds, new_party,
+    AREA, HubFlusher, HubRing, HubSeat, Party, SMALL_AREA, close, is_front, link_of_rounds,
+    new_party,
 };
 use crate::links::{Scarce, ScriptedLink};
 use crate::paces::Noting;
@@ -14,7 +15,7 @@ use flush_core::FlushFault;
 use std::alloc::Global;
 use std::cell::Cell;
 use std::sync::Wait;
-use std::thread::{self, Threads};
+use std::thread::{Threads, join_mut};
 use std::time::Clock;
 
 fn scripted(alloc: Global, row: &Row) -> Option<ScriptedLink> {
@@ -59,6 +60,7 @@ fn serve<R: Clock>(
     pace: &Noting<R>,
 ) -> Option<Worked>
     requires { seat.old.ring ≡ ring.now }
+    ensures { seat.new.ring ≡ ring.now }
 {
     let mut link = scripted(alloc, row)?;
     let bells = Scarce {
@@ -85,6 +87,7 @@ fn work<R: Clock>(
     pace: &Noting<R>,
 ) -> Option<Worked>
     requires { seat.old.ring ≡ ring.now }
+    ensures { seat.new.ring ≡ ring.now }
 {
     let worked = serve(alloc, ring, seat, row, pace);
     pace.end();
@@ -100,6 +103,7 @@ pub fn flush<P: Gate>(
     turns: u64,
 ) -> Flushed
     requires { (flusher.old.seat.ring ≡ ring.now) × (flusher.old.executed ≡ flusher.old.stored) }
+    ensures { (flusher.new.seat.ring ≡ ring.now) × (flusher.new.seat.seats ≡ flusher.old.seat.seats) }
 {
     match flush_loop(alloc, ring, flusher, pace, turns) {
         Ok(mark) => Flushed::To(mark),
@@ -119,16 +123,17 @@ fn work_and_flush<R: Threads + Wait + Clock + Sync>(
 ) -> (Option<Worked>, Flushed)
     requires together { AreTogether 1 party.old.hub party.old.seats.items party.old.flusher }
     requires executed { party.old.flusher.executed ≡ party.old.flusher.stored }
+    ensures { AreTogether 1 party.new.hub party.new.seats.items party.new.flusher }
 {
     let ring = party.hub.ring();
     let seat = &mut party.seats[0];
     let flusher = &mut party.flusher;
-    thread::join(
+    join_mut(
         rt,
-        || -> Option<Worked>
+        &mut || -> Option<Worked>
             requires { seat.now.ring ≡ ring.now }
         { work(alloc, ring, seat, row, pace) },
-        || -> Flushed
+        &mut || -> Flushed
             requires { (flusher.now.seat.ring ≡ ring.now) × (flusher.now.executed ≡ flusher.now.stored) }
         { flush(alloc, ring, flusher, pace, turns) },
     )
@@ -146,7 +151,7 @@ pub fn run<R: Threads + Wait + Clock + Sync>(
     match new_party(alloc, area_bytes, 1) {
         Some(mut party) => {
             let (worked, flushed) = work_and_flush(rt, alloc, &mut party, row, pace, turns);
-            drop(party);
+            drop(close(party));
             Some((worked?, flushed))
         }
         None => None,

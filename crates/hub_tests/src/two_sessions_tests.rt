@@ -1,14 +1,14 @@
 ghost use Rattle.std.specs.Prelude.{◌≡◌, ◌<◌, length};
 ghost use Rattle.hub_tests.specs.Parties.{AreAt, AreTogether};
 
-use crate::hubs::{AREA, HubFlusher, HubRing, HubSeat, Party, is_front, link_of, new_party};
+use crate::hubs::{AREA, HubFlusher, HubRing, HubSeat, Party, close, is_front, link_of, new_party};
 use crate::paces::Turnstile;
 use engine_core::{Ended, flush_loop, worker};
 use outbox_core::Silent;
 use std::alloc::Global;
 use std::sync::Wait;
 use std::sync::atomic::{AtomicBool, Ordering};
-use std::thread::{self, Threads};
+use std::thread::{Threads, join_mut};
 use std::time::Clock;
 use ws_core::MemLink;
 
@@ -42,6 +42,7 @@ fn serve<R: Clock>(
     pace: &Turnstile<R>,
 ) -> Option<Ended>
     requires { seat.old.ring ≡ ring.now }
+    ensures { seat.new.ring ≡ ring.now }
 {
     match link_of(alloc, &[CONNECT, SEND, DISCONNECT]) {
         Some(mut link) => {
@@ -63,6 +64,7 @@ fn work<R: Clock>(
     then: &AtomicBool,
 ) -> Option<Ended>
     requires { seat.old.ring ≡ ring.now }
+    ensures { seat.new.ring ≡ ring.now }
 {
     let ended = serve(alloc, ring, seat, pace);
     then.store(true, Ordering::SeqCst);
@@ -76,6 +78,7 @@ fn flush<R: Clock>(
     pace: &Turnstile<R>,
 ) -> Option<u64>
     requires { (flusher.old.seat.ring ≡ ring.now) × (flusher.old.executed ≡ flusher.old.stored) }
+    ensures { (flusher.new.seat.ring ≡ ring.now) × (flusher.new.seat.seats ≡ flusher.old.seat.seats) }
 {
     flush_loop(alloc, ring, flusher, pace, TURNS).ok()
 }
@@ -89,14 +92,15 @@ fn work_both<R: Threads + Wait + Clock + Sync>(
     pace: &Turnstile<R>,
 ) -> (Option<Ended>, Option<Ended>)
     requires { AreAt ring.now seats.old × (length seats.old ≡ 2) }
+    ensures { AreAt ring.now seats.new }
 {
     let (first, second) = seats.split_at_mut(1);
-    thread::join(
+    join_mut(
         rt,
-        || -> Option<Ended>
+        &mut || -> Option<Ended>
             requires { AreAt ring.now first.now × (0 < length first.now) }
         { work(alloc, ring, &mut first[0], pace, &pace.finished) },
-        || -> Option<Ended>
+        &mut || -> Option<Ended>
             requires { AreAt ring.now second.now × (0 < length second.now) }
         { work(alloc, ring, &mut second[0], pace, &pace.opened) },
     )
@@ -111,16 +115,17 @@ fn work_and_flush<R: Threads + Wait + Clock + Sync>(
 ) -> ((Option<Ended>, Option<Ended>), Option<u64>)
     requires together { AreTogether 2 party.old.hub party.old.seats.items party.old.flusher }
     requires executed { party.old.flusher.executed ≡ party.old.flusher.stored }
+    ensures { AreTogether 2 party.new.hub party.new.seats.items party.new.flusher }
 {
     let ring = party.hub.ring();
     let seats = party.seats.as_mut_slice();
     let flusher = &mut party.flusher;
-    thread::join(
+    join_mut(
         rt,
-        || -> (Option<Ended>, Option<Ended>)
+        &mut || -> (Option<Ended>, Option<Ended>)
             requires { AreAt ring.now seats.now × (length seats.now ≡ 2) }
         { work_both(rt, alloc, ring, seats, pace) },
-        || -> Option<u64>
+        &mut || -> Option<u64>
             requires { (flusher.now.seat.ring ≡ ring.now) × (flusher.now.executed ≡ flusher.now.stored) }
         { flush(alloc, ring, flusher, pace) },
     )
@@ -139,7 +144,7 @@ fn run<R: Threads + Wait + Clock + Sync>(
             };
             let ran = work_and_flush(rt, alloc, &mut party, &pace);
             drop(pace);
-            drop(party);
+            drop(close(party));
             Some(ran)
         }
         None => None,
