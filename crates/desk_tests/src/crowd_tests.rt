@@ -1,4 +1,4 @@
-ghost use Rattle.std.specs.Prelude.{◌≡◌, ◌<◌, false, length};
+ghost use Rattle.std.specs.Prelude.{◌≡◌, ◌<◌, length};
 ghost use Rattle.desk_tests.specs.Parties.{AreAt, AreTogether, MayFlush};
 
 use crate::clients::Guest;
