@@ -1,10 +1,13 @@
-//! Tests of the hub in threads, by its public face: workers over links in memory, and one flusher; and of scripts over streams that fail,
-//! disks that hold something, and refused memory. They are a crate of their own, since a crate that has tests is proved twice.
+//! Tests of hubs, desks, links and scripts by their public faces: workers over links in memory, and one flusher, in threads; desks with many
+//! clients; scripts over streams that fail, disks that hold something, and refused memory. They are a crate of their own, since a crate that
+//! has tests is proved twice.
 
 #![tactic(auto)]
 
 #[cfg(test)]
 mod closing_tests;
+#[cfg(test)]
+mod desk;
 #[cfg(test)]
 mod endless_tests;
 #[cfg(test)]

@@ -1,5 +1,0 @@
-use Rattle.std.proofs.Common.{◌≡◌}
-use Rattle.desk_tests.proofs.crowd_tests.count_right.Given as goal
-
-abbrev pub invariant-loop-i : goal.invariant-loop-i
-invariant-loop-i l = l.desk.seat.ring ≡ l.fn.desk.seat.ring
