@@ -1,7 +1,7 @@
-use Rattle.std.proofs.Common.{◌≡◌, ◌+◌, ◌<◌, ◌++◌, ◌∙◌, List, [], ◌∷◌, ℕ, Option, Some, ap, arith, length, refl, suc, zero}
+use Rattle.std.proofs.Common.{◌≡◌, ◌+◌, ◌<◌, ◌++◌, ◌∙◌, List, [], ◌∷◌, ℕ, IfSome, Option, Some, ap, arith, length, refl, subst, suc, zero}
 use Rattle.std.specs.List.{slice_index_or, slice_set}
 use Rattle.std.specs.Option.{option_to_list}
-use Rattle.std.proofs.lemmas.List.Elements.{All-get_or, All-push, All-set}
+use Rattle.std.proofs.lemmas.List.Elements.{All-get_or, All-pop, All-push, All-set}
 use Rattle.atomic_table.specs.Seated.{TableId}
 use Rattle.server_core.specs.Serving.{AreServed, count_mailboxes}
 use Rattle.server_core.specs.declared.service.Service.{Service}
@@ -44,3 +44,12 @@ served_on {R = R} ring services i d s within shared all =
 
 pub served_push : {R : Type 0} (ring : TableId) (services : List (Service R)) (s : Service R) → AreServed ring services → s.shared.now.ring ≡ ring → AreServed ring (services ++ s ∷ [])
 served_push {R = R} ring services s all at = All-push (λ (service : Service R). service.shared.now.ring ≡ ring) services s all at
+
+-- the last service has left
+pub served_pop : {R : Type 0} (ring : TableId) (xs ys : List (Service R)) (r : Option (Service R)) → xs ≡ ys ++ option_to_list r → AreServed ring xs → AreServed ring ys
+served_pop {R = R} ring xs ys r is all = (All-pop (λ (service : Service R). service.shared.now.ring ≡ ring) xs ys r is all).0
+
+-- it was at the ring
+pub served_last : {R : Type 0} (ring : TableId) (xs ys : List (Service R)) (r : Option (Service R)) (s : Service R) → xs ≡ ys ++ option_to_list r → r ≡ Some s → AreServed ring xs → s.shared.now.ring ≡ ring
+served_last {R = R} ring xs ys r s is some all =
+    subst (λ o. IfSome o (λ (service : Service R). service.shared.now.ring ≡ ring)) some (All-pop (λ (service : Service R). service.shared.now.ring ≡ ring) xs ys r is all).1

@@ -10,7 +10,7 @@ use crate::shared::{ServerSeat, Shared};
 use crate::sweep::Sweep;
 use crate::worker_setup::{WorkerSetup, room_for_events};
 use client_schedule::{Clients, Outlook, Watch, reported_by};
-use mio::{Events, Poll};
+use mio::{Events, Poll, Registry};
 use std::alloc::{AllocError, Global};
 use std::marker::Model;
 use std::sync::{Arc, Wait};
@@ -127,13 +127,18 @@ impl<'a, R: Wait + Clock + Drop> EventLoop<'a, R> {
 
     /// Whether the server has ended for it: if it parts with its clients, and has none any more, or has waited for them long enough.
     pub(crate) fn is_over(&self) -> bool {
-        match self.parting {
-            Some(since) => {
-                self.now.saturating_sub(since) >= LONGEST_FAREWELL
-                    || self.services.iter().all(|service| service.is_empty())
-            }
-            None => false,
+        let Some(since) = self.parting else {
+            return false;
+        };
+        if self.now.saturating_sub(since) >= LONGEST_FAREWELL {
+            return true;
         }
+        for service in &self.services {
+            if service.mailbox.clients() > 0 {
+                return false;
+            }
+        }
+        true
     }
 
     /// Waits until there is something to do, gives each ready client its turns, and then looks which clients took too long. What has
@@ -142,20 +147,15 @@ impl<'a, R: Wait + Clock + Drop> EventLoop<'a, R> {
         ensures { self.new ≡ self.old }
     {
         self.wait();
-        let was_rung = self.bell.wakes_up();
-        hear_events(&self.events, &mut self.services, self.now);
-        let (registry, now) = (self.poll.registry(), self.now);
         let begin = Sweep::Begin {
-            registry,
-            was_rung,
-            now,
+            was_rung: self.bell.wakes_up(),
+            now: self.now,
         };
-        sweep_all(&mut self.services, &begin);
-        sweep_all(&mut self.services, &Sweep::Pass);
-        sweep_all(&mut self.services, &Sweep::End);
+        hear_events(&self.events, &mut self.services, self.now);
+        serve_all(&mut self.services, self.poll.registry(), begin);
         if self.parting.is_none() && self.shared.wakeups.has_end_begun() {
             self.parting = Some(self.now);
-            sweep_all(&mut self.services, &Sweep::Part);
+            sweep_all(&mut self.services, self.poll.registry(), Sweep::Part);
         }
     }
 
@@ -208,9 +208,9 @@ fn demand_of<R: Wait + Clock + Drop>(services: &[Service<'_, R>]) -> Demand
         due: u64::MAX,
     };
     for service in services {
-        demand.is_ready |= service.is_ready();
-        demand.awaits_mark |= service.awaits_mark();
-        demand.due = demand.due.min(service.until());
+        demand.is_ready |= service.clients.is_ready();
+        demand.awaits_mark |= service.clients.awaits_mark();
+        demand.due = demand.due.min(service.clients.until());
     }
     demand
 }
@@ -241,7 +241,12 @@ fn longest_wait<R: Wait + Clock + Drop>(
 fn is_anybody_let_in<R: Wait + Clock + Drop>(services: &[Service<'_, R>], mark: u64) -> bool
     ensures { result ≡ is_anybody_let_in mark services.now }
 {
-    services.iter().any(|service| service.is_over(mark))
+    for service in services {
+        if service.clients.is_over(mark) {
+            return true;
+        }
+    }
+    false
 }
 
 /// The room that a worker needs, which it makes itself: no other thread ever has it.
@@ -302,14 +307,20 @@ fn add_services<'a, R: Wait + Clock + Drop>(
     ensures room { vec_capacity seats.new ≡ vec_capacity seats.old }
 {
     for _desk in 0..seats.len() {
-        let (Some(mailbox), Some(its)) = (mailboxes.pop(), clients.pop()) else {
+        let Some(mailbox) = mailboxes.pop() else {
             break;
         };
-        add_service(alloc, shared, services, seats, mailbox, its);
+        match clients.pop() {
+            Some(its) => add_service(alloc, shared, services, seats, mailbox, its),
+            None => {
+                drop(mailbox);
+                break;
+            }
+        }
     }
 }
 
-// The next seat has a desk with this mailbox and these clients, if there is a seat.
+// The last seat has a desk with this mailbox and these clients.
 fn add_service<'a, R: Wait + Clock + Drop>(
     alloc: Global,
     shared: &'a Shared<R>,
@@ -318,34 +329,35 @@ fn add_service<'a, R: Wait + Clock + Drop>(
     mailbox: Arc<Mailbox>,
     clients: Clients,
 )
+    requires some { 0 < vec_len seats.old }
     requires at { AreAt shared.now.ring seats.old.items }
     requires room { vec_len services.old + vec_len seats.old ≤ vec_capacity services.old }
     ensures at { AreAt shared.now.ring seats.new.items }
     ensures served { AreServed shared.now.ring services.old.items → AreServed shared.now.ring services.new.items }
-    ensures count { vec_len services.new + vec_len seats.new ≡ vec_len services.old + vec_len seats.old }
+    ensures count { vec_len services.new ≡ vec_len services.old + 1 }
+    ensures one { vec_len seats.old ≡ vec_len seats.new + 1 }
     ensures room { (vec_capacity services.new ≡ vec_capacity services.old) × (vec_capacity seats.new ≡ vec_capacity seats.old) }
 {
     let number = services.len();
-    if let Some(seat) = seats.pop() {
-        services.push_reserved(Service::new(alloc, shared, seat, mailbox, number, clients));
-    }
+    let seat = seats.pop().unwrap();
+    services.push_reserved(Service::new(alloc, shared, seat, mailbox, number, clients));
 }
 
-// The seat of the last desk comes back, if there is one.
+// The seat of the last desk comes back.
 fn take_back<R: Wait + Clock + Drop>(
     services: &mut Vec<Service<'_, R>>,
     seats: &mut Vec<ServerSeat>,
 )
+    requires some { 0 < vec_len services.old }
     requires room { vec_len services.old + vec_len seats.old ≤ vec_capacity seats.old }
-    ensures count { vec_len services.new + vec_len seats.new ≡ vec_len services.old + vec_len seats.old }
-    ensures one { 0 < vec_len services.old → vec_len services.old ≡ vec_len services.new + 1 }
+    ensures count { vec_len seats.new ≡ vec_len seats.old + 1 }
+    ensures one { vec_len services.old ≡ vec_len services.new + 1 }
     ensures room { vec_capacity seats.new ≡ vec_capacity seats.old }
     ensures served { (ring : TableId) → AreServed ring services.old.items → AreServed ring services.new.items }
     ensures at { (ring : TableId) → AreServed ring services.old.items → AreAt ring seats.old.items → AreAt ring seats.new.items }
 {
-    if let Some(service) = services.pop() {
-        seats.push_reserved(service.into_seat());
-    }
+    let service = services.pop().unwrap();
+    seats.push_reserved(service.into_seat());
 }
 
 // Has clients stand in line if the poll told anything of their sockets, and has their streams hear it.
@@ -365,12 +377,30 @@ fn hear_events<R: Wait + Clock + Drop>(
     }
 }
 
+// Has all desks begin a round so, and then do the rest of it.
+fn serve_all<R: Wait + Clock + Drop>(
+    services: &mut Vec<Service<'_, R>>,
+    registry: &Registry,
+    begin: Sweep,
+)
+    ensures ring { (ring : TableId) → AreServed ring services.old.items → AreServed ring services.new.items }
+    ensures count { vec_len services.new ≡ vec_len services.old }
+{
+    sweep_all(services, registry, begin);
+    sweep_all(services, registry, Sweep::Pass);
+    sweep_all(services, registry, Sweep::End);
+}
+
 // Has each desk do this, one after another.
-fn sweep_all<R: Wait + Clock + Drop>(services: &mut Vec<Service<'_, R>>, sweep: &Sweep<'_>)
+fn sweep_all<R: Wait + Clock + Drop>(
+    services: &mut Vec<Service<'_, R>>,
+    registry: &Registry,
+    sweep: Sweep,
+)
     ensures ring { (ring : TableId) → AreServed ring services.old.items → AreServed ring services.new.items }
     ensures count { vec_len services.new ≡ vec_len services.old }
 {
     for desk in 0..services.len() {
-        services[desk].sweep(sweep);
+        services[desk].sweep(registry, sweep);
     }
 }

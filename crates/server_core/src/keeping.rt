@@ -89,8 +89,8 @@ impl<'a, R: Wait + Clock + Drop> Service<'a, R> {
         self.mailbox.leaves();
     }
 
-    // Whether that client sits at the desk.
-    fn is_seated(&self, number: usize) -> bool {
+    /// Whether that client sits at the desk.
+    pub(crate) fn is_seated(&self, number: usize) -> bool {
         match self.clients.get(number) {
             Some(client) => client.is_seated(),
             None => false,

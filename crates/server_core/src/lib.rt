@@ -6,6 +6,7 @@ mod acceptor;
 mod descriptors;
 mod entrance;
 mod event_loop;
+mod fittings;
 mod greeting;
 mod keeping;
 mod last_rounds;
@@ -15,6 +16,8 @@ mod serving;
 mod shared;
 mod starting;
 mod sweep;
+mod timers;
+mod turns;
 mod worker;
 mod worker_setup;
 

@@ -1,28 +1,23 @@
 //! A desk of a worker, and how its clients are served.
 
 ghost use Rattle.std.specs.Prelude.{◌≡◌};
-ghost use Rattle.client_schedule.specs.Outlooks.{awaits_mark, due_at, is_ready, lets_in};
 
-use crate::shared::{ServerRing, ServerSeat, Shared};
-use client_schedule::{CLIENTS, ClientState, Clients, Due, Flow, Progress, ReadBudget, Reported};
-use desk_core::{Cut, Desk, Next, Turned};
-use event_log::Kind;
+use crate::shared::{ServerSeat, Shared};
+use client_schedule::{CLIENTS, ClientState, Clients, ReadBudget, Reported};
+use desk_core::Desk;
 use mio::net::TcpStream;
 use mio::{Interest, Registry, Token};
 use std::alloc::Global;
 use std::io;
 use std::sync::{Arc, Wait};
 use std::time::Clock;
-use wakeups::{Account, Arrival, BITS, Called, ClientWaker, ClientWakers, Mailbox, WORDS};
-use ws_core::{Greeting, Outgoing, WsLink};
-
-/// How many turns a client has one after another at most.
-const TURNS: u32 = 8;
+use wakeups::{Account, Arrival, BITS, Called, ClientWaker, Mailbox, WORDS};
+use ws_core::{Greeting, WsLink};
 
 /// How many new clients a desk takes in at most before those that it has are served.
 const NEW_CLIENTS: u32 = 64;
 
-type ClientDesk = Desk<ClientWaker, WsLink<ReadBudget<TcpStream>>>;
+pub(crate) type ClientDesk = Desk<ClientWaker, WsLink<ReadBudget<TcpStream>>>;
 
 /// A desk of a worker, and its clients.
 #[derive(Drop)]
@@ -103,39 +98,6 @@ impl<'a, R: Wait + Clock + Drop> Service<'a, R> {
         desk.into_seat()
     }
 
-    /// Whether it has no client.
-    pub(crate) fn is_empty(&self) -> bool {
-        self.mailbox.clients() == 0
-    }
-
-    /// Whether a client stands in line for a turn, or goes on by itself.
-    pub(crate) fn is_ready(&self) -> bool
-        ensures { result ≡ is_ready self.entry.now.clients }
-    {
-        self.clients.is_ready()
-    }
-
-    /// Whether a client waits for the mark.
-    pub(crate) fn awaits_mark(&self) -> bool
-        ensures { result ≡ awaits_mark self.entry.now.clients }
-    {
-        self.clients.awaits_mark()
-    }
-
-    /// Whether a client is let in at this mark.
-    pub(crate) fn is_over(&self, mark: u64) -> bool
-        ensures { result ≡ lets_in mark self.entry.now.clients }
-    {
-        self.clients.is_over(mark)
-    }
-
-    /// Until when there is nothing to do of which neither the poll nor the doorbell tells.
-    pub(crate) fn until(&self) -> u64
-        ensures { result ≡ due_at self.entry.now.clients }
-    {
-        self.clients.until()
-    }
-
     /// The poll told this of a client's socket.
     pub(crate) fn hear_of(&mut self, number: usize, told: Reported, now: u64)
         ensures shared { self.new.shared ≡ self.old.shared }
@@ -177,21 +139,9 @@ impl<'a, R: Wait + Clock + Drop> Service<'a, R> {
     {
         for word in 0..WORDS {
             let called = self.mailbox.take_calls(word);
-            self.wake_called(called);
+            wake_called(&mut self.clients, called);
         }
         self.take_in(registry);
-    }
-
-    // Has the clients stand in line that were called for.
-    fn wake_called(&mut self, mut called: Called)
-        ensures shared { self.new.shared ≡ self.old.shared }
-    {
-        for _call in 0..BITS {
-            match called.next() {
-                Some(number) => self.clients.wake(number),
-                None => return,
-            }
-        }
     }
 
     // Takes in the clients that were handed to it. If there are more, its worker does not sleep before it has taken in those too.
@@ -237,85 +187,13 @@ impl<'a, R: Wait + Clock + Drop> Service<'a, R> {
         Ok(())
     }
 
-    /// Ends a round: does what is due of clients, and sees that they keep to their memory. What has come from a client was heard before
-    /// that.
-    pub(crate) fn end(&mut self)
-        ensures shared { self.new.shared ≡ self.old.shared }
-    {
-        self.look_at_timers();
-        self.give_way();
-    }
-
-    // Sees that all clients keep to their memory. One that is evicted has a turn at once, in which what it took is given back. This is done
-    // after each turn that may have heard a client: else a round of many would take far more.
-    fn give_way(&mut self)
+    /// Sees that all clients keep to their memory. One that is evicted has a turn at once, in which what it took is given back. This is done
+    /// after each turn that may have heard a client: else a round of many would take far more.
+    pub(crate) fn give_way(&mut self)
         ensures shared { self.new.shared ≡ self.old.shared }
     {
         if let Some(number) = self.keep_to_memory() {
             self.turn(number);
-        }
-    }
-
-    fn look_at_timers(&mut self)
-        ensures shared { self.new.shared ≡ self.old.shared }
-    {
-        for _due in 0..self.clients.reach() {
-            match self.clients.take_due(self.now) {
-                Some(number) => self.come_due(number),
-                None => return,
-            }
-        }
-    }
-
-    fn come_due(&mut self, number: usize)
-        ensures shared { self.new.shared ≡ self.old.shared }
-    {
-        let Some(client) = self.clients.get(number) else {
-            return;
-        };
-        let is_seated = client.is_seated();
-        let progress = self.progress_of(number, is_seated);
-        match self.clients.come_due(number, progress, self.now) {
-            Due::Ping if is_seated => self.desk.ping(number),
-            // Its turn writes what waits.
-            Due::Write if is_seated => self.clients.wake(number),
-            Due::GivenUp if is_seated => {
-                let kind = self.why_given_up(progress, number);
-                self.shared.wakeups.log().count(kind);
-                self.desk.lose(number);
-                self.clients.wake(number);
-            }
-            Due::GivenUp => {
-                if self.is_greeted(number) {
-                    self.shared.wakeups.log().count(Kind::Unopened);
-                }
-                self.leave(number);
-            }
-            _ => {}
-        }
-    }
-
-    // How far a client has come, by whether it sits at the desk.
-    fn progress_of(&self, number: usize, is_seated: bool) -> Progress {
-        if !is_seated {
-            Progress::Greeting
-        } else if self.desk.is_open(number) {
-            Progress::Open
-        } else {
-            Progress::Unopened
-        }
-    }
-
-    // Why a client at the desk that has come so far is given up.
-    fn why_given_up(&self, progress: Progress, number: usize) -> Kind {
-        let takes_nothing = match self.desk.link(number) {
-            Some(link) => link.waits(),
-            None => false,
-        };
-        match progress {
-            Progress::Open if takes_nothing => Kind::TakesNothing,
-            Progress::Open => Kind::Silent,
-            Progress::Greeting | Progress::Unopened => Kind::Unopened,
         }
     }
 
@@ -348,26 +226,18 @@ impl<'a, R: Wait + Clock + Drop> Service<'a, R> {
     }
 
     // Gives a turn to those that the mark lets in, each once at most. The mark is the ring's own: it rises before the wakeups tell of it,
-    // and by the same mark others find room.
+    // and by the same mark others find room. Once none will be published, the wakeups' is over every mark.
     fn let_in(&mut self)
         ensures shared { self.new.shared ≡ self.old.shared }
     {
         for _client in 0..self.clients.count_waiting() {
-            let mark = self.mark();
+            let mark = self.desk.look(&self.shared.ring);
+            let mark = mark.max(self.shared.wakeups.mark());
             match self.clients.let_in(mark) {
                 Some((number, standing)) => self.give_turn(number, standing),
                 None => return,
             }
         }
-    }
-
-    // The ring's own mark, or a number over every mark once none will be published.
-    fn mark(&mut self) -> u64
-        ensures shared { self.new.shared ≡ self.old.shared }
-    {
-        self.desk
-            .look(&self.shared.ring)
-            .max(self.shared.wakeups.mark())
     }
 
     // Gives a client a turn, if it is there.
@@ -381,75 +251,14 @@ impl<'a, R: Wait + Clock + Drop> Service<'a, R> {
             ClientState::Away => {}
         }
     }
+}
 
-    // Gives a client at the desk its turns.
-    fn turn(&mut self, number: usize)
-        ensures shared { self.new.shared ≡ self.old.shared }
-    {
-        let mark = self.desk.look(&self.shared.ring);
-        let wakers = ClientWakers {
-            mailbox: &self.mailbox,
-            client: number,
-            pace: &self.shared.pace,
-            mark,
-            log: self.shared.wakeups.log(),
-        };
-        let desk = &mut self.desk;
-        let Some(turned) = take_turns(self.alloc, &self.shared.ring, desk, &wakers) else {
-            return;
-        };
-        let turned = wakers.since(turned);
-        if turned.appended {
-            self.shared.wakeups.wake_flusher();
-        }
-        match turned.next {
-            Next::Over(_) => {
-                if matches!(self.desk.cut(number), Cut::Full(_)) {
-                    self.shared.wakeups.log().count(Kind::LongNames);
-                }
-                drop(self.desk.dismiss(number));
-                self.leave(number);
-            }
-            _ => {
-                self.settle(number, turned);
-                if self.parting {
-                    self.part(number, turned.next);
-                }
-            }
-        }
-    }
-
-    // What comes of the turns of a client that has not ended: what it waits for, and what it holds.
-    fn settle(&mut self, number: usize, turned: Turned)
-        ensures shared { self.new.shared ≡ self.old.shared }
-    {
-        let flow = self.flow(number);
-        self.clients.settle(number, turned, flow, self.now);
-        let holds = self.desk.held(number);
-        self.count(number, holds);
-    }
-
-    // Parts with a client that has nothing more to do at once: it hears the close.
-    fn part(&mut self, number: usize, next: Next)
-        ensures shared { self.new.shared ≡ self.old.shared }
-    {
-        match next {
-            Next::Go | Next::Write | Next::Close | Next::Over(_) => {}
-            Next::Read | Next::Room(_) | Next::Output(_) | Next::Memory => {
-                self.desk.give_up(number);
-                self.clients.wake(number);
-            }
-        }
-    }
-
-    // What the stream of a client at the desk tells.
-    fn flow(&self, number: usize) -> Flow {
-        match self.desk.link(number) {
-            Some(link) => link.stream().flow(),
-            None => Flow {
-                taken: 0,
-                has_rest: false,
-            },
+// Has the clients stand in line that were called for.
+fn wake_called(clients: &mut Clients, mut called: Called) {
+    for _call in 0..BITS {
+        match called.next() {
+            Some(number) => clients.wake(number),
+            None => return,
         }
     }
 }
@@ -465,37 +274,4 @@ fn watched(
     let mut stream = TcpStream::from_std(socket);
     registry.register(&mut stream, token, Interest::READABLE | Interest::WRITABLE)?;
     Ok(stream)
-}
-
-// The turns of the client of those wakers. After each that put a command into the ring and left more to do, it has another, up to `TURNS`.
-// So what its link has read already comes into one block. They came to what the last of them did; something was heard or appended if one of
-// them did so. `None` if there is no client.
-fn take_turns(
-    alloc: Global,
-    ring: &ServerRing,
-    desk: &mut ClientDesk,
-    wakers: &ClientWakers<'_>,
-) -> Option<Turned>
-    requires { desk.old.seat.ring ≡ ring.now }
-    ensures { desk.new.seat.ring ≡ desk.old.seat.ring }
-{
-    let mut last = desk.turn(alloc, ring, wakers.client, wakers)?;
-    let (appended, mut heard) = (last.appended, last.heard);
-    for _turn in 1..TURNS {
-        if !last.appended || !matches!(last.next, Next::Go) {
-            break;
-        }
-        match desk.turn(alloc, ring, wakers.client, wakers) {
-            Some(turned) => {
-                heard |= turned.heard;
-                last = turned;
-            }
-            None => break,
-        }
-    }
-    Some(Turned {
-        appended,
-        heard,
-        next: last.next,
-    })
 }

@@ -8,27 +8,27 @@ ghost use Rattle.server_core.specs.Serving.{AreAt, HasEnded, IsReady, IsNewHub, 
 
 use crate::acceptor::Acceptor;
 use crate::descriptors::clients_allowed;
-use crate::entrance::{Entrance, Reception, bells_of, mailboxes_again};
+use crate::entrance::{Entrance, Reception};
+use crate::fittings::share;
 use crate::last_rounds::LastRounds;
 use crate::reporter::Reporter;
-use crate::shared::{ServerRing, ServerSeat, Shared};
+use crate::shared::{ServerSeat, Shared};
 use crate::worker::WorkerThread;
 use crate::worker_setup::WorkerSetup;
 use claim_core::SEATS;
 use desk_core::SESSION_BYTES;
 use disk_core::FileDisk;
-use engine_core::{HELD_BYTES, Hub, HubFlusher, SeatRoom, compact_last, desk_bytes, flush_loop};
+use engine_core::{HELD_BYTES, Hub, HubFlusher, SeatRoom, compact_last, flush_loop};
 use event_log::{Event, ServeFault, Start};
 use flush_core::FlushFault;
-use std::alloc::{AllocError, Global};
+use std::alloc::Global;
 use std::fs::{File, Files};
 use std::io::Write;
 use std::marker::Model;
 use std::net::{Net, TcpListener, TcpStream};
 use std::sync::{Arc, Wait};
 use std::time::Clock;
-use wakeups::{ClientWaker, Ending, LogThread, Mailbox, Memory, Wakeups};
-use work_share::Pace;
+use wakeups::{ClientWaker, Ending};
 
 pub(crate) type ServerHub = Hub<FileDisk, ClientWaker>;
 
@@ -277,161 +277,6 @@ fn add_seat(seats: &mut Vec<ServerSeat>, hub: &mut ServerHub) -> Result<(), Serv
     };
     match seats.push(seat) {
         Ok(()) => Ok(()),
-        Err(_) => Err(ServeFault::Memory),
-    }
-}
-
-// What asks a server to end, and what tells its operator.
-#[derive(Drop)]
-struct Signals {
-    ending: Arc<Ending>,
-    log: Arc<LogThread>,
-}
-
-impl Signals {
-    fn new(alloc: Global) -> Result<Signals, ServeFault> {
-        let log = shared_by(alloc, LogThread::new(alloc)?)?;
-        let ending = shared_by(alloc, Ending::new())?;
-        Ok(Signals { ending, log })
-    }
-
-    // The same once more, for another who shares them.
-    fn again(&self) -> Result<Signals, ServeFault> {
-        let log = self.log.clone()?;
-        let ending = self.ending.clone()?;
-        Ok(Signals { ending, log })
-    }
-}
-
-// What the flusher and the workers wait on.
-fn wakeups_of<R: Wait + Clone + Drop>(
-    alloc: Global,
-    rt: &R,
-    setups: &[WorkerSetup],
-    mark: u64,
-    signals: Signals,
-) -> Result<Wakeups<R>, ServeFault> {
-    let bells = bells_of(alloc, setups)?;
-    let rt = rt.clone()?;
-    let Signals { ending, log } = signals;
-    Ok(Wakeups::new(rt, mark, ending, log, bells))
-}
-
-// What the threads share besides the ring and the origins, and the signals for where clients come in.
-#[derive(Drop)]
-struct Fittings<R> {
-    wakeups: Wakeups<R>,
-    memory: Memory,
-    pace: Pace,
-    signals: Signals,
-}
-
-// The flusher counts from now on how many listen to each topic.
-fn fit_out<R: Wait + Clone + Drop>(
-    alloc: Global,
-    rt: &R,
-    entrance: &Entrance,
-    flusher: &mut ServerFlusher,
-) -> Result<Fittings<R>, ServeFault>
-    ensures { flusher.new ≡ flusher.old }
-{
-    let pace = Pace::new(alloc, SEATS)?;
-    flusher.count_audiences(pace.audiences()?);
-    let memory = Memory::new(
-        entrance.memory,
-        mailboxes_again(alloc, &entrance.mailboxes)?,
-    );
-    let signals = Signals::new(alloc)?;
-    let setups = entrance.setups.as_slice();
-    let wakeups = wakeups_of(alloc, rt, setups, flusher.mark(), signals.again()?)?;
-    Ok(Fittings {
-        wakeups,
-        memory,
-        pace,
-        signals,
-    })
-}
-
-// Where clients come in.
-fn acceptor_of<R: Wait + Clone + Drop>(
-    alloc: Global,
-    rt: &R,
-    listener: TcpListener,
-    mailboxes: Vec<Arc<Mailbox>>,
-    most_clients: u64,
-    signals: Signals,
-) -> Result<Arc<Acceptor<R>>, ServeFault> {
-    let rt = rt.clone()?;
-    let Signals { ending, log } = signals;
-    let acceptor = Acceptor::new(rt, listener, mailboxes, most_clients, ending, log);
-    shared_by(alloc, acceptor)
-}
-
-// What the threads share, where clients come in, and what the workers wait on.
-fn share<R: Wait + Clone + Drop>(
-    alloc: Global,
-    rt: &R,
-    ring: ServerRing,
-    entrance: Entrance,
-    flusher: &mut ServerFlusher,
-) -> Result<(Arc<Shared<R>>, Arc<Acceptor<R>>, Vec<WorkerSetup>), ServeFault>
-    ensures ring { IfOk result (λ shares. (arc_value shares.0).ring ≡ ring) }
-    ensures setups { IfOk result (λ shares. shares.2 ≡ entrance.setups) }
-    ensures flusher { flusher.new ≡ flusher.old }
-{
-    let its: Result<R, AllocError> = rt.clone();
-    let (fittings, its) = match (fit_out(alloc, rt, &entrance, flusher), its) {
-        (Ok(fittings), Ok(its)) => (fittings, its),
-        (fittings, its) => {
-            drop(its);
-            drop(fittings);
-            drop(entrance);
-            drop(ring);
-            return Err(ServeFault::Memory);
-        }
-    };
-    let Entrance {
-        listener,
-        port: _,
-        origins,
-        most_clients,
-        memory: _,
-        mailboxes,
-        setups,
-    } = entrance;
-    let Fittings {
-        wakeups,
-        memory,
-        pace,
-        signals,
-    } = fittings;
-    let shared = Shared {
-        rt: its,
-        ring,
-        origins,
-        wakeups,
-        memory,
-        pace,
-        desk_bytes: desk_bytes(SEATS as u64, most_clients, flusher.size()),
-    };
-    let acceptor = acceptor_of(alloc, rt, listener, mailboxes, most_clients, signals);
-    match (shared_by(alloc, shared), acceptor) {
-        (Ok(shared), Ok(acceptor)) => Ok((shared, acceptor, setups)),
-        (shared, acceptor) => {
-            drop(acceptor);
-            drop(shared);
-            drop(setups);
-            Err(ServeFault::Memory)
-        }
-    }
-}
-
-// The value, for several threads.
-fn shared_by<T: Drop>(alloc: Global, value: T) -> Result<Arc<T>, ServeFault>
-    ensures { IfOk result (λ shared. arc_value shared ≡ value) }
-{
-    match Arc::new(alloc, value) {
-        Ok(shared) => Ok(shared),
         Err(_) => Err(ServeFault::Memory),
     }
 }

@@ -9,14 +9,10 @@ use std::time::Clock;
 
 /// What a worker has each of its desks do in a round, one after another.
 #[derive(Clone, Copy)]
-pub(crate) enum Sweep<'a> {
-    /// A round begins at that moment: a desk finds out which of its clients are ready, and gives a turn to those that the mark lets in. New
-    /// clients' sockets are registered there. It says whether the doorbell was rung.
-    Begin {
-        registry: &'a Registry,
-        was_rung: bool,
-        now: u64,
-    },
+pub(crate) enum Sweep {
+    /// A round begins at that moment: a desk finds out which of its clients are ready, and gives a turn to those that the mark lets in. It
+    /// says whether the doorbell was rung.
+    Begin { was_rung: bool, now: u64 },
     /// Each client that stands in line now has its turns.
     Pass,
     /// Each that went on by itself when the round began has its turns, and what is due of clients is done.
@@ -26,20 +22,18 @@ pub(crate) enum Sweep<'a> {
 }
 
 impl<R: Wait + Clock + Drop> Service<'_, R> {
-    /// Does its part of a round.
-    pub(crate) fn sweep(&mut self, sweep: &Sweep<'_>)
+    /// Does its part of a round. New clients' sockets are registered there.
+    pub(crate) fn sweep(&mut self, registry: &Registry, sweep: Sweep)
         ensures shared { self.new.shared ≡ self.old.shared }
     {
         match sweep {
-            Sweep::Begin {
-                registry,
-                was_rung,
-                now,
-            } => self.begin(registry, *was_rung, *now),
+            Sweep::Begin { was_rung, now } => self.begin(registry, was_rung, now),
             Sweep::Pass => self.pass(),
             Sweep::End => {
                 self.pass_again();
-                self.end();
+                // What has come from a client was heard before that.
+                self.look_at_timers();
+                self.give_way();
             }
             Sweep::Part => self.part_with_all(),
         }

@@ -1,0 +1,83 @@
+//! What is due of a desk's clients.
+
+ghost use Rattle.std.specs.Prelude.{◌≡◌};
+
+use crate::service::{ClientDesk, Service};
+use client_schedule::{Due, Progress};
+use event_log::Kind;
+use std::sync::Wait;
+use std::time::Clock;
+use ws_core::Outgoing;
+
+impl<R: Wait + Clock + Drop> Service<'_, R> {
+    /// Does what is due of clients.
+    pub(crate) fn look_at_timers(&mut self)
+        ensures shared { self.new.shared ≡ self.old.shared }
+    {
+        for _due in 0..self.clients.reach() {
+            match self.clients.take_due(self.now) {
+                Some(number) => self.come_due(number),
+                None => return,
+            }
+        }
+    }
+
+    fn come_due(&mut self, number: usize)
+        ensures shared { self.new.shared ≡ self.old.shared }
+    {
+        if self.is_seated(number) {
+            self.come_due_seated(number);
+        } else {
+            self.come_due_unseated(number);
+        }
+    }
+
+    // Does what is due of a client at the desk.
+    fn come_due_seated(&mut self, number: usize)
+        ensures shared { self.new.shared ≡ self.old.shared }
+    {
+        let progress = if self.desk.is_open(number) {
+            Progress::Open
+        } else {
+            Progress::Unopened
+        };
+        match self.clients.come_due(number, progress, self.now) {
+            Due::Ping => self.desk.ping(number),
+            // Its turn writes what waits.
+            Due::Write => self.clients.wake(number),
+            Due::GivenUp => {
+                let kind = why_given_up(&self.desk, progress, number);
+                self.shared.wakeups.log().count(kind);
+                self.desk.lose(number);
+                self.clients.wake(number);
+            }
+            Due::In(_) => {}
+        }
+    }
+
+    // Does what is due of a client that does not sit at the desk, if it is there.
+    fn come_due_unseated(&mut self, number: usize)
+        ensures shared { self.new.shared ≡ self.old.shared }
+    {
+        let due = self.clients.come_due(number, Progress::Greeting, self.now);
+        if matches!(due, Due::GivenUp) {
+            if self.is_greeted(number) {
+                self.shared.wakeups.log().count(Kind::Unopened);
+            }
+            self.leave(number);
+        }
+    }
+}
+
+// Why a client at the desk that has come so far is given up.
+fn why_given_up(desk: &ClientDesk, progress: Progress, number: usize) -> Kind {
+    let takes_nothing = match desk.link(number) {
+        Some(link) => link.waits(),
+        None => false,
+    };
+    match progress {
+        Progress::Open if takes_nothing => Kind::TakesNothing,
+        Progress::Open => Kind::Silent,
+        Progress::Greeting | Progress::Unopened => Kind::Unopened,
+    }
+}

@@ -1,0 +1,141 @@
+//! The turns of a desk's clients.
+
+ghost use Rattle.std.specs.Prelude.{◌≡◌};
+
+use crate::service::{ClientDesk, Service};
+use crate::shared::{ServerRing, Shared};
+use client_schedule::Flow;
+use desk_core::{Cut, Next, Turned};
+use event_log::Kind;
+use std::alloc::Global;
+use std::sync::{Arc, Wait};
+use std::time::Clock;
+use wakeups::{ClientWakers, Mailbox};
+use ws_core::Outgoing;
+
+/// How many turns a client has one after another at most.
+const TURNS: u32 = 8;
+
+impl<R: Wait + Clock + Drop> Service<'_, R> {
+    /// Gives a client at the desk its turns.
+    pub(crate) fn turn(&mut self, number: usize)
+        ensures shared { self.new.shared ≡ self.old.shared }
+    {
+        let (alloc, shared) = (self.alloc, self.shared);
+        let Some(turned) = turns_at(alloc, shared, &self.mailbox, &mut self.desk, number) else {
+            return;
+        };
+        if let Next::Over(_) = turned.next {
+            self.dismiss(number);
+        } else {
+            self.settle(number, turned);
+        }
+    }
+
+    // A client that has ended gets up.
+    fn dismiss(&mut self, number: usize)
+        ensures shared { self.new.shared ≡ self.old.shared }
+    {
+        if matches!(self.desk.cut(number), Cut::Full(_)) {
+            self.shared.wakeups.log().count(Kind::LongNames);
+        }
+        drop(self.desk.dismiss(number));
+        self.leave(number);
+    }
+
+    // What comes of the turns of a client that has not ended: what it waits for, and what it holds.
+    fn settle(&mut self, number: usize, turned: Turned)
+        ensures shared { self.new.shared ≡ self.old.shared }
+    {
+        let flow = flow_of(&self.desk, number);
+        self.clients.settle(number, turned, flow, self.now);
+        let holds = self.desk.held(number);
+        self.count(number, holds);
+        if self.parting {
+            self.part(number, turned.next);
+        }
+    }
+
+    // Parts with a client that has nothing more to do at once: it hears the close.
+    fn part(&mut self, number: usize, next: Next)
+        ensures shared { self.new.shared ≡ self.old.shared }
+    {
+        match next {
+            Next::Go | Next::Write | Next::Close | Next::Over(_) => {}
+            Next::Read | Next::Room(_) | Next::Output(_) | Next::Memory => {
+                self.desk.give_up(number);
+                self.clients.wake(number);
+            }
+        }
+    }
+}
+
+// What the stream of a client at the desk tells.
+fn flow_of(desk: &ClientDesk, number: usize) -> Flow {
+    match desk.link(number) {
+        Some(link) => link.stream().flow(),
+        None => Flow {
+            taken: 0,
+            has_rest: false,
+        },
+    }
+}
+
+// The turns of a client at a desk with this mailbox, of which the flusher hears if they put anything into the ring. `None` if there is no
+// client.
+fn turns_at<R: Wait + Clock + Drop>(
+    alloc: Global,
+    shared: &Shared<R>,
+    mailbox: &Arc<Mailbox>,
+    desk: &mut ClientDesk,
+    client: usize,
+) -> Option<Turned>
+    requires { desk.old.seat.ring ≡ shared.now.ring }
+    ensures { desk.new.seat.ring ≡ desk.old.seat.ring }
+{
+    let wakers = ClientWakers {
+        mailbox,
+        client,
+        pace: &shared.pace,
+        mark: desk.look(&shared.ring),
+        log: shared.wakeups.log(),
+    };
+    let turned = wakers.since(take_turns(alloc, &shared.ring, desk, &wakers)?);
+    if turned.appended {
+        shared.wakeups.wake_flusher();
+    }
+    Some(turned)
+}
+
+// The turns of the client of those wakers. After each that put a command into the ring and left more to do, it has another, up to `TURNS`.
+// So what its link has read already comes into one block. They came to what the last of them did; something was heard or appended if one of
+// them did so. `None` if there is no client.
+fn take_turns(
+    alloc: Global,
+    ring: &ServerRing,
+    desk: &mut ClientDesk,
+    wakers: &ClientWakers<'_>,
+) -> Option<Turned>
+    requires { desk.old.seat.ring ≡ ring.now }
+    ensures { desk.new.seat.ring ≡ desk.old.seat.ring }
+{
+    let mut last = desk.turn(alloc, ring, wakers.client, wakers)?;
+    let (appended, mut heard) = (last.appended, last.heard);
+    for _turn in 1..TURNS {
+        if !last.appended || !matches!(last.next, Next::Go) {
+            break;
+        }
+        match desk.turn(alloc, ring, wakers.client, wakers) {
+            Some(turned) => {
+                heard |= turned.heard;
+                last = turned;
+            }
+            None => break,
+        }
+    }
+    Some(Turned {
+        appended,
+        heard,
+        next: last.next,
+    })
+}
