@@ -59,14 +59,6 @@ impl<'a, R: Wait + Clock + Drop> Service<'a, R> {
         self.clients
             .stand(number, ClientState::Refused(farewell), more);
     }
-
-    /// Whether a client's handshake is under way.
-    pub(crate) fn is_greeted(&self, number: usize) -> bool {
-        match self.clients.get(number) {
-            Some(client) => client.is_greeted(),
-            None => false,
-        }
-    }
 }
 
 // What is counted of a refusal.

@@ -7,6 +7,7 @@ ghost use Rattle.client_schedule.specs.declared.limits.TheConstants.{CLIENTS};
 ghost use Rattle.server_core.specs.Keeping.{EvictsMost};
 
 use crate::service::Service;
+use client_schedule::Clients;
 use event_log::Kind;
 use std::sync::Wait;
 use std::time::Clock;
@@ -64,13 +65,13 @@ impl<'a, R: Wait + Clock + Drop> Service<'a, R> {
         ensures shared { self.new.shared ≡ self.old.shared }
         ensures account { self.new.account ≡ counted number 0 self.old.account }
     {
-        if self.is_greeted(number) {
+        if is_greeted(&self.clients, number) {
             self.shared.wakeups.log().count(Kind::TookMost);
             self.leave(number);
             return;
         }
         self.count(number, 0);
-        if self.is_seated(number) {
+        if is_seated(&self.clients, number) {
             self.shared.wakeups.log().count(Kind::TookMost);
             self.desk.evict(self.alloc, number);
         }
@@ -88,12 +89,20 @@ impl<'a, R: Wait + Clock + Drop> Service<'a, R> {
         self.clients.remove(number);
         self.mailbox.leaves();
     }
+}
 
-    /// Whether that client sits at the desk.
-    pub(crate) fn is_seated(&self, number: usize) -> bool {
-        match self.clients.get(number) {
-            Some(client) => client.is_seated(),
-            None => false,
-        }
+/// Whether that one of a desk's clients sits there.
+pub(crate) fn is_seated(clients: &Clients, number: usize) -> bool {
+    match clients.get(number) {
+        Some(client) => client.is_seated(),
+        None => false,
+    }
+}
+
+/// Whether the handshake of that one is under way.
+pub(crate) fn is_greeted(clients: &Clients, number: usize) -> bool {
+    match clients.get(number) {
+        Some(client) => client.is_greeted(),
+        None => false,
     }
 }

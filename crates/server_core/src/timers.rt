@@ -2,6 +2,7 @@
 
 ghost use Rattle.std.specs.Prelude.{◌≡◌};
 
+use crate::keeping::{is_greeted, is_seated};
 use crate::service::{ClientDesk, Service};
 use client_schedule::{Due, Progress};
 use event_log::Kind;
@@ -25,7 +26,7 @@ impl<R: Wait + Clock + Drop> Service<'_, R> {
     fn come_due(&mut self, number: usize)
         ensures shared { self.new.shared ≡ self.old.shared }
     {
-        if self.is_seated(number) {
+        if is_seated(&self.clients, number) {
             self.come_due_seated(number);
         } else {
             self.come_due_unseated(number);
@@ -61,7 +62,7 @@ impl<R: Wait + Clock + Drop> Service<'_, R> {
     {
         let due = self.clients.come_due(number, Progress::Greeting, self.now);
         if matches!(due, Due::GivenUp) {
-            if self.is_greeted(number) {
+            if is_greeted(&self.clients, number) {
                 self.shared.wakeups.log().count(Kind::Unopened);
             }
             self.leave(number);

@@ -51,22 +51,19 @@ impl<R: Wait + Clock + Drop> Service<'_, R> {
         self.clients.settle(number, turned, flow, self.now);
         let holds = self.desk.held(number);
         self.count(number, holds);
-        if self.parting {
-            self.part(number, turned.next);
+        // One that has nothing more to do at once hears the close.
+        if self.parting && waits(turned.next) {
+            self.desk.give_up(number);
+            self.clients.wake(number);
         }
     }
+}
 
-    // Parts with a client that has nothing more to do at once: it hears the close.
-    fn part(&mut self, number: usize, next: Next)
-        ensures shared { self.new.shared ≡ self.old.shared }
-    {
-        match next {
-            Next::Go | Next::Write | Next::Close | Next::Over(_) => {}
-            Next::Read | Next::Room(_) | Next::Output(_) | Next::Memory => {
-                self.desk.give_up(number);
-                self.clients.wake(number);
-            }
-        }
+// Whether a client has nothing more to do at once.
+fn waits(next: Next) -> bool {
+    match next {
+        Next::Go | Next::Write | Next::Close | Next::Over(_) => false,
+        Next::Read | Next::Room(_) | Next::Output(_) | Next::Memory => true,
     }
 }
 
