@@ -3,14 +3,14 @@
 ghost use Rattle.std.specs.Prelude.{◌≡◌};
 
 use crate::service::{ClientDesk, Service};
-use crate::shared::{ServerRing, Shared};
+use crate::shared::ServerRing;
 use client_schedule::Flow;
 use desk_core::{Cut, Next, Turned};
 use event_log::Kind;
 use std::alloc::Global;
-use std::sync::{Arc, Wait};
+use std::sync::Wait;
 use std::time::Clock;
-use wakeups::{ClientWakers, Mailbox};
+use wakeups::ClientWakers;
 use ws_core::Outgoing;
 
 /// How many turns a client has one after another at most.
@@ -21,26 +21,32 @@ impl<R: Wait + Clock + Drop> Service<'_, R> {
     pub(crate) fn turn(&mut self, number: usize)
         ensures shared { self.new.shared ≡ self.old.shared }
     {
-        let (alloc, shared) = (self.alloc, self.shared);
-        let Some(turned) = turns_at(alloc, shared, &self.mailbox, &mut self.desk, number) else {
+        let mark = self.desk.look(&self.shared.ring);
+        let wakers = ClientWakers {
+            mailbox: &self.mailbox,
+            client: number,
+            pace: &self.shared.pace,
+            mark,
+            log: self.shared.wakeups.log(),
+        };
+        let desk = &mut self.desk;
+        let Some(turned) = take_turns(self.alloc, &self.shared.ring, desk, &wakers) else {
             return;
         };
-        if let Next::Over(_) = turned.next {
-            self.dismiss(number);
-        } else {
-            self.settle(number, turned);
+        let turned = wakers.since(turned);
+        if turned.appended {
+            self.shared.wakeups.wake_flusher();
         }
-    }
-
-    // A client that has ended gets up.
-    fn dismiss(&mut self, number: usize)
-        ensures shared { self.new.shared ≡ self.old.shared }
-    {
-        if matches!(self.desk.cut(number), Cut::Full(_)) {
-            self.shared.wakeups.log().count(Kind::LongNames);
+        match turned.next {
+            Next::Over(_) => {
+                if matches!(self.desk.cut(number), Cut::Full(_)) {
+                    self.shared.wakeups.log().count(Kind::LongNames);
+                }
+                drop(self.desk.dismiss(number));
+                self.leave(number);
+            }
+            _ => self.settle(number, turned),
         }
-        drop(self.desk.dismiss(number));
-        self.leave(number);
     }
 
     // What comes of the turns of a client that has not ended: what it waits for, and what it holds.
@@ -76,32 +82,6 @@ fn flow_of(desk: &ClientDesk, number: usize) -> Flow {
             has_rest: false,
         },
     }
-}
-
-// The turns of a client at a desk with this mailbox, of which the flusher hears if they put anything into the ring. `None` if there is no
-// client.
-fn turns_at<R: Wait + Clock + Drop>(
-    alloc: Global,
-    shared: &Shared<R>,
-    mailbox: &Arc<Mailbox>,
-    desk: &mut ClientDesk,
-    client: usize,
-) -> Option<Turned>
-    requires { desk.old.seat.ring ≡ shared.now.ring }
-    ensures { desk.new.seat.ring ≡ desk.old.seat.ring }
-{
-    let wakers = ClientWakers {
-        mailbox,
-        client,
-        pace: &shared.pace,
-        mark: desk.look(&shared.ring),
-        log: shared.wakeups.log(),
-    };
-    let turned = wakers.since(take_turns(alloc, &shared.ring, desk, &wakers)?);
-    if turned.appended {
-        shared.wakeups.wake_flusher();
-    }
-    Some(turned)
 }
 
 // The turns of the client of those wakers. After each that put a command into the ring and left more to do, it has another, up to `TURNS`.
