@@ -1,7 +1,7 @@
 //! Journals with any byte in a place, and journals that are cut short, are read and opened as docs/JOURNAL.md says.
 use crate::damage_tests::journal;
 use crate::journal_steps::told_of;
-use crate::journals::{JournalImage, SIZE, Told};
+use crate::journals::{JournalImage, SIZE, Told, expect_none};
 use std::alloc::Global;
 
 // The two versions of the journal of four commands in three blocks, whose second area is live. In the first version the name ends with 1,
@@ -169,12 +169,12 @@ fn first_wrong(alloc: Global, version: Version) -> Option<usize> {
 
 #[test]
 fn each_byte_of_a_journal_may_be_any(rt: HostRuntime) {
-    assert_eq!(rt; first_wrong(rt.alloc(), Version::Second), None);
+    expect_none(&rt, first_wrong(rt.alloc(), Version::Second));
 }
 
 #[test]
 fn each_byte_of_an_older_journal_may_be_any(rt: HostRuntime) {
-    assert_eq!(rt; first_wrong(rt.alloc(), Version::First), None);
+    expect_none(&rt, first_wrong(rt.alloc(), Version::First));
 }
 
 // The first size at which a disk is reported otherwise, the whole one included. A disk of fewer than 32 bytes is no journal, and any other
@@ -196,10 +196,10 @@ fn first_wrong_size(alloc: Global, version: Version) -> Option<usize> {
 
 #[test]
 fn each_shorter_disk_is_told(rt: HostRuntime) {
-    assert_eq!(rt; first_wrong_size(rt.alloc(), Version::Second), None);
+    expect_none(&rt, first_wrong_size(rt.alloc(), Version::Second));
 }
 
 #[test]
 fn each_shorter_disk_of_an_older_journal_is_told(rt: HostRuntime) {
-    assert_eq!(rt; first_wrong_size(rt.alloc(), Version::First), None);
+    expect_none(&rt, first_wrong_size(rt.alloc(), Version::First));
 }

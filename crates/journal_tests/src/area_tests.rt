@@ -1,7 +1,6 @@
 use crate::area_steps::{AreaStep, Visit, told_front, visits};
-use crate::journals::{JournalImage, Told, empty_image, put};
+use crate::journals::{JournalImage, Told, empty_image, expect, expect_none, put};
 use disk_core::Call;
-use log::info;
 use std::alloc::Global;
 
 // The snapshot of a new journal.
@@ -53,7 +52,7 @@ const FILLED: [Visit<'static>; 3] = [
 // The block's closing gate is the last byte of the area.
 #[test]
 fn a_block_of_4046_bytes_fills_a_new_area_of_4096(rt: HostRuntime) {
-    assert!(rt; visits(rt.alloc(), &empty_image(), &FILLED));
+    expect(&rt, visits(rt.alloc(), &empty_image(), &FILLED));
 }
 
 const OVERFILLED: [Visit<'static>; 2] = [
@@ -78,7 +77,7 @@ const OVERFILLED: [Visit<'static>; 2] = [
 // The area is broken, and the disk is not touched.
 #[test]
 fn a_block_of_4047_bytes_breaks_a_new_area_of_4096(rt: HostRuntime) {
-    assert!(rt; visits(rt.alloc(), &empty_image(), &OVERFILLED));
+    expect(&rt, visits(rt.alloc(), &empty_image(), &OVERFILLED));
 }
 
 const SWITCH: (AreaStep<'static>, Told) = (AreaStep::Switch, Told::Done);
@@ -209,12 +208,18 @@ fn moves(alloc: Global, selector: u8, both: &[Visit<'_>]) -> bool {
     visits(alloc, &image, both)
 }
 
+fn first_wrong_move(alloc: Global) -> Option<usize> {
+    for (place, (selector, both)) in MOVES.iter().enumerate() {
+        if !moves(alloc, *selector, both) {
+            return Some(place);
+        }
+    }
+    None
+}
+
 #[test]
 fn a_snapshot_goes_into_the_other_area_which_is_then_live(rt: HostRuntime) {
-    for (selector, both) in MOVES.iter() {
-        let is_right = moves(rt.alloc(), *selector, both);
-        assert!(rt; is_right, "selector {selector}");
-    }
+    expect_none(&rt, first_wrong_move(rt.alloc()));
 }
 
 const TOO_LONG: [Visit<'static>; 1] = [Visit {
@@ -232,7 +237,7 @@ const TOO_LONG: [Visit<'static>; 1] = [Visit {
 // Both steps are then refused, and the disk is not touched.
 #[test]
 fn a_snapshot_that_is_too_long_breaks_the_area(rt: HostRuntime) {
-    assert!(rt; visits(rt.alloc(), &empty_image(), &TOO_LONG));
+    expect(&rt, visits(rt.alloc(), &empty_image(), &TOO_LONG));
 }
 
 const FAILS_TO_WRITE: &[(AreaStep<'static>, Told)] = &[
@@ -275,19 +280,27 @@ fn comes_of(alloc: Global, passed: u64, steps: &[(AreaStep<'_>, Told)]) -> bool 
     visits(alloc, &empty_image(), &visited)
 }
 
+// After how many calls something else comes of it.
+fn first_wrong_failure(alloc: Global) -> Option<usize> {
+    for (passed, steps) in PASSED.iter().enumerate() {
+        if !comes_of(alloc, passed as u64, steps) {
+            return Some(passed);
+        }
+    }
+    None
+}
+
 // Each of its four calls may be the one that fails: two of writing, and two of switching. After a failure nothing more is done.
 #[test]
 fn a_snapshot_fails_where_its_disk_fails(rt: HostRuntime) {
-    for (passed, steps) in PASSED.iter().enumerate() {
-        info!(rt; "a snapshot: {passed} calls pass, and then all fail");
-        let is_right = comes_of(rt.alloc(), passed as u64, steps);
-        assert!(rt; is_right, "{passed} calls");
-    }
+    expect_none(&rt, first_wrong_failure(rt.alloc()));
 }
 
 // The digits in the name, the byte that the live area begins with, and the version that this gives, or that the area's first word
 // is damaged.
-const VERSIONS: [(&[u8; 2], u8, (Told, u8)); 8] = [
+type Named<'a> = (&'a [u8; 2], u8, (Told, u8));
+
+const VERSIONS: [Named<'static>; 8] = [
     (b"01", 0, (Told::Done, 1)),
     (b"01", 2, (Told::Done, 2)),
     (b"02", 0, (Told::Done, 1)),
@@ -312,31 +325,35 @@ fn gives(alloc: Global, digits: &[u8; 2], first: u8, wanted: (Told, u8)) -> bool
     told == wanted.0 && version == wanted.1
 }
 
+fn first_wrong_version(alloc: Global, rows: &[Named<'_>]) -> Option<usize> {
+    for (place, (digits, first, wanted)) in rows.iter().enumerate() {
+        if !gives(alloc, digits, *first, *wanted) {
+            return Some(place);
+        }
+    }
+    None
+}
+
 // The name does not decide the version.
 #[test]
 fn an_area_tells_its_version_itself(rt: HostRuntime) {
-    for (digits, first, wanted) in VERSIONS {
-        let is_right = gives(rt.alloc(), digits, first, wanted);
-        assert!(rt; is_right, "byte {first}");
-    }
+    expect_none(&rt, first_wrong_version(rt.alloc(), &VERSIONS));
 }
 
 const UNKNOWN: (Told, u8) = (Told::UnknownVersion, 0);
 
-const NAMES: [(&[u8; 2], (Told, u8)); 6] = [
-    (b"00", UNKNOWN),
-    (b"01", (Told::Done, 2)),
-    (b"02", (Told::Done, 2)),
-    (b"03", UNKNOWN),
-    (b"12", UNKNOWN),
-    (b"21", UNKNOWN),
+const NAMES: [Named<'static>; 6] = [
+    (b"00", 2, UNKNOWN),
+    (b"01", 2, (Told::Done, 2)),
+    (b"02", 2, (Told::Done, 2)),
+    (b"03", 2, UNKNOWN),
+    (b"12", 2, UNKNOWN),
+    (b"21", 2, UNKNOWN),
 ];
 
 #[test]
 fn a_name_with_other_digits_is_of_another_version(rt: HostRuntime) {
-    for (digits, wanted) in NAMES {
-        assert!(rt; gives(rt.alloc(), digits, 2, wanted));
-    }
+    expect_none(&rt, first_wrong_version(rt.alloc(), &NAMES));
 }
 
 const FROM_OLD: [Visit<'static>; 2] = [
@@ -366,5 +383,5 @@ const FROM_OLD: [Visit<'static>; 2] = [
 // The first area of a new journal becomes one of the first version. What is written after that is of the second.
 #[test]
 fn a_snapshot_is_written_as_the_second_version(rt: HostRuntime) {
-    assert!(rt; visits(rt.alloc(), &image_with(b"02", 0), &FROM_OLD));
+    expect(&rt, visits(rt.alloc(), &image_with(b"02", 0), &FROM_OLD));
 }

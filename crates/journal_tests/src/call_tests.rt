@@ -1,9 +1,8 @@
 use crate::journal_steps::{JournalStep, play};
-use crate::journals::{JournalImage, SIZE, Told, front_with, header_with};
+use crate::journals::{JournalImage, SIZE, Told, expect, expect_none, front_with, header_with};
 use area_core::{AreaFault, FormatFault, ReadFault, Version, closed, closed_snapshot, header_of};
 use disk_core::Call;
-use log::info;
-use std::alloc::AllocError;
+use std::alloc::{AllocError, Global};
 
 // Whether memory was had for that text.
 pub(crate) fn is_text<E: Drop>(made: Result<String, E>, wanted: &str) -> bool {
@@ -25,7 +24,10 @@ fn each_refusal_has_its_text(rt: HostRuntime) {
         FormatFault::Device,
         FormatFault::Memory(AllocError),
     );
-    assert!(rt; is_text(formats, "J8 disk too small; J3 device failed; no memory"));
+    expect(
+        &rt,
+        is_text(formats, "J8 disk too small; J3 device failed; no memory"),
+    );
     let reads = format!(in rt.alloc();
         "{}; {}; {}; {}; {}; {}",
         ReadFault::NotAJournal,
@@ -35,11 +37,12 @@ fn each_refusal_has_its_text(rt: HostRuntime) {
         ReadFault::TooSmall,
         ReadFault::Memory(AllocError),
     );
-    assert!(rt;
+    expect(
+        &rt,
         is_text(
             reads,
-            "J1 not a journal; J2 damaged at 4294967296; J3 device failed; J7 unknown version; J8 disk too small; no memory"
-        )
+            "J1 not a journal; J2 damaged at 4294967296; J3 device failed; J7 unknown version; J8 disk too small; no memory",
+        ),
     );
     let areas = format!(in rt.alloc();
         "{}; {}; {}; {}",
@@ -48,11 +51,12 @@ fn each_refusal_has_its_text(rt: HostRuntime) {
         AreaFault::Broken,
         AreaFault::Memory(AllocError),
     );
-    assert!(rt;
+    expect(
+        &rt,
         is_text(
             areas,
-            "J3 device failed; J4 journal full; J6 store broken; no memory"
-        )
+            "J3 device failed; J4 journal full; J6 store broken; no memory",
+        ),
     );
 }
 
@@ -77,37 +81,56 @@ const FORMATS: [(u64, u64, bool); 9] = [
     (8_224, u64::MAX, false),
 ];
 
+// Whether such areas are refused on such a disk just if they don't fit.
+fn is_formatted(alloc: Global, size: u64, area_bytes: u64, fits: bool) -> bool {
+    let (told, calls): (Told, &[Call]) = if fits {
+        (Told::Done, &FORMAT_CALLS)
+    } else {
+        (Told::TooSmall, &[])
+    };
+    let steps = [
+        (JournalStep::Format(area_bytes, u64::MAX), told),
+        (JournalStep::Called(calls), Told::Done),
+    ];
+    play(alloc, size, &steps).is_none()
+}
+
+fn first_wrong_size(alloc: Global) -> Option<usize> {
+    for (place, (size, area_bytes, fits)) in FORMATS.iter().enumerate() {
+        if !is_formatted(alloc, *size, *area_bytes, *fits) {
+            return Some(place);
+        }
+    }
+    None
+}
+
 // A disk that is too small is not touched.
 #[test]
 fn a_disk_is_formatted_where_both_areas_fit(rt: HostRuntime) {
-    for (size, area_bytes, fits) in FORMATS {
-        let (told, calls): (Told, &[Call]) = if fits {
-            (Told::Done, &FORMAT_CALLS)
-        } else {
-            (Told::TooSmall, &[])
-        };
-        let steps = [
-            (JournalStep::Format(area_bytes, u64::MAX), told),
-            (JournalStep::Called(calls), Told::Done),
-        ];
-        let wrong = play(rt.alloc(), size, &steps);
-        assert_eq!(rt; wrong, None, "areas of {area_bytes} bytes on {size}");
-    }
+    expect_none(&rt, first_wrong_size(rt.alloc()));
 }
 
 // Each of its three calls may be the one that fails.
+const STOPPED: [(JournalStep<'static>, Told); 4] = [
+    (JournalStep::Format(4_096, 0), Told::Device),
+    (JournalStep::Format(4_096, 1), Told::Device),
+    (JournalStep::Format(4_096, 2), Told::Device),
+    (JournalStep::Format(4_096, 3), Told::Done),
+];
+
+// The place of the first of these steps that comes to something else on a new disk.
+fn first_wrong_stop(alloc: Global) -> Option<usize> {
+    for (place, step) in STOPPED.iter().enumerate() {
+        if play(alloc, SIZE as u64, &[*step]).is_some() {
+            return Some(place);
+        }
+    }
+    None
+}
+
 #[test]
 fn formatting_fails_where_its_disk_fails(rt: HostRuntime) {
-    for passed in 0..4_u64 {
-        info!(rt; "formatting: {passed} calls pass, and then all fail");
-        let told = if passed < 3 { Told::Device } else { Told::Done };
-        let steps = [(JournalStep::Format(4_096, passed), told)];
-        assert_eq!(rt;
-            play(rt.alloc(), SIZE as u64, &steps),
-            None,
-            "{passed} calls"
-        );
-    }
+    expect_none(&rt, first_wrong_stop(rt.alloc()));
 }
 
 const FILLED: JournalImage = [0xee; SIZE];
@@ -134,7 +157,7 @@ const FORMATTED: [(JournalStep<'static>, Told); 4] = [
 
 #[test]
 fn an_empty_journal_has_the_bytes_of_its_format(rt: HostRuntime) {
-    assert_eq!(rt; play(rt.alloc(), SIZE as u64, &FORMATTED), None);
+    expect_none(&rt, play(rt.alloc(), SIZE as u64, &FORMATTED));
 }
 
 // Whether memory was had for those bytes.
@@ -154,13 +177,13 @@ fn is_same(made: Result<Vec<u8>, AllocError>, wanted: &[u8]) -> bool {
 #[test]
 fn each_version_has_its_bytes(rt: HostRuntime) {
     let old = header_of(rt.alloc(), Version::One, 4_096);
-    assert!(rt; is_same(old, &header_with(b"STOMPJ01")));
+    expect(&rt, is_same(old, &header_with(b"STOMPJ01")));
     let new = header_of(rt.alloc(), Version::Two, 4_096);
-    assert!(rt; is_same(new, &header_with(b"STOMPJ02")));
+    expect(&rt, is_same(new, &header_with(b"STOMPJ02")));
     let old = closed_snapshot(rt.alloc(), Version::One, &[0; 32]);
-    assert!(rt; is_same(old, &front_with(0)));
+    expect(&rt, is_same(old, &front_with(0)));
     let new = closed_snapshot(rt.alloc(), Version::Two, &[0; 32]);
-    assert!(rt; is_same(new, &front_with(2)));
+    expect(&rt, is_same(new, &front_with(2)));
     let block = closed(rt.alloc(), &[0; 32]);
-    assert!(rt; is_same(block, &front_with(0)));
+    expect(&rt, is_same(block, &front_with(0)));
 }

@@ -1,9 +1,9 @@
 //! A count that promises far more than there are bytes is reported as damage, and takes no memory.
 use crate::journal_steps::told_of;
-use crate::journals::{JournalImage, SIZE, Told, put};
+use crate::journals::{JournalImage, SIZE, Told, expect, expect_none, put};
 use std::alloc::Global;
 use std::fs;
-use std::test::Fail;
+use std::rt::Files;
 
 // Bytes of a journal, and whether they are a count: of a list, of a text's bytes, of headers or of a transaction's members.
 type Part = (&'static [u8], bool);
@@ -179,25 +179,33 @@ fn peak_in(status: &str) -> Option<u64> {
     None
 }
 
+// What this process has had.
+fn peak(rt: &(impl Files + AllocGlobal)) -> Option<u64> {
+    match fs::read_to_string(rt, "/proc/self/status") {
+        Ok(status) => {
+            let peak = peak_in(status.as_str());
+            drop(status);
+            peak
+        }
+        Err(_) => None,
+    }
+}
+
 // A list, a text or a body of 2^32 - 1 bytes or more would take 4 GB. Less than a hundredth of that is taken.
+fn is_little(before: Option<u64>, after: Option<u64>) -> bool {
+    match (before, after) {
+        (Some(before), Some(after)) => after.saturating_sub(before) < 40_000,
+        _ => false,
+    }
+}
+
 #[test]
-fn a_count_takes_no_more_memory_than_the_bytes_there(rt: HostRuntime) -> Result<(), Fail> {
+fn a_count_takes_no_more_memory_than_the_bytes_there(rt: HostRuntime) {
     let is_whole = is_told(rt.alloc(), Damage::None, Told::Holds(6, 4));
-    let status = fs::read_to_string(&rt, "/proc/self/status")?;
-    let before = peak_in(status.as_str());
-    drop(status);
+    let before = peak(&rt);
     let wrong = first_wrong(rt.alloc());
-    let status = fs::read_to_string(&rt, "/proc/self/status")?;
-    let after = peak_in(status.as_str());
-    drop(status);
-    assert!(rt; is_whole);
-    assert_eq!(rt; wrong, None);
-    let (Some(before), Some(after)) = (before, after) else {
-        panic!(rt; "the process has no status")
-    };
-    assert!(rt;
-        after.saturating_sub(before) < 40_000,
-        "{before} kB and {after} kB"
-    );
-    Ok(())
+    let after = peak(&rt);
+    expect(&rt, is_whole);
+    expect_none(&rt, wrong);
+    expect(&rt, is_little(before, after));
 }

@@ -1,8 +1,7 @@
 //! Disks of six bytes in memory that are written, synced, read and stopped, some of whose calls fail.
 use crate::journal_steps::FailingCalls;
-use crate::journals::FILLS;
+use crate::journals::{FILLS, expect, expect_none};
 use disk_core::{Call, DeviceFault, Disk, FailOnce, FuseDisk, MemDisk, publish};
-use log::info;
 use std::alloc::Global;
 
 // A step with a disk of six bytes.
@@ -17,11 +16,19 @@ enum DiskStep<'a> {
     Read([u8; 6]),
     // It stops, and its unsynced bytes become that.
     Stop(Option<u8>),
+    // It stops with the fill of the trial.
+    Fill,
+    // It is read, and has these bytes; but from the one place up to the other the fill of the trial, if it has one.
+    ReadFilled([u8; 6], usize, usize),
     // It stops at this image, if it may.
     StopAt(&'a [u8], bool),
     // It was asked for these calls.
     Called(&'a [Call]),
 }
+
+// Which calls fail of a new disk, with which the first steps are made, and the steps that are then made with the disk below. That is tried
+// with each fill.
+type DiskTrial<'a> = (FailingCalls, &'a [DiskStep<'a>], &'a [DiskStep<'a>]);
 
 pub(crate) fn write<D: Disk>(disk: &mut D, at: u64, bytes: &[u8]) -> Result<(), DeviceFault> {
     let size = disk.size();
@@ -52,25 +59,41 @@ fn calls<D: Disk>(disk: &mut D, step: DiskStep<'_>) -> bool {
     }
 }
 
-fn makes(disk: &mut MemDisk, step: DiskStep<'_>) -> bool {
+// The bytes, with the fill from one place up to another.
+fn filled(bytes: [u8; 6], from: usize, to: usize, fill: Option<u8>) -> [u8; 6] {
+    let mut bytes = bytes;
+    for (place, byte) in bytes.iter_mut().enumerate() {
+        if place >= from && place < to {
+            *byte = fill.unwrap_or(*byte);
+        }
+    }
+    bytes
+}
+
+fn makes(disk: &mut MemDisk, step: DiskStep<'_>, fill: Option<u8>) -> bool {
     match step {
         DiskStep::Stop(fill) => {
             disk.crash(fill);
             true
         }
+        DiskStep::Fill => {
+            disk.crash(fill);
+            true
+        }
+        DiskStep::ReadFilled(wanted, from, to) => read(disk) == Ok(filled(wanted, from, to, fill)),
         DiskStep::StopAt(image, may_be) => disk.crash_to(image) == may_be,
         DiskStep::Called(calls) => disk.calls() == calls,
         call => calls(disk, call),
     }
 }
 
-fn first_wrong(disk: &mut MemDisk, steps: &[DiskStep<'_>]) -> Option<usize> {
-    for (place, step) in steps.iter().enumerate() {
-        if !makes(disk, *step) {
-            return Some(place);
+fn makes_all(disk: &mut MemDisk, steps: &[DiskStep<'_>], fill: Option<u8>) -> bool {
+    for step in steps {
+        if !makes(disk, *step, fill) {
+            return false;
         }
     }
-    None
+    true
 }
 
 // Whether the call of that number passes.
@@ -106,13 +129,13 @@ fn fails_once(slot: MemDisk, call: u64, steps: &[DiskStep<'_>]) -> (MemDisk, boo
     (disk.into_inner(), is_right && is_counted)
 }
 
-// Makes the first steps with a new disk of which such calls fail, and then the others with the disk below. It answers whether all comes as
-// it should.
+// Whether all comes as it should of a trial with this fill. Where no call fails, all steps are the others.
 fn plays(
     alloc: Global,
     failing: FailingCalls,
     first: &[DiskStep<'_>],
     then: &[DiskStep<'_>],
+    fill: Option<u8>,
 ) -> bool {
     let Ok(disk) = MemDisk::new(alloc, 6) else {
         return false;
@@ -122,69 +145,96 @@ fn plays(
         FailingCalls::Once(call) => fails_once(disk, call, first),
         _ => (disk, first.is_empty()),
     };
-    let wrong = first_wrong(&mut disk, then);
+    let is_so = makes_all(&mut disk, then, fill);
     drop(disk);
-    is_right && wrong.is_none()
+    is_right && is_so
 }
 
-// What a byte is after a crash that filled it, or put it back.
-fn filled(fill: Option<u8>, back: u8) -> u8 {
-    fill.unwrap_or(back)
+fn plays_with_each(
+    alloc: Global,
+    failing: FailingCalls,
+    first: &[DiskStep<'_>],
+    then: &[DiskStep<'_>],
+) -> bool {
+    for fill in FILLS {
+        if !plays(alloc, failing, first, then, fill) {
+            return false;
+        }
+    }
+    true
+}
+
+// The first of the trials of which something else comes.
+fn first_wrong(alloc: Global, trials: &[DiskTrial<'_>]) -> Option<usize> {
+    for (place, (failing, first, then)) in trials.iter().enumerate() {
+        if !plays_with_each(alloc, *failing, first, then) {
+            return Some(place);
+        }
+    }
+    None
 }
 
 // After it nothing is unsynced.
+const CRASHED: [DiskTrial<'static>; 1] = [(
+    FailingCalls::None,
+    &[],
+    &[
+        DiskStep::Write(2, &[5, 6]),
+        DiskStep::Read([0, 0, 5, 6, 0, 0]),
+        DiskStep::Fill,
+        DiskStep::ReadFilled([0, 0, 0, 0, 0, 0], 2, 4),
+        DiskStep::Stop(Some(0x55)),
+        DiskStep::ReadFilled([0, 0, 0, 0, 0, 0], 2, 4),
+    ],
+)];
+
 #[test]
 fn a_crash_fills_what_was_written_since_the_last_sync(rt: HostRuntime) {
-    for fill in FILLS {
-        let byte = filled(fill, 0);
-        let steps = [
-            DiskStep::Write(2, &[5, 6]),
-            DiskStep::Read([0, 0, 5, 6, 0, 0]),
-            DiskStep::Stop(fill),
-            DiskStep::Read([0, 0, byte, byte, 0, 0]),
-            DiskStep::Stop(Some(0x55)),
-            DiskStep::Read([0, 0, byte, byte, 0, 0]),
-        ];
-        assert!(rt; plays(rt.alloc(), FailingCalls::None, &[], &steps));
-    }
+    expect_none(&rt, first_wrong(rt.alloc(), &CRASHED));
 }
+
+const SYNCED: [DiskTrial<'static>; 1] = [(
+    FailingCalls::None,
+    &[],
+    &[
+        DiskStep::Write(2, &[5, 6]),
+        DiskStep::Sync,
+        DiskStep::Fill,
+        DiskStep::Read([0, 0, 5, 6, 0, 0]),
+    ],
+)];
 
 #[test]
 fn a_crash_leaves_what_was_synced(rt: HostRuntime) {
-    for fill in FILLS {
-        let steps = [
-            DiskStep::Write(2, &[5, 6]),
-            DiskStep::Sync,
-            DiskStep::Stop(fill),
-            DiskStep::Read([0, 0, 5, 6, 0, 0]),
-        ];
-        assert!(rt; plays(rt.alloc(), FailingCalls::None, &[], &steps));
-    }
+    expect_none(&rt, first_wrong(rt.alloc(), &SYNCED));
 }
 
 // The fourth call is the sync that fails.
+const FAILED_SYNC: [DiskTrial<'static>; 1] = [(
+    FailingCalls::After(3),
+    &[
+        DiskStep::Write(2, &[5, 6]),
+        DiskStep::Sync,
+        DiskStep::Write(3, &[7, 8]),
+        DiskStep::Sync,
+    ],
+    &[
+        DiskStep::Read([0, 0, 5, 7, 8, 0]),
+        DiskStep::Fill,
+        DiskStep::ReadFilled([0, 0, 5, 6, 0, 0], 3, 5),
+    ],
+)];
+
 #[test]
 fn a_failed_sync_makes_nothing_stable(rt: HostRuntime) {
-    for fill in FILLS {
-        let first = [
-            DiskStep::Write(2, &[5, 6]),
-            DiskStep::Sync,
-            DiskStep::Write(3, &[7, 8]),
-            DiskStep::Sync,
-        ];
-        let then = [
-            DiskStep::Read([0, 0, 5, 7, 8, 0]),
-            DiskStep::Stop(fill),
-            DiskStep::Read([0, 0, 5, filled(fill, 6), filled(fill, 0), 0]),
-        ];
-        assert!(rt; plays(rt.alloc(), FailingCalls::After(3), &first, &then));
-    }
+    expect_none(&rt, first_wrong(rt.alloc(), &FAILED_SYNC));
 }
 
 // Some of the writes overlap, some are empty, and some reach the end of the disk.
-#[test]
-fn ranges_may_overlap_be_empty_and_end_the_disk(rt: HostRuntime) {
-    let steps = [
+const RANGES: [DiskTrial<'static>; 1] = [(
+    FailingCalls::None,
+    &[],
+    &[
         DiskStep::Write(0, &[1, 2, 3]),
         DiskStep::Sync,
         DiskStep::Write(0, &[4, 4]),
@@ -199,8 +249,12 @@ fn ranges_may_overlap_be_empty_and_end_the_disk(rt: HostRuntime) {
         DiskStep::Sync,
         DiskStep::Stop(Some(0x37)),
         DiskStep::Read([1, 2, 3, 0, 0, 9]),
-    ];
-    assert!(rt; plays(rt.alloc(), FailingCalls::None, &[], &steps));
+    ],
+)];
+
+#[test]
+fn ranges_may_overlap_be_empty_and_end_the_disk(rt: HostRuntime) {
+    expect_none(&rt, first_wrong(rt.alloc(), &RANGES));
 }
 
 // Each call may be refused memory.
@@ -211,67 +265,106 @@ fn keeps_to_the_model(disk: &mut MemDisk) -> bool {
     let _ = write(disk, 5, &[3]);
     disk.crash(Some(0x37));
     let first = if synced { 1 } else { 0x37 };
-    match read(disk) {
-        Ok(bytes) => bytes == [first, 0x37, 0x37, 0, 0, 0x37],
-        Err(_) => false,
+    read(disk) == Ok([first, 0x37, 0x37, 0, 0, 0x37])
+}
+
+// A disk for which memory is refused is not made.
+fn is_kept_to(alloc: Global) -> bool {
+    match MemDisk::new(alloc, 6) {
+        Ok(mut disk) => {
+            let is_right = keeps_to_the_model(&mut disk);
+            drop(disk);
+            is_right
+        }
+        Err(_) => true,
     }
 }
 
 // `rt try --test --fail-alloc N` runs it with the Nth allocation refused.
 #[test]
 fn a_call_that_is_refused_memory_keeps_to_the_model(rt: HostRuntime) {
-    let Ok(mut disk) = MemDisk::new(rt.alloc(), 6) else {
-        return;
-    };
-    let is_right = keeps_to_the_model(&mut disk);
-    drop(disk);
-    assert!(rt; is_right);
+    expect(&rt, is_kept_to(rt.alloc()));
 }
 
-// The image at which one byte is synced and two more are written, and whether it may stop there.
-const STOPS: [(&[u8], bool); 4] = [
-    (&[1, 9, 0, 0, 0, 0], true),
-    (&[1, 8, 9, 0, 0, 0], true),
-    (&[7, 8, 9, 0, 0, 0], false),
-    (&[1, 8, 9, 0, 0], false),
+const CALLED: &[Call] = &[
+    Call::Write { at: 0, len: 1 },
+    Call::Sync,
+    Call::Write { at: 1, len: 2 },
+    Call::Read { at: 0, len: 6 },
 ];
 
-// If it stops there, nothing is unsynced; if not, the two bytes still are.
-#[test]
-fn a_stop_leaves_an_image_and_nothing_else(rt: HostRuntime) {
-    let called = [
-        Call::Write { at: 0, len: 1 },
-        Call::Sync,
-        Call::Write { at: 1, len: 2 },
-        Call::Read { at: 0, len: 6 },
-    ];
-    for (image, may_be) in STOPS {
-        let (left, later) = match image {
-            [a, b, c, d, e, f] if may_be => {
-                let image = [*a, *b, *c, *d, *e, *f];
-                (image, image)
-            }
-            _ => ([1, 2, 2, 0, 0, 0], [1, 0, 0, 0, 0, 0]),
-        };
-        let steps = [
+// One byte is synced and two more are written. Then the disk stops at an image, if it may, and nothing is unsynced; if not, the two bytes
+// still are.
+const STOPS: [DiskTrial<'static>; 4] = [
+    (
+        FailingCalls::None,
+        &[],
+        &[
             DiskStep::Write(0, &[1]),
             DiskStep::Sync,
             DiskStep::Write(1, &[2, 2]),
             DiskStep::Look,
-            DiskStep::Called(&called),
-            DiskStep::StopAt(image, may_be),
-            DiskStep::Read(left),
+            DiskStep::Called(CALLED),
+            DiskStep::StopAt(&[1, 9, 0, 0, 0, 0], true),
+            DiskStep::Read([1, 9, 0, 0, 0, 0]),
             DiskStep::Stop(None),
-            DiskStep::Read(later),
-        ];
-        assert!(rt; plays(rt.alloc(), FailingCalls::None, &[], &steps));
-    }
+            DiskStep::Read([1, 9, 0, 0, 0, 0]),
+        ],
+    ),
+    (
+        FailingCalls::None,
+        &[],
+        &[
+            DiskStep::Write(0, &[1]),
+            DiskStep::Sync,
+            DiskStep::Write(1, &[2, 2]),
+            DiskStep::Look,
+            DiskStep::Called(CALLED),
+            DiskStep::StopAt(&[1, 8, 9, 0, 0, 0], true),
+            DiskStep::Read([1, 8, 9, 0, 0, 0]),
+            DiskStep::Stop(None),
+            DiskStep::Read([1, 8, 9, 0, 0, 0]),
+        ],
+    ),
+    (
+        FailingCalls::None,
+        &[],
+        &[
+            DiskStep::Write(0, &[1]),
+            DiskStep::Sync,
+            DiskStep::Write(1, &[2, 2]),
+            DiskStep::Look,
+            DiskStep::Called(CALLED),
+            DiskStep::StopAt(&[7, 8, 9, 0, 0, 0], false),
+            DiskStep::Read([1, 2, 2, 0, 0, 0]),
+            DiskStep::Stop(None),
+            DiskStep::Read([1, 0, 0, 0, 0, 0]),
+        ],
+    ),
+    (
+        FailingCalls::None,
+        &[],
+        &[
+            DiskStep::Write(0, &[1]),
+            DiskStep::Sync,
+            DiskStep::Write(1, &[2, 2]),
+            DiskStep::Look,
+            DiskStep::Called(CALLED),
+            DiskStep::StopAt(&[1, 8, 9, 0, 0], false),
+            DiskStep::Read([1, 2, 2, 0, 0, 0]),
+            DiskStep::Stop(None),
+            DiskStep::Read([1, 0, 0, 0, 0, 0]),
+        ],
+    ),
+];
+
+#[test]
+fn a_stop_leaves_an_image_and_nothing_else(rt: HostRuntime) {
+    expect_none(&rt, first_wrong(rt.alloc(), &STOPS));
 }
 
-const F: u8 = 0x37;
-
 // A write, a sync, a write, a sync and a read.
-const FIVE: [DiskStep<'static>; 5] = [
+const FIVE: &[DiskStep<'static>] = &[
     DiskStep::Write(0, &[1, 1]),
     DiskStep::Sync,
     DiskStep::Write(1, &[2, 2]),
@@ -279,68 +372,65 @@ const FIVE: [DiskStep<'static>; 5] = [
     DiskStep::Look,
 ];
 
-// Whether the five calls, of which such fail, leave these bytes after a crash that fills with 0x37, and those after one that puts back what
-// was there.
-fn leave(alloc: Global, failing: FailingCalls, after_a_fill: [u8; 6], put_back: [u8; 6]) -> bool {
-    let filling = [DiskStep::Stop(Some(F)), DiskStep::Read(after_a_fill)];
-    let putting = [DiskStep::Stop(None), DiskStep::Read(put_back)];
-    plays(alloc, failing, &FIVE, &filling) && plays(alloc, failing, &FIVE, &putting)
-}
+// What is left of the five calls after a crash: if both writes are stable, if the first is, and if none is.
+const BOTH: &[DiskStep<'static>] = &[
+    DiskStep::Fill,
+    DiskStep::ReadFilled([1, 2, 2, 0, 0, 0], 0, 0),
+];
 
-// What is left of the five calls, the first k of which pass. First if a crash fills with 0x37, then if it puts
-// back what was there.
-const LEFT_BY_FUSE: [([u8; 6], [u8; 6]); 6] = [
-    ([F, F, F, 0, 0, 0], [0, 0, 0, 0, 0, 0]),
-    ([F, F, F, 0, 0, 0], [0, 0, 0, 0, 0, 0]),
-    ([1, F, F, 0, 0, 0], [1, 1, 0, 0, 0, 0]),
-    ([1, F, F, 0, 0, 0], [1, 1, 0, 0, 0, 0]),
-    ([1, 2, 2, 0, 0, 0], [1, 2, 2, 0, 0, 0]),
-    ([1, 2, 2, 0, 0, 0], [1, 2, 2, 0, 0, 0]),
+const FIRST: &[DiskStep<'static>] = &[
+    DiskStep::Fill,
+    DiskStep::ReadFilled([1, 1, 0, 0, 0, 0], 1, 3),
+];
+
+const NEITHER: &[DiskStep<'static>] = &[
+    DiskStep::Fill,
+    DiskStep::ReadFilled([0, 0, 0, 0, 0, 0], 0, 3),
+];
+
+// Of the five calls the first k pass.
+const LEFT_BY_FUSE: [DiskTrial<'static>; 6] = [
+    (FailingCalls::After(0), FIVE, NEITHER),
+    (FailingCalls::After(1), FIVE, NEITHER),
+    (FailingCalls::After(2), FIVE, FIRST),
+    (FailingCalls::After(3), FIVE, FIRST),
+    (FailingCalls::After(4), FIVE, BOTH),
+    (FailingCalls::After(5), FIVE, BOTH),
 ];
 
 #[test]
 fn a_fuse_passes_so_many_calls(rt: HostRuntime) {
-    for (k, (after_a_fill, put_back)) in LEFT_BY_FUSE.iter().enumerate() {
-        info!(rt; "a fuse: {k} calls pass, and then all fail");
-        let failing = FailingCalls::After(k as u64);
-        assert!(rt;
-            leave(rt.alloc(), failing, *after_a_fill, *put_back),
-            "at {k}"
-        );
-    }
+    expect_none(&rt, first_wrong(rt.alloc(), &LEFT_BY_FUSE));
 }
 
-// What is left of the five calls, one of which fails, or none. First if a crash fills with 0x37, then if it
-// puts back what was there. The second sync makes both writes stable, the first only the first write.
-const LEFT_BY_FAILURE: [([u8; 6], [u8; 6]); 6] = [
-    ([1, 2, 2, 0, 0, 0], [1, 2, 2, 0, 0, 0]),
-    ([1, 2, 2, 0, 0, 0], [1, 2, 2, 0, 0, 0]),
-    ([1, 2, 2, 0, 0, 0], [1, 2, 2, 0, 0, 0]),
-    ([1, F, F, 0, 0, 0], [1, 1, 0, 0, 0, 0]),
-    ([1, 2, 2, 0, 0, 0], [1, 2, 2, 0, 0, 0]),
-    ([1, 2, 2, 0, 0, 0], [1, 2, 2, 0, 0, 0]),
+// Of the five calls one fails, or none. The second sync makes both writes stable, the first only the first write.
+const LEFT_BY_FAILURE: [DiskTrial<'static>; 6] = [
+    (FailingCalls::Once(0), FIVE, BOTH),
+    (FailingCalls::Once(1), FIVE, BOTH),
+    (FailingCalls::Once(2), FIVE, BOTH),
+    (FailingCalls::Once(3), FIVE, FIRST),
+    (FailingCalls::Once(4), FIVE, BOTH),
+    (FailingCalls::Once(5), FIVE, BOTH),
 ];
 
 #[test]
 fn a_single_call_fails_and_every_other_passes(rt: HostRuntime) {
-    for (failing, (after_a_fill, put_back)) in LEFT_BY_FAILURE.iter().enumerate() {
-        info!(rt; "call {failing} fails, and no other");
-        let once = FailingCalls::Once(failing as u64);
-        assert!(rt;
-            leave(rt.alloc(), once, *after_a_fill, *put_back),
-            "at {failing}"
-        );
-    }
+    expect_none(&rt, first_wrong(rt.alloc(), &LEFT_BY_FAILURE));
 }
 
 // A call that fails writes the fifth byte, which is then as unsynced as a byte that was written.
+const FAILED_WRITE: [DiskTrial<'static>; 1] = [(
+    FailingCalls::Once(0),
+    &[DiskStep::Write(4, &[9])],
+    &[
+        DiskStep::Fill,
+        DiskStep::ReadFilled([0, 0, 0, 0, 0, 0], 4, 5),
+    ],
+)];
+
 #[test]
 fn a_write_that_fails_leaves_its_range_unsynced(rt: HostRuntime) {
-    for (fill, byte) in [(Some(F), F), (Some(0x01), 0x01), (None, 0)] {
-        let first = [DiskStep::Write(4, &[9])];
-        let then = [DiskStep::Stop(fill), DiskStep::Read([0, 0, 0, 0, byte, 0])];
-        assert!(rt; plays(rt.alloc(), FailingCalls::Once(0), &first, &then));
-    }
+    expect_none(&rt, first_wrong(rt.alloc(), &FAILED_WRITE));
 }
 
 // Whether a payload that was published over a disk that fails after k calls is there as a whole or not at all. It is published, and then
@@ -364,12 +454,17 @@ fn is_all_or_nothing(alloc: Global, k: u64, fill: Option<u8>) -> bool {
     }
 }
 
+// The first number of calls after which it is otherwise.
+fn first_torn(alloc: Global) -> Option<u64> {
+    for at in 0..20_u64 {
+        if !is_all_or_nothing(alloc, at / 4, FILLS[(at % 4) as usize]) {
+            return Some(at / 4);
+        }
+    }
+    None
+}
+
 #[test]
 fn a_payload_is_there_as_a_whole_or_not_at_all(rt: HostRuntime) {
-    for at in 0..20_u64 {
-        let k = at / 4;
-        info!(rt; "a payload: {k} calls pass, and then all fail");
-        let is_right = is_all_or_nothing(rt.alloc(), k, FILLS[(at % 4) as usize]);
-        assert!(rt; is_right, "at {k}");
-    }
+    expect(&rt, first_torn(rt.alloc()).is_none());
 }

@@ -1,12 +1,12 @@
 //! `FileDisk` over real files. No contract knows what a file holds, so each place and each call is looked at here.
 use crate::call_tests::is_text;
 use crate::disk_tests::{read, write};
+use crate::journals::{expect, expect_none};
 use disk_core::{DeviceFault, Disk, FileDisk, OpenError};
 use std::alloc::Global;
 use std::fs;
 use std::fs::File;
 use std::rt::Files;
-use std::test::Fail;
 
 // How a file becomes a disk.
 #[derive(Clone, Copy)]
@@ -37,6 +37,25 @@ enum FileWork {
     // Ten bytes are written and synced in each place, or found.
     WriteEach,
     FindEach,
+    // The same file is locked, which is refused, and opened without a lock, which is not.
+    LeaveTheRest,
+    // The file is cut short, and what was cut is not read.
+    Cut,
+    // The file is removed, and no later sync succeeds, also not one after another.
+    LoseName,
+}
+
+// A step with a path.
+#[derive(Clone, Copy)]
+enum FileStep {
+    MakeFolder,
+    // A folder or a file is removed. This says whether it has to be there.
+    RemoveFolder(bool),
+    Remove(bool),
+    // The file becomes a disk, or why it does not.
+    Told(FileUse, FileTold),
+    // It does, and with the disk this is done.
+    Does(FileUse, FileWork),
 }
 
 fn disk_at(rt: &impl Files<File = File>, path: &str, how: FileUse) -> Result<FileDisk, OpenError> {
@@ -64,10 +83,8 @@ fn told(rt: &impl Files<File = File>, path: &str, how: FileUse) -> FileTold {
 }
 
 // Three bytes, synced.
-fn write_some(disk: &mut FileDisk) -> Result<(), DeviceFault> {
-    write(disk, 1, &[5, 6])?;
-    write(disk, 5, &[9])?;
-    disk.sync()
+fn write_some(disk: &mut FileDisk) -> bool {
+    write(disk, 1, &[5, 6]).is_ok() && write(disk, 5, &[9]).is_ok() && disk.sync().is_ok()
 }
 
 const SOME: [u8; 6] = [0, 5, 6, 0, 0, 9];
@@ -75,12 +92,13 @@ const SOME: [u8; 6] = [0, 5, 6, 0, 0, 9];
 const PLACES: [u64; 6] = [0, 4_095, 5_000, 8_191, 11_990, 5_000];
 
 // Ten bytes in each place, each the number of the turn.
-fn write_each(disk: &mut FileDisk) -> Result<(), DeviceFault> {
+fn write_each(disk: &mut FileDisk) -> bool {
     for (turn, at) in PLACES.iter().enumerate() {
-        write(disk, *at, &[turn as u8 + 1; 10])?;
-        disk.sync()?;
+        if write(disk, *at, &[turn as u8 + 1; 10]).is_err() || disk.sync().is_err() {
+            return false;
+        }
     }
-    Ok(())
+    true
 }
 
 const FOUND: [(u64, u8); 6] = [
@@ -103,20 +121,52 @@ fn finds_each(disk: &mut FileDisk) -> bool {
     true
 }
 
-fn does(disk: &mut FileDisk, work: FileWork) -> bool {
-    match work {
-        FileWork::WriteSome => write_some(disk).is_ok(),
-        FileWork::FindSome => read(disk) == Ok(SOME),
-        FileWork::WriteEach => write_each(disk).is_ok(),
-        FileWork::FindEach => finds_each(disk),
+// Whether the file is opened beside this disk, and has the three bytes.
+fn finds_some(rt: &impl Files<File = File>, path: &str) -> bool {
+    match FileDisk::open(rt, path) {
+        Ok(mut disk) => {
+            let found = read(&mut disk);
+            drop(disk);
+            found == Ok(SOME)
+        }
+        Err(error) => {
+            drop(error);
+            false
+        }
     }
 }
 
-// Whether the file becomes a disk with which that is done.
+// What a disk with the lock of its file leaves to others: the file is not locked twice, and can be opened without the lock.
+fn leaves_the_rest(rt: &impl Files<File = File>, path: &str, disk: &mut FileDisk) -> bool {
+    told(rt, path, FileUse::Lock) == FileTold::Locked
+        && write_some(disk)
+        && finds_some(rt, path)
+        && disk.size() == 6
+}
+
+fn is_lost(rt: &impl Files<File = File>, path: &str, disk: &mut FileDisk) -> bool {
+    write_some(disk) && fs::remove_file(rt, path).is_ok() && !write_some(disk) && !write_some(disk)
+}
+
+fn does(rt: &impl Files<File = File>, path: &str, disk: &mut FileDisk, work: FileWork) -> bool {
+    match work {
+        FileWork::WriteSome => write_some(disk),
+        FileWork::FindSome => read(disk) == Ok(SOME),
+        FileWork::WriteEach => write_each(disk),
+        FileWork::FindEach => finds_each(disk),
+        FileWork::LeaveTheRest => leaves_the_rest(rt, path, disk),
+        FileWork::Cut => {
+            fs::write(rt, path, b"abc".as_slice()).is_ok() && read(disk) == Err(DeviceFault)
+        }
+        FileWork::LoseName => is_lost(rt, path, disk),
+    }
+}
+
+// Whether the file becomes a disk with which that is done. Its lock is there for as long as the disk is, and no longer.
 fn is_done(rt: &impl Files<File = File>, path: &str, how: FileUse, work: FileWork) -> bool {
     match disk_at(rt, path, how) {
         Ok(mut disk) => {
-            let is_done = does(&mut disk, work);
+            let is_done = does(rt, path, &mut disk, work);
             drop(disk);
             is_done
         }
@@ -127,23 +177,66 @@ fn is_done(rt: &impl Files<File = File>, path: &str, how: FileUse, work: FileWor
     }
 }
 
+fn makes(rt: &(impl Files<File = File> + Alloc), path: &str, step: FileStep) -> bool {
+    match step {
+        FileStep::MakeFolder => fs::create_dir(rt, path).is_ok(),
+        FileStep::RemoveFolder(has_to) => fs::remove_dir_all(rt, path).is_ok() || !has_to,
+        FileStep::Remove(has_to) => fs::remove_file(rt, path).is_ok() || !has_to,
+        FileStep::Told(how, wanted) => told(rt, path, how) == wanted,
+        FileStep::Does(how, work) => is_done(rt, path, how, work),
+    }
+}
+
+fn first_wrong(rt: &(impl Files<File = File> + Alloc), steps: &[(&str, FileStep)]) -> Option<usize> {
+    for (place, (path, step)) in steps.iter().enumerate() {
+        if !makes(rt, path, *step) {
+            return Some(place);
+        }
+    }
+    None
+}
+
 const FOLDER: &str = "journal_tests_disk";
 
 const PATH: &str = "journal_tests_disk/disk";
 
+const KEPT: [(&str, FileStep); 5] = [
+    (FOLDER, FileStep::RemoveFolder(false)),
+    (FOLDER, FileStep::MakeFolder),
+    (
+        PATH,
+        FileStep::Does(FileUse::Create(6), FileWork::WriteSome),
+    ),
+    (PATH, FileStep::Does(FileUse::Open, FileWork::FindSome)),
+    (FOLDER, FileStep::RemoveFolder(true)),
+];
+
 #[test]
-fn a_file_keeps_what_was_written(rt: HostRuntime) -> Result<(), Fail> {
-    let _ = fs::remove_dir_all(&rt, FOLDER);
-    fs::create_dir(&rt, FOLDER)?;
-    assert!(rt; is_done(&rt, PATH, FileUse::Create(6), FileWork::WriteSome));
-    assert!(rt; is_done(&rt, PATH, FileUse::Open, FileWork::FindSome));
-    fs::remove_dir_all(&rt, FOLDER)?;
-    Ok(())
+fn a_file_keeps_what_was_written(rt: HostRuntime) {
+    expect_none(&rt, first_wrong(&rt, &KEPT));
 }
 
 const OTHER_FOLDER: &str = "journal_tests_no_disk";
 
 const OTHER_PATH: &str = "journal_tests_no_disk/disk";
+
+const NO_DISK: [(&str, FileStep); 6] = [
+    (OTHER_FOLDER, FileStep::RemoveFolder(false)),
+    (OTHER_FOLDER, FileStep::MakeFolder),
+    (OTHER_PATH, FileStep::Told(FileUse::Open, FileTold::Refused)),
+    (
+        OTHER_PATH,
+        FileStep::Told(FileUse::Create(u64::MAX), FileTold::Refused),
+    ),
+    (
+        OTHER_PATH,
+        FileStep::Told(FileUse::Create(6), FileTold::Opened),
+    ),
+    (
+        OTHER_PATH,
+        FileStep::Told(FileUse::Create(6), FileTold::Exists),
+    ),
+];
 
 // What opening the path says.
 fn says(rt: &impl Files<File = File>, alloc: Global, path: &str, wanted: &str) -> bool {
@@ -156,87 +249,83 @@ fn says(rt: &impl Files<File = File>, alloc: Global, path: &str, wanted: &str) -
 }
 
 #[test]
-fn a_file_that_is_no_disk_is_not_opened(rt: HostRuntime) -> Result<(), Fail> {
-    let _ = fs::remove_dir_all(&rt, OTHER_FOLDER);
-    fs::create_dir(&rt, OTHER_FOLDER)?;
-    assert!(rt; told(&rt, OTHER_PATH, FileUse::Open) == FileTold::Refused);
-    assert!(rt; told(&rt, OTHER_PATH, FileUse::Create(u64::MAX)) == FileTold::Refused);
-    assert!(rt; told(&rt, OTHER_PATH, FileUse::Create(6)) == FileTold::Opened);
-    assert!(rt; told(&rt, OTHER_PATH, FileUse::Create(6)) == FileTold::Exists);
-    assert!(rt; says(&rt, rt.alloc(), OTHER_FOLDER, "cannot open"));
-    fs::remove_dir_all(&rt, OTHER_FOLDER)?;
-    Ok(())
+fn a_file_that_is_no_disk_is_not_opened(rt: HostRuntime) {
+    let wrong = first_wrong(&rt, &NO_DISK);
+    let is_said = says(&rt, rt.alloc(), OTHER_FOLDER, "cannot open");
+    let is_removed = makes(&rt, OTHER_FOLDER, FileStep::RemoveFolder(true));
+    expect_none(&rt, wrong);
+    expect(&rt, is_said && is_removed);
 }
 
 const LOCKED: &str = "journal_tests_disk_locked";
 
-// What a disk with the lock of its file leaves to others: the file is not locked twice, and can be opened without the lock.
-fn leaves_the_rest(rt: &impl Files<File = File>, disk: &mut FileDisk) -> bool {
-    told(rt, LOCKED, FileUse::Lock) == FileTold::Locked
-        && write_some(disk).is_ok()
-        && is_done(rt, LOCKED, FileUse::Open, FileWork::FindSome)
-        && disk.size() == 6
-}
-
-// The lock is there for as long as the disk is, and no longer.
-#[test]
-fn a_file_has_one_disk_with_its_lock(rt: HostRuntime) -> Result<(), Fail> {
-    let _ = fs::remove_file(&rt, LOCKED);
-    assert!(rt; told(&rt, LOCKED, FileUse::Lock) == FileTold::Refused);
-    assert!(rt; told(&rt, LOCKED, FileUse::Create(6)) == FileTold::Opened);
-    let mut disk = FileDisk::open_locked(&rt, LOCKED)?;
-    let is_left = leaves_the_rest(&rt, &mut disk);
-    drop(disk);
-    assert!(rt; is_left);
-    assert!(rt; told(&rt, LOCKED, FileUse::Lock) == FileTold::Opened);
-    fs::remove_file(&rt, LOCKED)?;
-    Ok(())
-}
+const LOCKS: [(&str, FileStep); 6] = [
+    (LOCKED, FileStep::Remove(false)),
+    (LOCKED, FileStep::Told(FileUse::Lock, FileTold::Refused)),
+    (LOCKED, FileStep::Told(FileUse::Create(6), FileTold::Opened)),
+    (
+        LOCKED,
+        FileStep::Does(FileUse::Lock, FileWork::LeaveTheRest),
+    ),
+    (LOCKED, FileStep::Told(FileUse::Lock, FileTold::Opened)),
+    (LOCKED, FileStep::Remove(true)),
+];
 
 #[test]
-fn a_file_that_is_cut_short_fails(rt: HostRuntime) -> Result<(), Fail> {
-    let path = "journal_tests_disk_cut";
-    let _ = fs::remove_file(&rt, path);
-    let mut disk = FileDisk::create(&rt, path, 6)?;
-    let cut = fs::write(&rt, path, b"abc".as_slice());
-    let bytes = read(&mut disk);
-    drop(disk);
-    cut?;
-    assert_eq!(rt; bytes, Err(DeviceFault));
-    fs::remove_file(&rt, path)?;
+fn a_file_has_one_disk_with_its_lock(rt: HostRuntime) {
+    expect_none(&rt, first_wrong(&rt, &LOCKS));
+}
+
+const SHORT: &str = "journal_tests_disk_cut";
+
+const CUT: [(&str, FileStep); 3] = [
+    (SHORT, FileStep::Remove(false)),
+    (SHORT, FileStep::Does(FileUse::Create(6), FileWork::Cut)),
+    (SHORT, FileStep::Remove(true)),
+];
+
+#[test]
+fn a_file_that_is_cut_short_fails(rt: HostRuntime) {
+    let wrong = first_wrong(&rt, &CUT);
     let text = format!(in rt.alloc(); "{DeviceFault}");
-    assert!(rt; is_text(text, "device failed"));
-    Ok(())
+    let is_said = is_text(text, "device failed");
+    expect_none(&rt, wrong);
+    expect(&rt, is_said);
 }
 
 const NAMELESS_FOLDER: &str = "journal_tests_disk_nameless";
 
 const NAMELESS: &str = "journal_tests_disk_nameless/disk";
 
-// No sync of a file that was removed succeeds, also not one after another.
-#[test]
-fn a_file_without_a_name_is_synced_no_more(rt: HostRuntime) -> Result<(), Fail> {
-    let _ = fs::remove_dir_all(&rt, NAMELESS_FOLDER);
-    fs::create_dir(&rt, NAMELESS_FOLDER)?;
-    assert!(rt; told(&rt, NAMELESS, FileUse::Create(6)) == FileTold::Opened);
-    let mut disk = FileDisk::open_locked(&rt, NAMELESS)?;
-    let named = write_some(&mut disk);
-    let removed = fs::remove_file(&rt, NAMELESS);
-    let first = write_some(&mut disk);
-    let second = write_some(&mut disk);
-    drop(disk);
-    removed?;
-    assert!(rt; named.is_ok() && first.is_err() && second.is_err());
-    fs::remove_dir_all(&rt, NAMELESS_FOLDER)?;
-    Ok(())
-}
+const WITHOUT_A_NAME: [(&str, FileStep); 5] = [
+    (NAMELESS_FOLDER, FileStep::RemoveFolder(false)),
+    (NAMELESS_FOLDER, FileStep::MakeFolder),
+    (
+        NAMELESS,
+        FileStep::Told(FileUse::Create(6), FileTold::Opened),
+    ),
+    (NAMELESS, FileStep::Does(FileUse::Lock, FileWork::LoseName)),
+    (NAMELESS_FOLDER, FileStep::RemoveFolder(true)),
+];
 
 #[test]
-fn a_file_keeps_each_of_many_writes_in_its_place(rt: HostRuntime) -> Result<(), Fail> {
-    let path = "journal_tests_disk_far";
-    let _ = fs::remove_file(&rt, path);
-    assert!(rt; is_done(&rt, path, FileUse::Create(12_000), FileWork::WriteEach));
-    assert!(rt; is_done(&rt, path, FileUse::Open, FileWork::FindEach));
-    fs::remove_file(&rt, path)?;
-    Ok(())
+fn a_file_without_a_name_is_synced_no_more(rt: HostRuntime) {
+    expect_none(&rt, first_wrong(&rt, &WITHOUT_A_NAME));
+}
+
+const FAR: &str = "journal_tests_disk_far";
+
+const FAR_WRITES: [(&str, FileStep); 4] = [
+    (FAR, FileStep::Remove(false)),
+    (
+        FAR,
+        FileStep::Does(FileUse::Create(12_000), FileWork::WriteEach),
+    ),
+    (FAR, FileStep::Does(FileUse::Open, FileWork::FindEach)),
+    (FAR, FileStep::Remove(true)),
+];
+
+#[test]
+fn a_file_keeps_each_of_many_writes_in_its_place(rt: HostRuntime) {
+    expect_none(&rt, first_wrong(&rt, &FAR_WRITES));
 }

@@ -60,14 +60,19 @@ pub(crate) enum JournalStep<'a> {
     Has(u64, &'a [u8]),
 }
 
+// The entry of a record's command.
+fn entry_of(alloc: Global, record: &[u8]) -> Option<Entry<()>> {
+    match decode(alloc, record) {
+        Ok((command, _)) => Entry::new(alloc, command, None).ok(),
+        Err(_) => None,
+    }
+}
+
 // Adds the command of a record to a batch.
 pub(crate) fn push_record(alloc: Global, batch: &mut Vec<Entry<()>>, record: &[u8]) -> bool {
-    let Ok((command, _)) = decode(alloc, record) else {
-        return false;
-    };
-    match Entry::new(alloc, command, None) {
-        Ok(entry) => batch.push(entry).is_ok(),
-        Err(_) => false,
+    match entry_of(alloc, record) {
+        Some(entry) => batch.push(entry).is_ok(),
+        None => false,
     }
 }
 

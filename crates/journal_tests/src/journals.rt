@@ -3,6 +3,16 @@ use area_core::{AreaFault, FormatFault, ReadFault};
 use disk_core::{Disk, MemDisk};
 use recover_core::OpenFault;
 use std::alloc::Global;
+use std::process::Abort;
+
+// The two assertions of almost all tests. In a function of their own they are proved once.
+pub(crate) fn expect(rt: &impl Abort, is_right: bool) {
+    assert!(rt; is_right);
+}
+
+pub(crate) fn expect_none(rt: &impl Abort, wrong: Option<usize>) {
+    assert_eq!(rt; wrong, None);
+}
 
 // The size of a disk with two areas of 4,096 bytes.
 pub(crate) const SIZE: usize = 8_224;

@@ -1,6 +1,6 @@
 //! A journal that an older program wrote, whose NACK drops the message.
 use crate::journal_steps::{JournalStep, play};
-use crate::journals::{JournalImage, SIZE, Told, put};
+use crate::journals::{JournalImage, SIZE, Told, expect_none, put};
 use crate::stop_tests::{Cause, Given, first_lost};
 
 // The bytes of the file that are not zero. It was made on 26 November 2026 with the program of commit ac9e524: `stompd format FILE
@@ -76,11 +76,11 @@ fn an_older_journal_is_shown(rt: HostRuntime) {
         (JournalStep::Write(&image), Told::Done),
         (JournalStep::Shows([1, 1, 412, 9, 3, 45]), Told::Done),
     ];
-    assert_eq!(rt; play(rt.alloc(), SIZE as u64, &steps), None);
+    expect_none(&rt, play(rt.alloc(), SIZE as u64, &steps));
 }
 
 // Six calls read its header, two its front, and three each of the nine blocks, so opening it takes about forty.
 #[test]
 fn a_stop_at_each_call_of_opening_it_leaves_its_state(rt: HostRuntime) {
-    assert_eq!(rt; first_lost(&rt, rt.alloc(), Given::Old, Cause::Stop), None);
+    expect_none(&rt, first_lost(rt.alloc(), Given::Old, Cause::Stop));
 }

@@ -2,12 +2,11 @@ use crate::call_tests::is_text;
 use crate::journal_steps::{
     FailingCalls, JournalStep, StoreWork, add_all, first_wrong, play, push_sending,
 };
-use crate::journals::{OPEN, SEND, SIZE, Told};
+use crate::journals::{OPEN, SEND, SIZE, Told, expect, expect_none};
 use area_core::{AreaFault, ReadFault, an_image_has_one_reading};
 use disk_core::{Call, MemDisk};
 use recover_core::{OpenFault, an_image_stands_for_one_state, open, restarts_fit_large_areas};
 use std::alloc::{AllocError, Global};
-use std::test::Fail;
 
 #[test]
 fn the_laws_ask_for_nothing() {
@@ -27,11 +26,12 @@ fn each_refusal_to_open_has_its_text(rt: HostRuntime) {
         OpenFault::Read(ReadFault::TooSmall),
         OpenFault::Read(ReadFault::Memory(AllocError)),
     );
-    assert!(rt;
+    expect(
+        &rt,
         is_text(
             reads,
-            "J1 not a journal; J2 damaged at 4136; J3 device failed; J7 unknown version; J8 disk too small; no memory"
-        )
+            "J1 not a journal; J2 damaged at 4136; J3 device failed; J7 unknown version; J8 disk too small; no memory",
+        ),
     );
     let others = format!(in rt.alloc();
         "{}; {}; {}; {}; {}",
@@ -41,11 +41,12 @@ fn each_refusal_to_open_has_its_text(rt: HostRuntime) {
         OpenFault::Area(AreaFault::Broken),
         OpenFault::Area(AreaFault::Memory(AllocError)),
     );
-    assert!(rt;
+    expect(
+        &rt,
         is_text(
             others,
-            "J5 count too large; J3 device failed; J4 journal full; J6 store broken; no memory"
-        )
+            "J5 count too large; J3 device failed; J4 journal full; J6 store broken; no memory",
+        ),
     );
 }
 
@@ -85,7 +86,7 @@ const OPENINGS: [(JournalStep<'static>, Told); 9] = [
 
 #[test]
 fn opening_syncs_reads_writes_and_switches(rt: HostRuntime) {
-    assert_eq!(rt; play(rt.alloc(), SIZE as u64, &OPENINGS), None);
+    expect_none(&rt, play(rt.alloc(), SIZE as u64, &OPENINGS));
 }
 
 // Makes the snapshot after four commands, of which the last three were this SEND to `/queue/q`. A message is its command's number, its
@@ -163,23 +164,21 @@ fn is_large(alloc: Global, record: &[u8], snapshot: &[u8]) -> bool {
     wrong.is_none() && added == Told::Done && is_right
 }
 
-// Three messages with bodies of 30,000 bytes make a snapshot of 90,138. With its length and a gate it has 90,147 bytes. No memory is refused
-// here, so no opening is either.
-#[test]
-fn a_snapshot_over_65_536_bytes_is_written_in_pieces_and_opens(
-    rt: HostRuntime,
-) -> Result<(), Fail> {
-    let mut record = Vec::new(rt.alloc());
-    let mut snapshot = Vec::new(rt.alloc());
-    let sending = push_sending(&mut record, 30_000);
-    let held = push_three(&mut snapshot, record.as_slice());
-    let length = snapshot.len();
-    let is_right = is_large(rt.alloc(), record.as_slice(), snapshot.as_slice());
+// Whether that is so with bodies of 30,000 bytes, which make a snapshot of 90,138. With its length and a gate it has 90,147 bytes.
+fn are_pieces_read(alloc: Global) -> bool {
+    let mut record = Vec::new(alloc);
+    let mut snapshot = Vec::new(alloc);
+    let is_made = push_sending(&mut record, 30_000).is_ok()
+        && push_three(&mut snapshot, record.as_slice()).is_ok()
+        && snapshot.len() == 90_138;
+    let is_right = is_large(alloc, record.as_slice(), snapshot.as_slice());
     drop(snapshot);
     drop(record);
-    sending?;
-    held?;
-    assert_eq!(rt; length, 90_138);
-    assert!(rt; is_right);
-    Ok(())
+    is_made && is_right
+}
+
+// No memory is refused here, so no opening is either.
+#[test]
+fn a_snapshot_over_65_536_bytes_is_written_in_pieces_and_opens(rt: HostRuntime) {
+    expect(&rt, are_pieces_read(rt.alloc()));
 }

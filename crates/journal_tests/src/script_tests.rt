@@ -3,7 +3,7 @@ ghost use Rattle.std.specs.Prelude.{◌<◌};
 use crate::journal_steps::{
     FailingCalls, StoreWork, append, open_in, push_record, snapshot, told_of_store,
 };
-use crate::journals::{FILLS, Told};
+use crate::journals::{FILLS, Told, expect, expect_none};
 use area_core::format;
 use broker_core::Broker;
 use command_core::{Command, Entry, HeaderText, Op, decode, put_text};
@@ -11,7 +11,6 @@ use disk_core::{Disk, MemDisk};
 use recover_core::{Store, open};
 use std::alloc::{AllocError, Global};
 use std::mem;
-use std::test::Fail;
 
 // A random script: the sessions that it opened since the last stop, the broker in memory that carries it out, and how many commands of each
 // kind were not refused.
@@ -392,36 +391,50 @@ fn live(alloc: Global, slot: &mut MemDisk, script: &mut Script, number: u64) -> 
 }
 
 // The first of forty lives of a journal in which something else comes than should.
-fn first_wrong(alloc: Global, disk: &mut MemDisk, script: &mut Script) -> Option<u64> {
+fn first_wrong(alloc: Global, disk: &mut MemDisk, script: &mut Script) -> Option<usize> {
     if format(alloc, disk, 1_048_576).is_err() {
         return Some(0);
     }
-    for number in 0..40_u64 {
-        if !live(alloc, disk, script, number) {
+    for number in 0..40_usize {
+        if !live(alloc, disk, script, number as u64) {
             return Some(number);
         }
     }
     None
 }
 
-// A thousand commands and more, some of each kind not refused. What is opened is the broker in memory after the same commands and restarts.
-#[test]
-fn what_is_opened_is_the_broker_that_did_the_same(rt: HostRuntime) -> Result<(), Fail> {
-    let mut disk = MemDisk::new(rt.alloc(), 2_097_184)?;
+// Whether a thousand commands and more were carried out, some of each kind not refused.
+fn are_enough(script: &Script) -> bool {
+    for done in script.done {
+        if done < 5 {
+            return false;
+        }
+    }
+    script.memory.count() >= 1_000
+}
+
+// That first life, and whether there were enough commands.
+fn forty_lives(alloc: Global) -> (Option<usize>, bool) {
+    let Ok(mut disk) = MemDisk::new(alloc, 2_097_184) else {
+        return (None, false);
+    };
     let mut script = Script {
         seed: 88_172_645_463_325_252,
-        opened: Vec::new(rt.alloc()),
-        memory: Broker::new(rt.alloc()),
+        opened: Vec::new(alloc),
+        memory: Broker::new(alloc),
         done: [0; 9],
     };
-    let wrong = first_wrong(rt.alloc(), &mut disk, &mut script);
-    let (count, done) = (script.memory.count(), script.done);
+    let wrong = first_wrong(alloc, &mut disk, &mut script);
+    let are_enough = are_enough(&script);
     drop(script);
     drop(disk);
-    assert_eq!(rt; wrong, None);
-    assert!(rt; count >= 1_000);
-    for (kind, done) in done.iter().enumerate() {
-        assert!(rt; *done >= 5, "{done} of kind {kind}");
-    }
-    Ok(())
+    (wrong, are_enough)
+}
+
+// What is opened is the broker in memory after the same commands and restarts.
+#[test]
+fn what_is_opened_is_the_broker_that_did_the_same(rt: HostRuntime) {
+    let (wrong, are_enough) = forty_lives(rt.alloc());
+    expect_none(&rt, wrong);
+    expect(&rt, are_enough);
 }

@@ -1,13 +1,15 @@
 //! The disk stops or fails while a journal is opened, and then it is opened again.
 use crate::journal_steps::{FailingCalls, JournalStep, StoreWork, opened, play, shows};
-use crate::journals::{JournalImage, OPEN, SEND, SIZE, SUBSCRIBE, Told, told_of_format};
+use crate::journals::{
+    JournalImage, OPEN, SEND, SIZE, SUBSCRIBE, Told, expect, expect_none, told_of_format,
+};
 use crate::old_journal_tests::{RESTARTED as RESTARTED_OF_OLD, old_journal};
 use area_core::format;
 use disk_core::FileDisk;
-use log::{Log, info};
 use std::alloc::Global;
 use std::fs;
-use std::test::Fail;
+use std::fs::File;
+use std::rt::Files;
 
 // Which journal is opened.
 #[derive(Clone, Copy)]
@@ -101,24 +103,38 @@ fn is_left(
     play(alloc, SIZE as u64, &steps).is_none()
 }
 
+// Whether the state is left if that call is where the opening ends, whatever becomes of the disk then.
+fn is_left_by(
+    alloc: Global,
+    given: Given,
+    old: &JournalImage,
+    cause: Cause,
+    call: u64,
+    has_to: bool,
+) -> bool {
+    let (failing, thens) = match cause {
+        Cause::Stop => (FailingCalls::After(call), &THEN[1..]),
+        Cause::Failure => (FailingCalls::Once(call), &THEN[..]),
+    };
+    for then in thens {
+        if !is_left(alloc, given, old, failing, has_to, *then) {
+            return false;
+        }
+    }
+    true
+}
+
 // The first call at which the state is lost. Opening a journal with one block takes fewer than twenty calls, whichever of its areas is
 // live, and opening the one with nine blocks takes about forty.
-pub(crate) fn first_lost(rt: &impl Log, alloc: Global, given: Given, cause: Cause) -> Option<u64> {
+pub(crate) fn first_lost(alloc: Global, given: Given, cause: Cause) -> Option<usize> {
     let old = old_journal();
     let (calls, enough) = match given {
         Given::Area(_) => (24, 20),
         Given::Old => (44, 43),
     };
     for call in 0..calls {
-        info!(rt; "opening: call {call} fails, or the disk stops before it");
-        let (failing, thens) = match cause {
-            Cause::Stop => (FailingCalls::After(call), &THEN[1..]),
-            Cause::Failure => (FailingCalls::Once(call), &THEN[..]),
-        };
-        for then in thens {
-            if !is_left(alloc, given, &old, failing, call >= enough, *then) {
-                return Some(call);
-            }
+        if !is_left_by(alloc, given, &old, cause, call as u64, call >= enough) {
+            return Some(call);
         }
     }
     None
@@ -127,40 +143,64 @@ pub(crate) fn first_lost(rt: &impl Log, alloc: Global, given: Given, cause: Caus
 // A stop at each call of opening leaves the same state, whichever area is live and whatever the unsynced bytes are.
 #[test]
 fn a_stop_at_each_call_of_opening_leaves_the_state(rt: HostRuntime) {
-    for area in 0..2 {
-        let lost = first_lost(&rt, rt.alloc(), Given::Area(area), Cause::Stop);
-        assert_eq!(rt; lost, None, "area {area} is live");
-    }
+    expect_none(&rt, first_lost(rt.alloc(), Given::Area(0), Cause::Stop));
+    expect_none(&rt, first_lost(rt.alloc(), Given::Area(1), Cause::Stop));
 }
 
 // After a fault the store is broken, and no longer touches the disk.
+const FAILING: [(JournalStep<'static>, Told); 3] = [
+    (JournalStep::Format(4_096, u64::MAX), Told::Done),
+    (
+        JournalStep::Open(FailingCalls::OnceOpen(1), StoreWork::AddAgain(&[OPEN])),
+        Told::Broken,
+    ),
+    (
+        JournalStep::Open(FailingCalls::None, StoreWork::Look),
+        Told::Holds(0, 0),
+    ),
+];
+
 #[test]
 fn a_store_that_failed_stays_broken(rt: HostRuntime) {
-    let add = JournalStep::Open(FailingCalls::OnceOpen(1), StoreWork::AddAgain(&[OPEN]));
-    let steps = [
-        (JournalStep::Format(4_096, u64::MAX), Told::Done),
-        (add, Told::Broken),
-        (
-            JournalStep::Open(FailingCalls::None, StoreWork::Look),
-            Told::Holds(0, 0),
-        ),
-    ];
-    assert_eq!(rt; play(rt.alloc(), SIZE as u64, &steps), None);
+    expect_none(&rt, play(rt.alloc(), SIZE as u64, &FAILING));
+}
+
+// Whether the file becomes a disk with a journal that takes two commands.
+fn is_added(rt: &impl Files<File = File>, alloc: Global, path: &str) -> bool {
+    match FileDisk::create(rt, path, SIZE as u64) {
+        Ok(mut disk) => {
+            let formatted = told_of_format(format(alloc, &mut disk, 4_096));
+            let (disk, added) = opened(alloc, disk, StoreWork::Add(&[&[OPEN, SEND]]));
+            drop(disk);
+            formatted == Told::Done && added == Told::Done
+        }
+        Err(error) => {
+            drop(error);
+            false
+        }
+    }
+}
+
+// Whether the journal in the file shows them.
+fn is_shown(rt: &impl Files<File = File>, alloc: Global, path: &str) -> bool {
+    match FileDisk::open(rt, path) {
+        Ok(mut disk) => {
+            let is_shown = shows(alloc, &mut disk, &[2, 1, 90, 2, 1, 9]);
+            drop(disk);
+            is_shown
+        }
+        Err(error) => {
+            drop(error);
+            false
+        }
+    }
 }
 
 // No contract knows what a file holds.
 #[test]
-fn a_store_over_a_file_is_opened_again(rt: HostRuntime) -> Result<(), Fail> {
+fn a_store_over_a_file_is_opened_again(rt: HostRuntime) {
     let path = "journal_tests_stopped_file";
     let _ = fs::remove_file(&rt, path);
-    let mut disk = FileDisk::create(&rt, path, SIZE as u64)?;
-    let formatted = told_of_format(format(rt.alloc(), &mut disk, 4_096));
-    let (disk, added) = opened(rt.alloc(), disk, StoreWork::Add(&[&[OPEN, SEND]]));
-    drop(disk);
-    let mut disk = FileDisk::open(&rt, path)?;
-    let is_shown = shows(rt.alloc(), &mut disk, &[2, 1, 90, 2, 1, 9]);
-    drop(disk);
-    assert!(rt; formatted == Told::Done && added == Told::Done && is_shown);
-    fs::remove_file(&rt, path)?;
-    Ok(())
+    let is_right = is_added(&rt, rt.alloc(), path) && is_shown(&rt, rt.alloc(), path);
+    expect(&rt, is_right && fs::remove_file(&rt, path).is_ok());
 }
