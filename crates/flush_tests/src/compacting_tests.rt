@@ -1,12 +1,12 @@
 //! How a compaction is written, and what a stop within its switch leaves.
 
 use crate::failing_tests::{SNAPSHOTS, compaction_of};
+use crate::series::{Series, first_wrong};
+use crate::setups::expect_none;
 use crate::trials::{Findings, Trial, calls_before, try_out};
 use disk_core::Call;
 use std::alloc::Global;
 use std::cmp::min;
-use std::process::Abort;
-use std::test::Fail;
 
 // A piece has at most so many bytes.
 const PIECE: u64 = 65_536;
@@ -38,29 +38,31 @@ fn are_in_pieces(calls: &[Call], whole: u64, pieces: usize) -> bool {
 }
 
 // The state has a length of eight bytes before it and a gate after it.
-fn expect_pieces(rt: &impl Abort, alloc: Global, findings: &mut Findings) {
+fn is_in_pieces(alloc: Global, findings: &mut Findings, messages: u32, pieces: u64) -> bool {
+    let _ = calls_before(alloc, compaction_of(messages), findings);
+    let before = findings.calls.len();
+    try_out(alloc, compaction_of(messages), findings);
+    let whole = (findings.state.len() as u64).saturating_add(9);
+    let is_told = match findings.calls.get(before..) {
+        Some(calls) => are_in_pieces(calls, whole, pieces as usize),
+        None => false,
+    };
+    findings.done == Some(true) && is_told
+}
+
+/// How many messages a compaction has that is not written in its pieces.
+pub(crate) fn first_wrong_pieces(alloc: Global, findings: &mut Findings) -> Option<u64> {
     for (messages, pieces) in SNAPSHOTS {
-        let _ = calls_before(alloc, compaction_of(messages), findings);
-        let before = findings.calls.len();
-        try_out(alloc, compaction_of(messages), findings);
-        let whole = (findings.state.len() as u64).saturating_add(9);
-        let is_told = match findings.calls.get(before..) {
-            Some(calls) => are_in_pieces(calls, whole, pieces as usize),
-            None => false,
-        };
-        assert!(rt;
-            findings.done == Some(true) && is_told,
-            "{messages} messages"
-        );
+        if !is_in_pieces(alloc, findings, messages, pieces) {
+            return Some(u64::from(messages));
+        }
     }
+    None
 }
 
 #[test]
-fn a_compaction_is_written_in_pieces(rt: HostRuntime) -> Result<(), Fail> {
-    let mut findings = Findings::new(rt.alloc());
-    expect_pieces(&rt, rt.alloc(), &mut findings);
-    drop(findings);
-    Ok(())
+fn a_compaction_is_written_in_pieces(rt: HostRuntime) {
+    expect_none(&rt, first_wrong(rt.alloc(), Series::Pieces));
 }
 
 // What is shown, but not how much is used.
@@ -69,27 +71,26 @@ fn shown_but_used(shown: Option<[u64; 5]>) -> Option<[u64; 4]> {
     Some([version, area, count, held])
 }
 
-// The opening formatted area 0 and wrote area 1, so the first compaction writes area 0. A stop between the selector's write and its
-// sync leaves any byte there: an even one names area 0, an odd one area 1.
-fn expect_any_selector(rt: &impl Abort, alloc: Global, findings: &mut Findings) {
+/// The opening formatted area 0 and wrote area 1, so the first compaction writes area 0. A stop between the selector's write and its
+/// sync leaves any byte there: an even one names area 0, an odd one area 1. Answers the first of which something else is shown.
+pub(crate) fn first_wrong_selector(alloc: Global, findings: &mut Findings) -> Option<u64> {
     let trial = compaction_of(0);
     let before = calls_before(alloc, trial, findings);
-    for (selector, area) in [(0x7a, 0), (0x7b, 1)] {
+    for (selector, area) in [(0x7a_u8, 0), (0x7b, 1)] {
         let trial = Trial {
             passed: before.saturating_add(3),
             fill: Some(selector),
             ..trial
         };
         try_out(alloc, trial, findings);
-        let is_shown = shown_but_used(findings.shown) == Some([2, area, 3, 0]);
-        assert!(rt; is_shown, "{selector}");
+        if shown_but_used(findings.shown) != Some([2, area, 3, 0]) {
+            return Some(u64::from(selector));
+        }
     }
+    None
 }
 
 #[test]
-fn a_stop_with_any_selector_shows_the_same(rt: HostRuntime) -> Result<(), Fail> {
-    let mut findings = Findings::new(rt.alloc());
-    expect_any_selector(&rt, rt.alloc(), &mut findings);
-    drop(findings);
-    Ok(())
+fn a_stop_with_any_selector_shows_the_same(rt: HostRuntime) {
+    expect_none(&rt, first_wrong(rt.alloc(), Series::AnySelector));
 }

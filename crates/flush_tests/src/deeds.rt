@@ -1,6 +1,6 @@
 //! What is done in a trial, with a flusher and its ring.
 
-ghost use Rattle.std.specs.Prelude.{◌≡◌, IfSome, IsTrue, true};
+ghost use Rattle.std.specs.Prelude.{◌≡◌, IsTrue, true};
 
 use crate::setups::{
     FIRST_SEND, LAST_SEND, SECOND_SEND, TestFlusher, TestRing, TestSeat, append, append_send,

@@ -2,11 +2,10 @@
 
 use crate::beginnings::Beginning;
 use crate::deeds::Deed;
+use crate::series::{Series, first_wrong};
+use crate::setups::expect_none;
 use crate::trials::{CALM, FILLS, Findings, Trial, calls_before, try_out};
-use log::{Log, info};
 use std::alloc::Global;
-use std::process::Abort;
-use std::test::Fail;
 
 // A call of that number fails, alone or with all after it; then all stops.
 fn failing(trial: Trial, call: u64, alone: bool, fill: Option<u8>) -> Trial {
@@ -68,38 +67,34 @@ fn left_of(call: u64, fill: Option<u8>) -> &'static [u8] {
     }
 }
 
-fn expect_batches(rt: &(impl Abort + Log), alloc: Global, findings: &mut Findings, alone: bool) {
+/// The first call of two batches that leaves something else if it fails, alone or with all after it.
+pub(crate) fn first_wrong_in_batches(
+    alloc: Global,
+    findings: &mut Findings,
+    alone: bool,
+) -> Option<u64> {
     let before = calls_before(alloc, TWO_BATCHES, findings);
-    assert!(rt; findings.begun, "no flusher was made");
+    let begun = findings.begun;
     for turn in 0..36_u64 {
         let (call, fill) = (turn / 4, FILLS[(turn % 4) as usize]);
-        info!(rt; "two batches: call {call} fails");
         let trial = failing(TWO_BATCHES, before.saturating_add(call), alone, fill);
         try_out(alloc, trial, findings);
         let is_left = findings.opened.as_slice() == left_of(call, fill);
-        assert!(rt;
-            findings.is(call > 7, durable_of(call)) && is_left,
-            "call {call}"
-        );
+        if !begun || !findings.is(call > 7, durable_of(call)) || !is_left {
+            return Some(call);
+        }
     }
+    None
 }
 
 #[test]
-fn a_call_that_fails_within_two_batches_leaves_all_that_was_released(
-    rt: HostRuntime,
-) -> Result<(), Fail> {
-    let mut findings = Findings::new(rt.alloc());
-    expect_batches(&rt, rt.alloc(), &mut findings, true);
-    drop(findings);
-    Ok(())
+fn a_call_that_fails_within_two_batches_leaves_all_that_was_released(rt: HostRuntime) {
+    expect_none(&rt, first_wrong(rt.alloc(), Series::FailingBatches));
 }
 
 #[test]
-fn a_stop_within_two_batches_leaves_all_that_was_released(rt: HostRuntime) -> Result<(), Fail> {
-    let mut findings = Findings::new(rt.alloc());
-    expect_batches(&rt, rt.alloc(), &mut findings, false);
-    drop(findings);
-    Ok(())
+fn a_stop_within_two_batches_leaves_all_that_was_released(rt: HostRuntime) {
+    expect_none(&rt, first_wrong(rt.alloc(), Series::StoppedBatches));
 }
 
 /// The compaction of a journal with so many messages of 40,000 bytes. An area has room for four of them.
@@ -115,51 +110,51 @@ pub(crate) fn compaction_of(messages: u32) -> Trial {
 /// How many messages there are, and in how many pieces their snapshot is written.
 pub(crate) const SNAPSHOTS: [(u32, u64); 3] = [(0, 1), (2, 2), (4, 3)];
 
-// Its calls are a write for each piece, a sync, the selector's write, and a sync.
-fn expect_compaction(
-    rt: &(impl Abort + Log),
+/// The first call of such a compaction that leaves something else if it fails, alone or with all after it. Its calls are a write for each
+/// piece, a sync, the selector's write, and a sync.
+pub(crate) fn first_wrong_in_compaction(
     alloc: Global,
     findings: &mut Findings,
     messages: u32,
     pieces: u64,
     alone: bool,
-) {
+) -> Option<u64> {
     let trial = compaction_of(messages);
     let before = calls_before(alloc, trial, findings);
-    assert!(rt; findings.begun, "no flusher was made");
+    let begun = findings.begun;
     findings.keep();
     for turn in 0..28_u64 {
         let (call, fill) = (turn / 4, FILLS[(turn % 4) as usize]);
-        info!(rt; "a compaction of {messages} messages: call {call} fails");
         let trial = failing(trial, before.saturating_add(call), alone, fill);
         try_out(alloc, trial, findings);
         let is_done = findings.is(
             call >= pieces.saturating_add(3),
             u64::from(messages).saturating_add(3),
         );
-        let is_left = findings.is_stored() && findings.is_opened_as_kept();
-        assert!(rt; is_done && is_left, "{messages} messages, call {call}");
+        if !begun || !is_done || !findings.is_stored() || !findings.is_opened_as_kept() {
+            return Some(call);
+        }
     }
+    None
 }
 
 #[test]
-fn a_call_that_fails_within_a_compaction_leaves_the_state(rt: HostRuntime) -> Result<(), Fail> {
-    let mut findings = Findings::new(rt.alloc());
-    expect_compaction(&rt, rt.alloc(), &mut findings, 2, 2, true);
-    drop(findings);
-    Ok(())
+fn a_call_that_fails_within_a_compaction_leaves_the_state(rt: HostRuntime) {
+    expect_none(&rt, first_wrong(rt.alloc(), Series::FailingCompaction));
 }
 
-fn expect_stops(rt: &(impl Abort + Log), alloc: Global, findings: &mut Findings) {
+/// The same of a compaction of each length, with all after it.
+pub(crate) fn first_wrong_stop(alloc: Global, findings: &mut Findings) -> Option<u64> {
     for (messages, pieces) in SNAPSHOTS {
-        expect_compaction(rt, alloc, findings, messages, pieces, false);
+        let wrong = first_wrong_in_compaction(alloc, findings, messages, pieces, false);
+        if wrong.is_some() {
+            return wrong;
+        }
     }
+    None
 }
 
 #[test]
-fn a_stop_at_each_call_of_a_compaction_leaves_the_state(rt: HostRuntime) -> Result<(), Fail> {
-    let mut findings = Findings::new(rt.alloc());
-    expect_stops(&rt, rt.alloc(), &mut findings);
-    drop(findings);
-    Ok(())
+fn a_stop_at_each_call_of_a_compaction_leaves_the_state(rt: HostRuntime) {
+    expect_none(&rt, first_wrong(rt.alloc(), Series::StoppedCompactions));
 }

@@ -23,6 +23,8 @@ mod schedule_tests;
 #[cfg(test)]
 mod schedules;
 #[cfg(test)]
+mod series;
+#[cfg(test)]
 mod setups;
 #[cfg(test)]
 mod slow_world;

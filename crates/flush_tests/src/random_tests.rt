@@ -1,11 +1,10 @@
 //! Random events, wrong ones among them, against a world that is computed slowly.
 ghost use Rattle.std.specs.Prelude.{◌≢◌};
 
-use crate::schedules::{AREA, Pick, RECORDS, apply, old_world};
+use crate::schedules::{AREA, Pick, RECORDS, apply, numbers, old_world};
+use crate::setups::expect_none;
 use crate::slow_world::SlowWorld;
 use std::alloc::{AllocError, Global};
-use std::process::Abort;
-use std::test::Fail;
 use world_core::{Call, CallKind, CallList, World};
 
 // The next number of a fixed row.
@@ -86,96 +85,99 @@ fn apply_slowly(slow: &mut SlowWorld, pick: Pick) -> Result<bool, AllocError> {
     }
 }
 
-fn compare(rt: &impl Abort, world: &World, slow: &SlowWorld) {
-    assert_eq!(rt;
-        (
-            world.base(),
-            world.claimed(),
-            world.taken(),
-            world.stored(),
-            world.mark()
-        ),
-        (
-            slow.base,
-            slow.claimed(),
-            slow.taken,
-            slow.stored,
-            slow.mark
-        )
-    );
+// Whether an event came to the same in both worlds. The disks are compared after an event that may have changed them.
+fn are_same(world: &World, slow: &SlowWorld, may_write: bool) -> bool {
+    let slow_numbers = [
+        slow.base,
+        slow.claimed(),
+        slow.taken,
+        slow.stored,
+        slow.mark,
+    ];
+    numbers(world) == slow_numbers && (!may_write || world.content() == slow.content.as_slice())
 }
 
-// Applies an event in both worlds, and answers whether it was possible. It compares the disks after an event that may have changed them.
-fn take_step(
-    rt: &impl Abort,
-    alloc: Global,
-    world: &mut World,
-    slow: &mut SlowWorld,
-    step: u32,
-    pick: Pick,
-) -> Result<bool, AllocError> {
-    let wanted = apply_slowly(slow, pick)?;
-    let answer = apply(alloc, world, pick)?;
-    assert_eq!(rt; answer, wanted, "step {step}");
-    compare(rt, world, slow);
-    if answer && matches!(pick, Pick::Device(_) | Pick::Crash(_, _)) {
-        assert!(rt; world.content() == slow.content.as_slice(), "step {step}");
+// Applies an event in both worlds, and answers whether it was possible; nothing if they differ.
+fn take_step(alloc: Global, world: &mut World, slow: &mut SlowWorld, pick: Pick) -> Option<bool> {
+    let wanted = apply_slowly(slow, pick).ok()?;
+    let answer = apply(alloc, world, pick).ok()?;
+    let may_write = answer && matches!(pick, Pick::Device(_) | Pick::Crash(_, _));
+    if answer == wanted && are_same(world, slow, may_write) {
+        Some(answer)
+    } else {
+        None
     }
-    Ok(answer)
 }
 
-// Applies `events` events, from that beginning of the row.
-fn take_steps(
-    rt: &impl Abort,
+// The first event, from that beginning of the row on, after which the worlds differ; or `events` if too few of so many were possible.
+fn first_wrong(
     alloc: Global,
     world: &mut World,
     slow: &mut SlowWorld,
     from: u64,
-    events: u32,
-) -> Result<(), AllocError> {
+    events: u64,
+) -> Option<u64> {
     let mut seed = from;
-    let mut possible = 0_u32;
+    let mut possible = 0_u64;
     for step in 0..events {
         let pick = choose(&mut seed, slow);
-        if take_step(rt, alloc, world, slow, step, pick)? {
-            possible = possible.saturating_add(1);
+        match take_step(alloc, world, slow, pick) {
+            Some(true) => possible = possible.saturating_add(1),
+            Some(false) => {}
+            None => return Some(step),
         }
     }
-    assert!(rt;
-        possible > events / 10 && slow.base > 0,
-        "{possible}, {}",
-        slow.base
-    );
-    Ok(())
+    if possible > events / 10 && slow.base > 0 {
+        None
+    } else {
+        Some(events)
+    }
+}
+
+// The same in this world and a slow one, after a life that had so many commands and crashed, if any.
+fn first_apart(
+    alloc: Global,
+    world: World,
+    crashed: Option<u64>,
+    from: u64,
+    events: u64,
+) -> Option<u64> {
+    let mut world = world;
+    let mut slow = SlowWorld::new(alloc);
+    let begun = match crashed {
+        Some(count) => slow.begin_crashed(world.content(), count),
+        None => slow.begin(world.content()),
+    };
+    let mut wrong = Some(0);
+    if begun.is_ok() {
+        wrong = first_wrong(alloc, &mut world, &mut slow, from, events);
+    }
+    drop(slow);
+    drop(world);
+    wrong
+}
+
+fn first_wrong_of_new(alloc: Global) -> Option<u64> {
+    match World::new(alloc, 4_096) {
+        Ok(world) => first_apart(alloc, world, None, 20_251_123, 100_000),
+        Err(_) => Some(0),
+    }
 }
 
 #[test]
-fn random_events_do_what_the_description_says(rt: HostRuntime) -> Result<(), Fail> {
-    let mut world = World::new(rt.alloc(), 4_096)?;
-    let mut slow = SlowWorld::new(rt.alloc());
-    let done = match slow.begin(world.content()) {
-        Ok(()) => take_steps(&rt, rt.alloc(), &mut world, &mut slow, 20_251_123, 100_000),
-        Err(refused) => Err(refused),
-    };
-    drop(slow);
-    drop(world);
-    done?;
-    Ok(())
+fn random_events_do_what_the_description_says(rt: HostRuntime) {
+    expect_none(&rt, first_wrong_of_new(rt.alloc()));
+}
+
+fn first_wrong_of_old(alloc: Global) -> Option<u64> {
+    match old_world(alloc, &RECORDS[..1], 3) {
+        Some(Some(world)) => first_apart(alloc, world, Some(3), 20_261_126, 20_000),
+        _ => Some(0),
+    }
 }
 
 // A journal of the first version with three commands in a block.
 #[test]
-fn random_events_go_on_from_the_first_version(rt: HostRuntime) -> Result<(), Fail> {
-    let Some(mut world) = old_world(rt.alloc(), &RECORDS[..1], 3)? else {
-        panic!(rt; "three commands don't fit");
-    };
-    let mut slow = SlowWorld::new(rt.alloc());
-    let done = match slow.begin_crashed(world.content(), 3) {
-        Ok(()) => take_steps(&rt, rt.alloc(), &mut world, &mut slow, 20_261_126, 20_000),
-        Err(refused) => Err(refused),
-    };
-    drop(slow);
-    drop(world);
-    done?;
-    Ok(())
+fn random_events_go_on_from_the_first_version(rt: HostRuntime) {
+    expect_none(&rt, first_wrong_of_old(rt.alloc()));
 }

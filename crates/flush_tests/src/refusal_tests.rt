@@ -2,9 +2,9 @@
 //! in turn, and reads what this test says of it.
 
 use crate::deeds::Deed;
+use crate::setups::expect;
 use crate::trials::{CALM, Findings, Trial, try_out};
 use std::alloc::Global;
-use std::test::Fail;
 
 // What the script beside the gate reads.
 fn said_of(findings: &Findings) -> &'static str {
@@ -27,21 +27,21 @@ fn said_of(findings: &Findings) -> &'static str {
     }
 }
 
-fn compact_it(alloc: Global, findings: &mut Findings) -> &'static str {
+fn compact_it(alloc: Global) -> &'static str {
     let trial = Trial {
         deed: Deed::Compact(true),
         ..CALM
     };
-    try_out(alloc, trial, findings);
-    said_of(findings)
+    let mut findings = Findings::new(alloc);
+    try_out(alloc, trial, &mut findings);
+    let said = said_of(&findings);
+    drop(findings);
+    said
 }
 
 #[test]
-fn a_compaction_for_which_memory_is_refused_leaves_the_state(rt: HostRuntime) -> Result<(), Fail> {
-    let mut findings = Findings::new(rt.alloc());
-    let seen = compact_it(rt.alloc(), &mut findings);
-    drop(findings);
-    println!(rt; "{seen}")?;
-    assert!(rt; seen != "wrong");
-    Ok(())
+fn a_compaction_for_which_memory_is_refused_leaves_the_state(rt: HostRuntime) {
+    let seen = compact_it(rt.alloc());
+    let is_printed = println!(rt; "{seen}").is_ok();
+    expect(&rt, is_printed && seen != "wrong");
 }

@@ -1,7 +1,8 @@
 //! Single schedules: tables of events, and whether each is possible when it comes.
-use crate::schedules::{FIRST_GATE, Pick, play_in};
-use std::test::Fail;
-use world_core::{Call, CallKind, CallList, World};
+use crate::schedules::{FIRST_GATE, Pick, play};
+use crate::setups::expect_none;
+use std::alloc::Global;
+use world_core::{Call, CallKind, CallList};
 
 const READ: Pick = Pick::Device(Call {
     list: CallList::Append,
@@ -80,40 +81,52 @@ const RELEASE_ONE: [(Pick, bool); 7] = [
 ];
 
 #[test]
-fn a_command_is_released_once_it_is_stored_and_seen(rt: HostRuntime) -> Result<(), Fail> {
-    let world = World::new(rt.alloc(), 4_096)?;
-    play_in(&rt, rt.alloc(), world, &[&WRITE_ONE, &RELEASE_ONE])?;
-    Ok(())
+fn a_command_is_released_once_it_is_stored_and_seen(rt: HostRuntime) {
+    expect_none(&rt, play(rt.alloc(), 4_096, &[&WRITE_ONE, &RELEASE_ONE]));
+}
+
+// What a stop makes the gate, and the base that is then opened.
+const OPENED: [[(Pick, bool); 3]; 3] = [
+    [
+        (Pick::Crash(FIRST_GATE, 1), true),
+        (Pick::OpenAll, true),
+        (Pick::Numbers([1; 5]), true),
+    ],
+    [
+        (Pick::Crash(FIRST_GATE, 0), true),
+        (Pick::OpenAll, true),
+        (Pick::Numbers([0; 5]), true),
+    ],
+    [
+        (Pick::Crash(FIRST_GATE, 0x37), true),
+        (Pick::OpenAll, true),
+        (Pick::Numbers([0; 5]), true),
+    ],
+];
+
+fn first_wrong_gate(alloc: Global) -> Option<u64> {
+    for (place, opening) in OPENED.iter().enumerate() {
+        if play(alloc, 4_096, &[&WRITE_ONE, opening]).is_some() {
+            return Some(place as u64);
+        }
+    }
+    None
 }
 
 #[test]
-fn the_gate_decides_what_is_opened(rt: HostRuntime) -> Result<(), Fail> {
-    for (at, byte, base) in [
-        (FIRST_GATE, 1, 1),
-        (FIRST_GATE, 0, 0),
-        (FIRST_GATE, 0x37, 0),
-    ] {
-        let opening = [
-            (Pick::Crash(at, byte), true),
-            (Pick::OpenAll, true),
-            (Pick::Numbers([base; 5]), true),
-        ];
-        let world = World::new(rt.alloc(), 4_096)?;
-        play_in(&rt, rt.alloc(), world, &[&WRITE_ONE, &opening])?;
-    }
-    Ok(())
+fn the_gate_decides_what_is_opened(rt: HostRuntime) {
+    expect_none(&rt, first_wrong_gate(rt.alloc()));
 }
 
 // A stop cannot leave another byte before the gate or after it.
+const CRASHES: [(Pick, bool); 2] = [
+    (Pick::Crash(FIRST_GATE + 1, 0x37), false),
+    (Pick::Crash(FIRST_GATE - 1, 0x37), false),
+];
+
 #[test]
-fn a_stop_leaves_what_is_synced(rt: HostRuntime) -> Result<(), Fail> {
-    let crashes = [
-        (Pick::Crash(FIRST_GATE + 1, 0x37), false),
-        (Pick::Crash(FIRST_GATE - 1, 0x37), false),
-    ];
-    let world = World::new(rt.alloc(), 4_096)?;
-    play_in(&rt, rt.alloc(), world, &[&WRITE_ONE, &crashes])?;
-    Ok(())
+fn a_stop_leaves_what_is_synced(rt: HostRuntime) {
+    expect_none(&rt, play(rt.alloc(), 4_096, &[&WRITE_ONE, &CRASHES]));
 }
 
 const CLAIM_FOUR: [(Pick, bool); 12] = [
@@ -139,16 +152,10 @@ const CLAIM_MORE: [(Pick, bool); 4] = [
 ];
 
 #[test]
-fn a_seat_has_sixteen_commands_that_it_has_not_seen(rt: HostRuntime) -> Result<(), Fail> {
-    let world = World::new(rt.alloc(), 4_096)?;
+fn a_seat_has_sixteen_commands_that_it_has_not_seen(rt: HostRuntime) {
     let four = &CLAIM_FOUR[..];
-    play_in(
-        &rt,
-        rt.alloc(),
-        world,
-        &[four, four, four, four, &CLAIM_MORE],
-    )?;
-    Ok(())
+    let parts = [four, four, four, four, &CLAIM_MORE[..]];
+    expect_none(&rt, play(rt.alloc(), 4_096, &parts));
 }
 
 // After a call that fails, only opening goes on. Sessions may look and release until then.
@@ -164,10 +171,8 @@ const FAIL: [(Pick, bool); 8] = [
 ];
 
 #[test]
-fn after_a_failure_the_journal_is_opened(rt: HostRuntime) -> Result<(), Fail> {
-    let world = World::new(rt.alloc(), 4_096)?;
-    play_in(&rt, rt.alloc(), world, &[&WRITE_ONE, &FAIL])?;
-    Ok(())
+fn after_a_failure_the_journal_is_opened(rt: HostRuntime) {
+    expect_none(&rt, play(rt.alloc(), 4_096, &[&WRITE_ONE, &FAIL]));
 }
 
 // A snapshot is synced before the switch, which comes right after it, while sessions claim.
@@ -198,16 +203,14 @@ const APPEND_BEHIND_A_COPY: [(Pick, bool); 6] = [
 ];
 
 #[test]
-fn a_switch_comes_right_behind_a_snapshot_that_is_synced(rt: HostRuntime) -> Result<(), Fail> {
-    let world = World::new(rt.alloc(), 4_096)?;
+fn a_switch_comes_right_behind_a_snapshot_that_is_synced(rt: HostRuntime) {
     let parts = [
         &WRITE_ONE[..],
         &RELEASE_ONE[..],
         &COMPACT[..],
         &APPEND_BEHIND_A_COPY[..],
     ];
-    play_in(&rt, rt.alloc(), world, &parts)?;
-    Ok(())
+    expect_none(&rt, play(rt.alloc(), 4_096, &parts));
 }
 
 const STORE_ONE: [(Pick, bool); 6] = [
@@ -240,8 +243,7 @@ const BROKEN_OFF: [(Pick, bool); 5] = [
 
 // A snapshot that holds two SENDs of 60,000 bytes has two pieces.
 #[test]
-fn an_opening_may_begin_between_two_pieces(rt: HostRuntime) -> Result<(), Fail> {
-    let world = World::new(rt.alloc(), 262_144)?;
+fn an_opening_may_begin_between_two_pieces(rt: HostRuntime) {
     let (short, long) = ([(Pick::Claim(0), true)], [(Pick::ClaimLong, true)]);
     let parts = [
         &short[..],
@@ -253,8 +255,7 @@ fn an_opening_may_begin_between_two_pieces(rt: HostRuntime) -> Result<(), Fail> 
         &TWO_PIECES[..],
         &BROKEN_OFF[..],
     ];
-    play_in(&rt, rt.alloc(), world, &parts)?;
-    Ok(())
+    expect_none(&rt, play(rt.alloc(), 262_144, &parts));
 }
 
 const CLAIM_LONG: [(Pick, bool); 8] = [
@@ -283,8 +284,6 @@ const CUT: [(Pick, bool); 10] = [
 ];
 
 #[test]
-fn a_block_has_the_longest_part_that_fits(rt: HostRuntime) -> Result<(), Fail> {
-    let world = World::new(rt.alloc(), 131_072)?;
-    play_in(&rt, rt.alloc(), world, &[&CLAIM_LONG, &CUT])?;
-    Ok(())
+fn a_block_has_the_longest_part_that_fits(rt: HostRuntime) {
+    expect_none(&rt, play(rt.alloc(), 131_072, &[&CLAIM_LONG, &CUT]));
 }

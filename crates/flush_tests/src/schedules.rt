@@ -3,8 +3,6 @@ use crate::setups::send_to;
 use command_core::{Command, Op, decode};
 use frame_core::Bytes;
 use std::alloc::{AllocError, Global};
-use std::process::Abort;
-use std::test::Fail;
 use world_core::{Call, CallKind, CallList, Event, World};
 
 /// The bytes of an area.
@@ -127,7 +125,8 @@ fn has_front(content: &[u8], len: usize) -> bool {
     }
 }
 
-fn numbers(world: &World) -> [u64; 5] {
+/// The base and the numbers that are claimed, taken, stored and under the mark next.
+pub(crate) fn numbers(world: &World) -> [u64; 5] {
     [
         world.base(),
         world.claimed(),
@@ -166,74 +165,91 @@ pub(crate) fn apply(alloc: Global, world: &mut World, pick: Pick) -> Result<bool
     }
 }
 
+// Whether the event is possible just if it has to be.
+fn is_so(alloc: Global, world: &mut World, pick: Pick, possible: bool) -> bool {
+    match apply(alloc, world, pick) {
+        Ok(answer) => answer == possible,
+        Err(_) => false,
+    }
+}
+
 // A part of a schedule: events, and whether each is possible when it comes.
-fn play_part(
-    rt: &impl Abort,
-    alloc: Global,
-    world: &mut World,
-    part: &[(Pick, bool)],
-) -> Result<(), AllocError> {
-    for (place, (pick, possible)) in part.iter().enumerate() {
-        let answer = apply(alloc, world, *pick)?;
-        assert_eq!(rt; answer, *possible, "event {place} of {}", part.len());
-    }
-    Ok(())
-}
-
-fn play_parts(
-    rt: &impl Abort,
-    alloc: Global,
-    world: &mut World,
-    parts: &[&[(Pick, bool)]],
-) -> Result<(), AllocError> {
-    for part in parts {
-        play_part(rt, alloc, world, part)?;
-    }
-    Ok(())
-}
-
-/// Plays a schedule of these parts, one after another.
-pub(crate) fn play_in(
-    rt: &impl Abort,
-    alloc: Global,
-    world: World,
-    parts: &[&[(Pick, bool)]],
-) -> Result<(), AllocError> {
-    let mut world = world;
-    let played = play_parts(rt, alloc, &mut world, parts);
-    drop(world);
-    played
-}
-
-fn read_all(
-    alloc: Global,
-    commands: &mut Vec<Command>,
-    records: &[&[u8]],
-    times: u32,
-) -> Result<(), Fail> {
-    for _ in 0..times {
-        for record in records {
-            let (command, _) = decode(alloc, record)?;
-            commands.push(command)?;
+fn goes_by(alloc: Global, world: &mut World, part: &[(Pick, bool)]) -> bool {
+    for (pick, possible) in part {
+        if !is_so(alloc, world, *pick, *possible) {
+            return false;
         }
     }
-    Ok(())
+    true
+}
+
+// The first of the parts, one after another, that goes otherwise.
+fn first_wrong(alloc: Global, world: &mut World, parts: &[&[(Pick, bool)]]) -> Option<u64> {
+    for (place, part) in parts.iter().enumerate() {
+        if !goes_by(alloc, world, part) {
+            return Some(place as u64);
+        }
+    }
+    None
+}
+
+/// Plays a schedule of these parts in a world whose areas have so many bytes. It answers with the place of the first that goes otherwise.
+pub(crate) fn play(alloc: Global, bytes: u64, parts: &[&[(Pick, bool)]]) -> Option<u64> {
+    match World::new(alloc, bytes) {
+        Ok(mut world) => {
+            let wrong = first_wrong(alloc, &mut world, parts);
+            drop(world);
+            wrong
+        }
+        Err(_) => Some(0),
+    }
+}
+
+/// The same in the world that begins with the commands of these records, which have to fit.
+pub(crate) fn play_old(alloc: Global, records: &[&[u8]], events: &[(Pick, bool)]) -> bool {
+    match old_world(alloc, records, 1) {
+        Some(Some(mut world)) => {
+            let is_right = goes_by(alloc, &mut world, events);
+            drop(world);
+            is_right
+        }
+        _ => false,
+    }
+}
+
+fn read_one(alloc: Global, commands: &mut Vec<Command>, record: &[u8]) -> bool {
+    match decode(alloc, record) {
+        Ok((command, _)) => commands.push(command).is_ok(),
+        Err(_) => false,
+    }
+}
+
+fn read_all(alloc: Global, commands: &mut Vec<Command>, records: &[&[u8]]) -> bool {
+    for record in records {
+        if !read_one(alloc, commands, record) {
+            return false;
+        }
+    }
+    true
+}
+
+fn read_often(alloc: Global, commands: &mut Vec<Command>, records: &[&[u8]], times: u32) -> bool {
+    for _ in 0..times {
+        if !read_all(alloc, commands, records) {
+            return false;
+        }
+    }
+    true
 }
 
 /// A world that begins with a journal of the first version, with the commands of these records so many times; none if they don't fit.
-pub(crate) fn old_world(
-    alloc: Global,
-    records: &[&[u8]],
-    times: u32,
-) -> Result<Option<World>, Fail> {
+/// Nothing if memory is refused, or a record is none.
+pub(crate) fn old_world(alloc: Global, records: &[&[u8]], times: u32) -> Option<Option<World>> {
     let mut commands = Vec::new(alloc);
-    let made = match read_all(alloc, &mut commands, records, times) {
-        Ok(()) => match World::new_v1(alloc, 4_096, &commands) {
-            Ok(made) => Ok(made),
-            Err(refused) => Err(Fail::from(refused)),
-        },
-        Err(fault) => Err(fault),
-    };
+    let mut made = None;
+    if read_often(alloc, &mut commands, records, times) {
+        made = World::new_v1(alloc, 4_096, &commands).ok();
+    }
     drop(commands);
     made
 }

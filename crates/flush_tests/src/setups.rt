@@ -9,6 +9,16 @@ use flush_core::{Flusher, Width};
 use frame_core::{Bytes, Headers};
 use outbox_core::{OutSender, Silent};
 use std::alloc::Global;
+use std::process::Abort;
+
+/// The two assertions of almost all tests. In a function of their own they are proved once.
+pub(crate) fn expect(rt: &impl Abort, is_right: bool) {
+    assert!(rt; is_right);
+}
+
+pub(crate) fn expect_none(rt: &impl Abort, wrong: Option<u64>) {
+    assert_eq!(rt; wrong, None);
+}
 
 pub(crate) type TestRing = BrokerRing<OutSender<Silent>>;
 

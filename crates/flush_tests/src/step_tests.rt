@@ -2,14 +2,13 @@
 
 use crate::beginnings::Beginning;
 use crate::deeds::{Deed, Leaving};
+use crate::series::{Series, first_wrong};
+use crate::setups::{expect, expect_none};
 use crate::trials::{CALM, Findings, Trial, calls_before, try_out};
 use claim_core::NotYet;
 use disk_core::Call;
 use flush_core::FlushFault;
-use log::{Log, info};
 use std::alloc::{AllocError, Global};
-use std::process::Abort;
-use std::test::Fail;
 
 // Two sessions are open and have sent three messages.
 const SENT: Trial = Trial {
@@ -52,78 +51,90 @@ fn are_of_block(calls: &[Call], before: usize, count: usize) -> bool {
     }
 }
 
-fn expect_steps(rt: &impl Abort, alloc: Global, findings: &mut Findings) {
+/// The place of the first of those rows of which something else comes.
+pub(crate) fn first_wrong_step(alloc: Global, findings: &mut Findings) -> Option<u64> {
     try_out(alloc, SENT, findings);
-    assert!(rt; findings.begun, "no flusher was made");
-    let before = findings.calls.len();
-    for (calls, deed) in STEPS {
-        try_out(alloc, Trial { deed, ..SENT }, findings);
-        assert_eq!(rt; findings.done, Some(true), "{calls} calls");
-        assert!(rt;
-            are_of_block(&findings.calls, before, calls),
-            "{calls} calls"
+    let (begun, before) = (findings.begun, findings.calls.len());
+    for (place, (calls, deed)) in STEPS.iter().enumerate() {
+        try_out(
+            alloc,
+            Trial {
+                deed: *deed,
+                ..SENT
+            },
+            findings,
         );
+        let is_done = begun && findings.done == Some(true);
+        if !is_done || !are_of_block(&findings.calls, before, *calls) {
+            return Some(place as u64);
+        }
     }
+    None
 }
 
 #[test]
-fn each_step_of_a_turn_does_its_part_alone(rt: HostRuntime) -> Result<(), Fail> {
-    let mut findings = Findings::new(rt.alloc());
-    expect_steps(&rt, rt.alloc(), &mut findings);
-    drop(findings);
-    Ok(())
+fn each_step_of_a_turn_does_its_part_alone(rt: HostRuntime) {
+    expect_none(&rt, first_wrong(rt.alloc(), Series::Steps));
 }
 
-#[test]
-fn a_second_gather_takes_more_while_a_batch_waits(rt: HostRuntime) -> Result<(), Fail> {
-    let mut findings = Findings::new(rt.alloc());
+/// Whether what is gathered twice is one batch.
+pub(crate) fn is_gathered_twice(alloc: Global, findings: &mut Findings) -> bool {
     let trial = Trial {
         deed: Deed::GatherTwice,
         ..SENT
     };
-    try_out(rt.alloc(), trial, &mut findings);
-    let done = findings.done;
-    drop(findings);
-    assert_eq!(rt; done, Some(true));
-    Ok(())
+    try_out(alloc, trial, findings);
+    findings.done == Some(true)
 }
 
-fn expect_breaks(rt: &(impl Abort + Log), alloc: Global, findings: &mut Findings) {
+#[test]
+fn a_second_gather_takes_more_while_a_batch_waits(rt: HostRuntime) {
+    expect_none(&rt, first_wrong(rt.alloc(), Series::GatherTwice));
+}
+
+/// Each of the four calls of a block may be the one that fails, in both ways. Answers the first that leaves something else.
+pub(crate) fn first_wrong_break(alloc: Global, findings: &mut Findings) -> Option<u64> {
     let before = calls_before(alloc, SENT, findings);
     for turn in 0..8_u64 {
-        let (calls, in_a_turn) = (turn / 2, turn % 2 == 1);
-        info!(rt; "a block: the disk stops after {calls} calls");
         let trial = Trial {
-            deed: Deed::Break(in_a_turn),
-            passed: before.saturating_add(calls),
+            deed: Deed::Break(turn % 2 == 1),
+            passed: before.saturating_add(turn / 2),
             ..SENT
         };
         try_out(alloc, trial, findings);
-        assert!(rt; findings.is(false, 2), "{calls} calls");
+        if !findings.is(false, 2) {
+            return Some(turn / 2);
+        }
     }
-}
-
-// Each of the four calls of a block may be the one that fails, in both ways.
-#[test]
-fn a_flusher_whose_disk_fails_stays_broken(rt: HostRuntime) -> Result<(), Fail> {
-    let mut findings = Findings::new(rt.alloc());
-    expect_breaks(&rt, rt.alloc(), &mut findings);
-    drop(findings);
-    Ok(())
+    None
 }
 
 #[test]
-fn each_fault_has_its_text(rt: HostRuntime) -> Result<(), Fail> {
-    let faults = format!(in rt.alloc();
+fn a_flusher_whose_disk_fails_stays_broken(rt: HostRuntime) {
+    expect_none(&rt, first_wrong(rt.alloc(), Series::Breaks));
+}
+
+// Whether the faults have these texts.
+fn are_told(alloc: Global) -> bool {
+    let faults = format!(in alloc;
         "{}; {}; {}; {}",
         FlushFault::Device,
         FlushFault::Full,
         FlushFault::Broken,
         FlushFault::Memory(AllocError),
-    )?;
-    assert_eq!(rt;
-        faults.as_str(),
-        "J3 device failed; J4 journal full; J6 store broken; no memory"
     );
-    Ok(())
+    match faults {
+        Ok(text) => {
+            let is_same = text.as_str()
+                == "J3 device failed; J4 journal full; J6 store broken; no memory";
+            drop(text);
+            is_same
+        }
+        Err(_) => false,
+    }
+}
+
+#[test]
+fn each_fault_has_its_text(rt: HostRuntime) {
+    expect(&rt, are_told(rt.alloc()));
 }

@@ -2,10 +2,9 @@
 //! claims and is ready at once. A stop comes after each device call. It leaves unsynced bytes as they were before, or makes all of them one
 //! of three bytes.
 use crate::schedules::{append, claim, open};
+use crate::setups::expect;
 use frame_core::Bytes;
 use std::alloc::{AllocError, Global};
-use std::process::Abort;
-use std::test::Fail;
 use world_core::{CallKind, Event, World};
 
 // Who is next, nine times: session 0, which has two turns, session 1, which has one, or the flusher, which has six.
@@ -144,113 +143,120 @@ fn image(
     Ok(image)
 }
 
+// Whether the world stops at this image, and opens with so many commands.
+fn opens(world: &mut World, image: Vec<u8>, wanted: u64) -> bool {
+    let stopped = world.apply(Event::Crash(Bytes::new(image)));
+    let seen = world.apply(Event::Look(0));
+    let opened = open(world);
+    matches!(stopped, Ok(true))
+        && matches!(seen, Ok(false))
+        && matches!(opened, Ok(true))
+        && world.base() == wanted
+}
+
 // Stops and opens: all that is stored is there, and so is a block whose gate is not synced, if the gate is 1.
-fn stop(
-    rt: &impl Abort,
-    alloc: Global,
-    world: &mut World,
-    synced: &[u8],
-    gated: bool,
-    fill: Option<u8>,
-) -> Result<(), AllocError> {
+fn stops(alloc: Global, world: &mut World, synced: &[u8], gated: bool, fill: Option<u8>) -> bool {
     let wanted = if gated && fill == Some(1) {
         world.taken()
     } else {
         world.stored()
     };
-    let image = image(alloc, world.content(), synced, fill)?;
-    let stopped = world.apply(Event::Crash(Bytes::new(image)))?;
-    let seen = world.apply(Event::Look(0))?;
-    let opened = open(world)?;
-    assert_eq!(rt;
-        (stopped, seen, opened, world.base()),
-        (true, false, true, wanted),
-        "{fill:?}"
-    );
-    Ok(())
+    match image(alloc, world.content(), synced, fill) {
+        Ok(image) => opens(world, image, wanted),
+        Err(_) => false,
+    }
 }
 
-// Runs these turns and stops. It answers whether anything was unsynced then.
-fn run_turns(
-    rt: &impl Abort,
+// Runs these turns, each of which has to be possible.
+fn run_turns(world: &mut World, synced: &mut Vec<u8>, so_far: &mut SoFar, turns: &[u8]) -> bool {
+    for turn in turns {
+        if !matches!(take_turn(world, synced, so_far, *turn), Ok(true)) {
+            return false;
+        }
+    }
+    true
+}
+
+// Runs these turns and stops. It answers whether anything was unsynced then; nothing if something else came than should.
+fn run_and_stop(
     alloc: Global,
     world: &mut World,
     synced: &mut Vec<u8>,
     turns: &[u8],
     fill: Option<u8>,
-) -> Result<bool, AllocError> {
+) -> Option<bool> {
     let mut so_far = SoFar {
         done: [0; 2],
         gated: false,
     };
-    keep(world, synced)?;
-    for turn in turns {
-        let possible = take_turn(world, synced, &mut so_far, *turn)?;
-        assert!(rt; possible);
+    keep(world, synced).ok()?;
+    if !run_turns(world, synced, &mut so_far, turns) {
+        return None;
     }
     let unsynced = world.content() != synced.as_slice();
-    stop(rt, alloc, world, synced, so_far.gated, fill)?;
-    Ok(unsynced)
+    if stops(alloc, world, synced, so_far.gated, fill) {
+        Some(unsynced)
+    } else {
+        None
+    }
 }
 
-fn check(
-    rt: &impl Abort,
-    alloc: Global,
-    synced: &mut Vec<u8>,
-    turns: &[u8],
-    fill: Option<u8>,
-) -> Result<bool, AllocError> {
+fn check(alloc: Global, synced: &mut Vec<u8>, turns: &[u8], fill: Option<u8>) -> Option<bool> {
     match World::new(alloc, 4_096) {
         Ok(mut world) => {
-            let unsynced = run_turns(rt, alloc, &mut world, synced, turns, fill);
+            let unsynced = run_and_stop(alloc, &mut world, synced, turns, fill);
             drop(world);
             unsynced
         }
-        Err(refused) => Err(refused),
+        Err(_) => None,
     }
 }
 
+// Stops after these turns with each fill, if anything is unsynced then.
+fn check_fills(alloc: Global, synced: &mut Vec<u8>, turns: &[u8]) -> Option<()> {
+    if check(alloc, synced, turns, None)? {
+        for fill in [0, 1, 0x37] {
+            check(alloc, synced, turns, Some(fill))?;
+        }
+    }
+    Some(())
+}
+
 // Stops after each device call of a schedule, unless another with the same beginning does, and counts the stops.
-fn check_each(
-    rt: &impl Abort,
-    alloc: Global,
-    synced: &mut Vec<u8>,
-    turns: &Turns,
-) -> Result<u64, AllocError> {
+fn check_each(alloc: Global, synced: &mut Vec<u8>, turns: &Turns) -> Option<u64> {
     let mut stops = 0_u64;
     for end in 1..10 {
         if turns_for(&turns[..end], 2) < 3 || turns[end - 1] != 2 || !is_rising(&turns[end..]) {
             continue;
         }
-        if check(rt, alloc, synced, &turns[..end], None)? {
-            for fill in [0, 1, 0x37] {
-                check(rt, alloc, synced, &turns[..end], Some(fill))?;
-            }
-        }
+        check_fills(alloc, synced, &turns[..end])?;
         stops = stops.saturating_add(1);
     }
-    Ok(stops)
+    Some(stops)
 }
 
-fn check_all(rt: &impl Abort, alloc: Global, synced: &mut Vec<u8>) -> Result<u64, AllocError> {
+fn check_all(alloc: Global, synced: &mut Vec<u8>) -> Option<u64> {
     let mut stops = 0_u64;
     for number in 0..19_683 {
         let turns = turns_of(number);
         if turns_for(&turns, 0) == 2 && turns_for(&turns, 1) == 1 {
-            stops = stops.saturating_add(check_each(rt, alloc, synced, &turns)?);
+            stops = stops.saturating_add(check_each(alloc, synced, &turns)?);
         }
     }
-    Ok(stops)
+    Some(stops)
+}
+
+fn count_stops(alloc: Global) -> Option<u64> {
+    let mut synced = Vec::new(alloc);
+    let stops = check_all(alloc, &mut synced);
+    drop(synced);
+    stops
 }
 
 // How many beginnings of schedules end with a device call.
 const STOPS: u64 = 559;
 
 #[test]
-fn a_stop_leaves_all_that_is_stored(rt: HostRuntime) -> Result<(), Fail> {
-    let mut synced = Vec::new(rt.alloc());
-    let stops = check_all(&rt, rt.alloc(), &mut synced);
-    drop(synced);
-    assert_eq!(rt; stops?, STOPS);
-    Ok(())
+fn a_stop_leaves_all_that_is_stored(rt: HostRuntime) {
+    expect(&rt, count_stops(rt.alloc()) == Some(STOPS));
 }
