@@ -187,7 +187,10 @@ fn makes(rt: &(impl Files<File = File> + Alloc), path: &str, step: FileStep) -> 
     }
 }
 
-fn first_wrong(rt: &(impl Files<File = File> + Alloc), steps: &[(&str, FileStep)]) -> Option<usize> {
+fn first_wrong(
+    rt: &(impl Files<File = File> + Alloc),
+    steps: &[(&str, FileStep)],
+) -> Option<usize> {
     for (place, (path, step)) in steps.iter().enumerate() {
         if !makes(rt, path, *step) {
             return Some(place);
