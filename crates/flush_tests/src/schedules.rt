@@ -1,4 +1,6 @@
 //! Events in short, and worlds in which they happen.
+ghost use Rattle.std.specs.Prelude.{◌≤◌};
+
 use crate::setups::send_to;
 use command_core::{Command, Op, decode};
 use frame_core::Bytes;
@@ -194,7 +196,9 @@ fn first_wrong(alloc: Global, world: &mut World, parts: &[&[(Pick, bool)]]) -> O
 }
 
 /// Plays a schedule of these parts in a world whose areas have so many bytes. It answers with the place of the first that goes otherwise.
-pub(crate) fn play(alloc: Global, bytes: u64, parts: &[&[(Pick, bool)]]) -> Option<u64> {
+pub(crate) fn play(alloc: Global, bytes: u64, parts: &[&[(Pick, bool)]]) -> Option<u64>
+    requires { (4096 ≤ bytes) × (bytes ≤ 1048576) }
+{
     match World::new(alloc, bytes) {
         Ok(mut world) => {
             let wrong = first_wrong(alloc, &mut world, parts);
