@@ -1,4 +1,5 @@
 pub mod Epochs
+pub mod Headers
 pub mod Overwritten
 pub mod Pairs
 pub mod Patched

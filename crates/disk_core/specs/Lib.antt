@@ -7,6 +7,7 @@ pub mod Fuse
 pub mod Images
 pub mod Kept
 pub mod Lasting
+pub mod Losses
 pub mod Memory
 pub mod Moments
 pub mod Naming

@@ -18,17 +18,6 @@ pub(crate) fn fail(failures: &mut u64) -> Result<(), DeviceFault>
     Err(DeviceFault)
 }
 
-// What became of a call, from its outcome, as a device answers it.
-pub(crate) fn count<E: Drop>(outcome: Result<(), E>, failures: &mut u64) -> Result<(), DeviceFault>
-    ensures variant { is_ok result ≡ is_ok outcome }
-    ensures cause { HasCause failures.old failures.new result }
-{
-    match outcome {
-        Ok(()) => Ok(()),
-        Err(_) => fail(failures),
-    }
-}
-
 // What became of a call, from whether it was done.
 pub(crate) fn tell(done: bool, failures: &mut u64) -> Result<(), DeviceFault>
     ensures variant { is_ok result ≡ done }

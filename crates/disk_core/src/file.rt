@@ -1,9 +1,12 @@
 //! A disk in a real file.
-ghost use Rattle.std.specs.Prelude.{◌≡◌, replicate, IfOk, ⊤};
+ghost use Rattle.std.specs.Prelude.{◌≡◌, None, replicate, drop, take, IfOk, ⊤};
+ghost use Rattle.disk_core.specs.File.{IsSameFile};
+ghost use Rattle.disk_core.specs.declared.file.TheConstants.{SLACK_AT, SLACK_BYTES};
 
-use crate::faults::count;
-use crate::naming::{Naming, folder_of};
-use crate::{DeviceFault, Disk};
+use crate::loss::{HEADER_BYTES, Known, Node, judge, remember, touches_header};
+use crate::naming::{Naming, Place, folder_of};
+use crate::{DeviceCause, DeviceFault, Disk};
+use std::alloc::Global;
 use std::fs::{File, OpenOptions, TryLockError};
 use std::io::{Seek, SeekFrom};
 use std::os::unix::fs::{FileExt, OpenOptionsExt};
@@ -47,28 +50,51 @@ impl From<io::Error> for OpenError {
     }
 }
 
+/// A path of a file, and the system in which it has that path.
+#[derive(Clone, Copy)]
+pub struct FileAt<'a> {
+    pub host: HostRuntime,
+    pub path: &'a str,
+}
+
 /// A disk in a file of the operating system.
 ///
 /// It claims nothing of its content and images, since no contract knows what a file holds: it is never honest. A sync
 /// asks the system to have the bytes on the device (`fdatasync`); the size is there since the file was made. The first
-/// one after opening also writes the first bytes back as they read: after a sync that failed under an earlier process
-/// they may be on the way to the device no more. Nothing keeps another process from writing the file: a lock binds only those that ask for it. A read
-/// fails if the file no longer has the range, and a sync if the file was cut or has no name any more.
+/// one after opening also writes back some bytes of the header as they were read: after a sync that failed under an earlier process the header's
+/// page may be on the way to the device no more. These bytes mean nothing, so that a loss of power may leave any in their place.
+///
+/// Nothing keeps another process from writing the file: a lock binds only those that ask for it. A read
+/// fails if the file no longer has the range; a sync if the file was cut, or its path names nothing or another file. A write fails before it
+/// begins if the first bytes of the last write are others now; one that changes the header, also if the header isn't what was read at the
+/// opening or written last. `look` looks for all of these. The cause of the first failure is kept.
 #[derive(Drop)]
 pub struct FileDisk {
     file: File,
-    size: u64,
+    known: Known,
     failures: u64,
-    // Whether the first bytes were not written back since the file was opened.
+    cause: Option<DeviceCause>,
+    // Whether no bytes were written back since the file was opened.
     is_stale: bool,
     naming: Naming,
 }
 
-// How many bytes are written back: a journal's header.
-const HEADER: usize = 32;
+/// From which byte of a file on some are written back by the first sync, and how many. In a journal's header they follow the selector, and are
+/// never read.
+pub const SLACK_AT: u64 = 17;
+
+pub const SLACK_BYTES: u64 = 15;
+
+// The bytes of the header that are written back.
+fn slack_of(header: &[u8; HEADER_BYTES]) -> &[u8]
+    ensures { result.now ≡ take SLACK_BYTES (drop SLACK_AT header.now) }
+{
+    let (at, count) = (SLACK_AT as usize, SLACK_BYTES as usize);
+    &header[at..at + count]
+}
 
 impl FileDisk {
-    ghost use Rattle.disk_core.specs.File.{file_size, file_failures};
+    ghost use Rattle.disk_core.specs.File.{file_cause, file_failures, file_size};
 
     /// Makes a file of `size` zeros, which only its owner may read and write, and syncs it and its name to the device.
     /// A file that already exists is left as it is. If the new file cannot be sized or synced, it is removed again.
@@ -86,35 +112,39 @@ impl FileDisk {
             .create_new(true)
             .mode(0o600)
             .open(rt, path)?;
-        if let Err(error) = settle(rt, &file, path, size) {
-            let _ = std::fs::remove_file(rt, path);
-            return Err(OpenError::System(error));
+        match settle(rt, &file, path, size) {
+            Ok(node) => {
+                let known = Known::new(node, size, [0; HEADER_BYTES]);
+                Ok(FileDisk::with(file, known, false, Naming::by_links()))
+            }
+            Err(error) => {
+                let _ = std::fs::remove_file(rt, path);
+                Err(OpenError::System(error))
+            }
         }
-        Ok(FileDisk {
-            file,
-            size,
-            failures: 0,
-            is_stale: false,
-            naming: Naming::dear(),
-        })
     }
 
     /// Opens an existing file for reading and writing, as a disk of the size that it has now.
     pub fn open<R: Files<File = File>>(rt: &R, path: &str) -> Result<FileDisk, OpenError>
         ensures { IfOk result (λ disk. file_failures disk ≡ 0) }
     {
-        FileDisk::over(opened(rt, path)?, Naming::dear())
+        FileDisk::over(opened(rt, path)?, Naming::by_links())
     }
 
-    /// The same, with the file's exclusive lock, taken before the file's size is read. The error is `Locked` if the
-    /// lock is taken. The lock belongs to the open file that the disk reads and writes, so it lasts as long as the
-    /// disk. Nothing of the file is read or written. If the file is not opened, no lock is kept.
-    pub fn open_locked<R: Files<File = File>>(rt: &R, path: &str) -> Result<FileDisk, OpenError>
+    /// The same, with the file's exclusive lock, taken before the file's size and its first bytes are read. The error is `Locked` if the
+    /// lock is taken: then nothing of the file is read. The lock belongs to the open file that the disk reads and writes, so it lasts as long as
+    /// the disk. Nothing of the file is written. If the file is not opened, no lock is kept. The disk fails once the path names another file, or
+    /// nothing.
+    pub fn open_locked(alloc: Global, at: FileAt<'_>) -> Result<FileDisk, OpenError>
         ensures { IfOk result (λ disk. file_failures disk ≡ 0) }
     {
-        let file = opened(rt, path)?;
+        let place = match Place::of(alloc, at.host, at.path) {
+            Ok(place) => place,
+            Err(refused) => return Err(OpenError::System(io::Error::from(refused))),
+        };
+        let file = opened(&at.host, at.path)?;
         match file.try_lock() {
-            Ok(()) => FileDisk::over(file, Naming::of(rt, path)),
+            Ok(()) => FileDisk::over(file, Naming::at(place)),
             Err(TryLockError::WouldBlock) => Err(OpenError::Locked),
             Err(TryLockError::Error(error)) => Err(OpenError::System(error)),
         }
@@ -129,13 +159,54 @@ impl FileDisk {
             return Err(OpenError::NotAFile);
         }
         let size = there.len();
-        Ok(FileDisk {
+        let has_header = size >= HEADER_BYTES as u64;
+        let mut header = [0; HEADER_BYTES];
+        if has_header {
+            file.read_exact_at(&mut header, 0)?;
+        }
+        let known = Known::new(Node::of(&there), size, header);
+        Ok(FileDisk::with(file, known, has_header, naming))
+    }
+
+    // A disk none of whose calls has failed.
+    fn with(file: File, known: Known, is_stale: bool, naming: Naming) -> FileDisk
+        ensures { (file_failures result ≡ 0) × (file_size result ≡ known.size) × (file_cause result ≡ None) }
+    {
+        FileDisk {
             file,
-            size,
+            known,
             failures: 0,
-            is_stale: size >= HEADER as u64,
+            cause: None,
+            is_stale,
             naming,
-        })
+        }
+    }
+
+    /// The cause of the first call that failed.
+    pub fn cause(&self) -> Option<DeviceCause>
+        ensures { result ≡ file_cause self.now }
+    {
+        self.cause
+    }
+
+    /// Looks whether the path still names the file, and whether the file has all of its bytes, the header that was read at the opening or
+    /// written last, and the first bytes of the last write. The cause if not, or if the system refuses a look. It is counted as no failure.
+    pub fn look(&self) -> Result<(), DeviceCause> {
+        let mut found = self.known.expected();
+        found.named = self.naming.look(&self.file, self.known.node)?;
+        found.size = self.file.metadata()?.len();
+        if self.known.has_header() {
+            self.file.read_exact_at(&mut found.header, 0)?;
+        }
+        self.read_last(&mut found.last)?;
+        judge(&found, &self.known)
+    }
+
+    // Reads the first bytes of the last write, as they are now.
+    fn read_last(&self, last: &mut [u8; HEADER_BYTES]) -> io::Result<()> {
+        let count = self.known.last_count.min(HEADER_BYTES);
+        self.file
+            .read_exact_at(&mut last[..count], self.known.last_at)
     }
 
     /// Writes bytes where the file may have no room yet, and tells what the system refuses. All else is as with `write_at`.
@@ -146,32 +217,49 @@ impl FileDisk {
         self.file.write_all_at(bytes, at)
     }
 
-    // Writes back and syncs, and then looks whether the file still has a name and all of its bytes.
-    fn write_back_and_sync(&mut self) -> io::Result<()>
-        ensures size { self.new.size ≡ self.old.size }
-        ensures failures { self.new.failures ≡ self.old.failures }
+    // Writes back and syncs, and then looks whether the file still has all of its bytes, and whether its path still names it.
+    fn sync_and_look(&mut self) -> Result<(), DeviceCause>
+        ensures { IsSameFile self.old self.new }
     {
-        self.write_header_back()?;
+        self.write_slack_back()?;
         self.file.sync_data()?;
-        let end = self.file.seek(SeekFrom::End(0))?;
-        if end < self.size || !self.naming.has_name(&self.file)? {
-            return Err(io::Error::from(io::ErrorKind::NotFound));
+        let mut found = self.known.expected();
+        found.size = self.file.seek(SeekFrom::End(0))?;
+        found.named = self.naming.named(&self.file, self.known.node)?;
+        judge(&found, &self.known)
+    }
+
+    // Writes some bytes of the header back as they are, unless that was done since the file was opened.
+    fn write_slack_back(&mut self) -> Result<(), DeviceCause>
+        ensures { IsSameFile self.old self.new }
+    {
+        if self.is_stale {
+            self.compare(true)?;
+            self.file
+                .write_all_at(slack_of(&self.known.header), SLACK_AT)?;
+            self.is_stale = false;
         }
         Ok(())
     }
 
-    // Writes the first bytes back as they read, unless that was done since the file was opened.
-    fn write_header_back(&mut self) -> io::Result<()>
-        ensures size { self.new.size ≡ self.old.size }
-        ensures failures { self.new.failures ≡ self.old.failures }
+    // Writes, after a look at what was written before.
+    fn write_known(&mut self, at: u64, bytes: &[u8]) -> Result<(), DeviceCause>
+        ensures { IsSameFile self.old self.new }
     {
-        if self.is_stale {
-            let mut header = [0; HEADER];
-            self.file.read_exact_at(&mut header, 0)?;
-            self.file.write_all_at(&header, 0)?;
-            self.is_stale = false;
-        }
+        self.compare(touches_header(at, self.known.size))?;
+        self.file.write_all_at(bytes, at)?;
+        self.known.note(at, bytes);
         Ok(())
+    }
+
+    // Compares the bytes of the last write with what they read as now, and the header if it is to be.
+    fn compare(&self, with_header: bool) -> Result<(), DeviceCause> {
+        let mut found = self.known.expected();
+        self.read_last(&mut found.last)?;
+        if with_header {
+            self.file.read_exact_at(&mut found.header, 0)?;
+        }
+        judge(&found, &self.known)
     }
 }
 
@@ -180,16 +268,17 @@ fn opened<R: Files<File = File>>(rt: &R, path: &str) -> io::Result<File> {
     OpenOptions::new().read(true).write(true).open(rt, path)
 }
 
-// Sizes a new file, and syncs it and the folder that has its name.
-fn settle<R: Files<File = File>>(rt: &R, file: &File, path: &str, size: u64) -> io::Result<()> {
+// Sizes a new file, and syncs it and the folder that has its name. Answers which file it is.
+fn settle<R: Files<File = File>>(rt: &R, file: &File, path: &str, size: u64) -> io::Result<Node> {
     file.set_len(size)?;
     file.sync_all()?;
-    File::open(rt, folder_of(path))?.sync_all()
+    File::open(rt, folder_of(path))?.sync_all()?;
+    Ok(Node::of(&file.metadata()?))
 }
 
 impl Disk for FileDisk {
     // Only its length has a meaning.
-    ghost content = { λ f. replicate f.size 0 };
+    ghost content = { λ f. replicate f.known.size 0 };
 
     ghost images = { λ _ _. ⊤ };
 
@@ -210,21 +299,29 @@ impl Disk for FileDisk {
     ghost only_now = { λ f c _. tt };
 
     fn size(&self) -> u64 {
-        self.size
+        self.known.size
     }
 
     fn read_at(&mut self, at: u64, into: &mut [u8]) -> Result<(), DeviceFault> {
-        let outcome = self.file.read_exact_at(into, at);
-        count(outcome, &mut self.failures)
+        let outcome = as_cause(self.file.read_exact_at(into, at));
+        remember(outcome, &mut self.cause, &mut self.failures)
     }
 
     fn write_at(&mut self, at: u64, bytes: &[u8]) -> Result<(), DeviceFault> {
-        let outcome = self.file.write_all_at(bytes, at);
-        count(outcome, &mut self.failures)
+        let outcome = self.write_known(at, bytes);
+        remember(outcome, &mut self.cause, &mut self.failures)
     }
 
     fn sync(&mut self) -> Result<(), DeviceFault> {
-        let outcome = self.write_back_and_sync();
-        count(outcome, &mut self.failures)
+        let outcome = self.sync_and_look();
+        remember(outcome, &mut self.cause, &mut self.failures)
+    }
+}
+
+// The outcome, with the cause of the error.
+fn as_cause(outcome: io::Result<()>) -> Result<(), DeviceCause> {
+    match outcome {
+        Ok(()) => Ok(()),
+        Err(error) => Err(DeviceCause::from(error)),
     }
 }

@@ -1,12 +1,15 @@
-//! Whether an open file still has its name, at the cost of a look at its folder.
+//! What the path of an open file names, at the cost of a look at the folder.
 //!
 //! A look at the file itself makes the next sync dear: since Linux 6.13 a file whose times were read gets new ones with its next write,
 //! and the sync writes them too.
 ghost use Rattle.std.specs.Prelude.{◌≡◌, ◌-◌, ◌↔◌, IsTrue, MatchBool};
-ghost use Rattle.disk_core.specs.Naming.{Holds, IsBefore, IsOf};
+ghost use Rattle.disk_core.specs.Naming.{Holds, IsBefore, IsCounted, IsOf, StandsFor, says_missing};
 
-use std::fs::{File, Metadata, symlink_metadata};
+use crate::loss::{Node, is_named};
+use std::alloc::{AllocError, Global};
+use std::fs::{File, Metadata, metadata, symlink_metadata};
 use std::io;
+use std::io::ErrorKind;
 use std::os::unix::fs::MetadataExt;
 use std::path::Path;
 use std::rt::Files;
@@ -41,16 +44,16 @@ impl Noted {
     }
 }
 
-// The last look at a file, as far as it still tells that the file has a name.
+// The last look at a path, as far as it still shows that the path names the file.
 #[derive(Drop)]
 struct Look {
-    // The folder's last change, if the file was seen to have a name after it.
+    // The folder's last change, if the path was seen to name the file after it.
     seen: Option<Noted>,
     // How many more calls it may stand for.
     left: u8,
 }
 
-// How many calls in turn do without a look at the file.
+// How many calls in turn do without a look at the path.
 const MOST: u8 = 63;
 
 impl Look {
@@ -67,12 +70,12 @@ impl Look {
         holds
     }
 
-    // A look at a file that was written at that time and has so many names, after the folder had last changed. A change in the moment
-    // of the writing may be followed by another with the same time.
-    fn of(changed: Noted, written: Noted, names: u64) -> Look
-        ensures { IsOf changed written names result }
+    // A look after the folder had last changed, at a path that names the file or doesn't. The file was written at that time. A change in the
+    // moment of the writing may be followed by another with the same time.
+    fn of(changed: Noted, written: Noted, is_named: bool) -> Look
+        ensures { IsOf changed written is_named result }
     {
-        let seen = if names > 0 && changed.is_before(written) {
+        let seen = if is_named && changed.is_before(written) {
             Some(changed)
         } else {
             None
@@ -81,47 +84,103 @@ impl Look {
     }
 }
 
-/// What tells whether a file still has its name. Whoever removes a file, or renames another over it, changes its folder. So the file is
-/// looked at only after such a change, and at each 64th call, since it may be mounted there from elsewhere.
+// Whether the last look, if there was one, stands for one more call, in which the folder had last changed at that time.
+fn stands(last: &mut Option<Look>, changed: Noted) -> bool
+    ensures stands { IsTrue result ↔ StandsFor last.old changed }
+    ensures counted { IsCounted result last.old last.new }
+{
+    match last {
+        Some(look) => look.holds(changed),
+        None => false,
+    }
+}
+
+/// A path, and the system that names a file by it.
 #[derive(Drop)]
-pub struct Naming {
+pub(crate) struct Place {
+    host: HostRuntime,
+    path: String,
+}
+
+impl Place {
+    pub(crate) fn of(alloc: Global, host: HostRuntime, path: &str) -> Result<Place, AllocError> {
+        let path = String::from_str(alloc, path)?;
+        Ok(Place { host, path })
+    }
+
+    // The file that the path names, after all links, or `None` if it names nothing.
+    fn named(&self) -> io::Result<Option<Node>> {
+        match metadata(&self.host, self.path.as_str()) {
+            Ok(there) => Ok(Some(Node::of(&there))),
+            Err(error) if is_missing(error.kind()) => Ok(None),
+            Err(error) => Err(error),
+        }
+    }
+}
+
+// Whether an error of that kind says that a path names nothing: its last part is missing, or one before it is missing or no folder.
+fn is_missing(kind: ErrorKind) -> bool
+    ensures { result ≡ says_missing kind }
+{
+    matches!(kind, ErrorKind::NotFound | ErrorKind::NotADirectory)
+}
+
+/// What tells which file a path names. Whoever removes or renames a file, or renames another over it, changes its folder. So the path is
+/// looked at only after such a change, and at each 64th call, since a file may be mounted there, or a folder above be renamed.
+#[derive(Drop)]
+pub(crate) struct Naming {
+    // The path; without one, a file is named for as long as it has a name at all.
+    place: Option<Place>,
     // The folder, unless it can't be read, or the file is elsewhere and a link leads there.
     folder: Option<File>,
     last: Option<Look>,
 }
 
 impl Naming {
-    /// Each call looks at the file.
-    pub fn dear() -> Naming {
+    /// Each call looks at the file, under whichever names it has.
+    pub(crate) fn by_links() -> Naming {
         Naming {
+            place: None,
             folder: None,
             last: None,
         }
     }
 
-    /// The naming of the file at `path`.
-    pub fn of<R: Files<File = File>>(rt: &R, path: &str) -> Naming {
-        match own_folder(rt, path) {
-            Ok(folder) => Naming { folder, last: None },
-            Err(_refused) => Naming::dear(),
+    /// The naming of the file at a path.
+    pub(crate) fn at(place: Place) -> Naming {
+        let folder = match own_folder(&place.host, place.path.as_str()) {
+            Ok(folder) => folder,
+            Err(_refused) => None,
+        };
+        Naming {
+            place: Some(place),
+            folder,
+            last: None,
         }
     }
 
-    /// Whether the file has a name. It was written since the last call.
-    pub fn has_name(&mut self, file: &File) -> io::Result<bool> {
+    /// The file that the path names, as far as the last look doesn't still show that it is this one, which was written since the last call.
+    pub(crate) fn named(&mut self, file: &File, node: Node) -> io::Result<Option<Node>> {
         let Some(folder) = &self.folder else {
-            return Ok(file.metadata()?.nlink() > 0);
+            return self.look(file, node);
         };
         let changed = Noted::of(&folder.metadata()?);
-        if let Some(last) = &mut self.last
-            && last.holds(changed)
-        {
-            return Ok(true);
+        if stands(&mut self.last, changed) {
+            return Ok(Some(node));
         }
-        let there = file.metadata()?;
-        let names = there.nlink();
-        self.last = Some(Look::of(changed, Noted::of(&there), names));
-        Ok(names > 0)
+        let named = self.look(file, node)?;
+        let written = Noted::of(&file.metadata()?);
+        self.last = Some(Look::of(changed, written, is_named(named, node)));
+        Ok(named)
+    }
+
+    /// The file that the path names now.
+    pub(crate) fn look(&self, file: &File, node: Node) -> io::Result<Option<Node>> {
+        match &self.place {
+            Some(place) => place.named(),
+            None if file.metadata()?.nlink() > 0 => Ok(Some(node)),
+            None => Ok(None),
+        }
     }
 }
 
