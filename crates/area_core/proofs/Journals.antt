@@ -1,7 +1,8 @@
 -- What writes behind the header keep of a journal.
 use Rattle.std.proofs.Common.{◌≡◌, ◌⊎◌, inl, inr, ℕ, ◌+◌, ◌-◌, ◌≤◌, Bool, true, false, List, [], ◌∷◌, ◌++◌, length, drop, get_or, refl, sym, ◌∙◌, subst, arith}
 use Rattle.disk_core.specs.Images.{patched, Torn}
-use Rattle.disk_core.proofs.Torn.{take_before, byte_outside, torn_patched}
+use Rattle.disk_core.proofs.Torn.{take_before, drop_after, byte_outside, torn_patched}
+use Rattle.disk_core.specs.declared.file.TheConstants.{SLACK_AT, SLACK_BYTES}
 use Rattle.disk_core.proofs.Patched.{length-patched}
 use Rattle.command_core.specs.Commands.{CommandValue}
 use Rattle.area_core.specs.declared.version.Version.{Version}
@@ -49,6 +50,16 @@ stays version size selector snapshot bs at n d c r le torn = record {
   journal = journal_stays size selector at n d c r.journal (omega (arith, le, start_least size (is_odd selector))) torn;
   area = area_stays version size (start size (is_odd selector)) snapshot bs at n d c r.area le torn;
 }
+
+-- bytes between the selector and the areas mean nothing
+pub reads_torn : (version : Version) (size selector : ℕ) (snapshot : List ℕ) (bs : List (List CommandValue)) (d c : List ℕ) → Torn SLACK_AT SLACK_BYTES d c → Reads version size selector snapshot bs d → Reads version size selector snapshot bs c
+reads_torn version size selector snapshot bs d c torn r =
+    let base = start size (is_odd selector) in
+    let same = drop_after SLACK_AT SLACK_BYTES base d c torn (start_least size (is_odd selector)) in
+    record {
+      journal = journal_stays size selector SLACK_AT SLACK_BYTES d c r.journal (omega arith) torn;
+      area = subst (λ (l : List ℕ). IsArea version size snapshot bs l) (sym same) r.area;
+    }
 
 module _ (version : Version) (size selector : ℕ) (snapshot : List ℕ) (bs : List (List CommandValue)) (b : List CommandValue) (gate : ℕ) (d : List ℕ)
     (form : IsBlock b) (room : length (front version snapshot bs) + 10 + length (records b) ≤ size) (reads : Reads version size selector snapshot bs d) (at : gate ≡ start size (is_odd selector) + length (front version snapshot bs)) where

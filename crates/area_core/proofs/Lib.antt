@@ -2,10 +2,11 @@ pub mod Appends
 pub mod Areas
 pub mod Batches
 pub mod Closings
+pub mod Formatted
 pub mod Journals
+pub mod Named
 pub mod Ranges
 pub mod RecordsRead
-pub mod Formatted
 pub mod Single
 pub mod Switches
 pub mod Unwritten

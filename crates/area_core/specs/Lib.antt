@@ -4,6 +4,7 @@ pub mod Closing
 pub mod Damage
 pub mod Held
 pub mod Journals
+pub mod Making
 pub mod Puts
 pub mod Reading
 pub mod Steps

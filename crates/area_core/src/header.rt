@@ -43,7 +43,7 @@ pub(crate) fn fetch_number<D: Disk>(disk: &mut D, at: u64) -> Result<u64, Device
 }
 
 // Whether the bytes are those wanted.
-fn are(bytes: &[u8], wanted: &[u8]) -> bool
+pub(crate) fn are(bytes: &[u8], wanted: &[u8]) -> bool
     ensures { IsTrue result ↔ bytes.now ≡ wanted.now }
 {
     bytes == wanted

@@ -3,6 +3,7 @@ pub mod Formatted
 pub mod Opens
 pub mod Single
 pub mod Sizes
+pub mod Slack
 pub mod Stores
 pub mod Sums
 pub mod Walking

@@ -6,9 +6,9 @@ mod compacting;
 mod faults;
 mod folding;
 mod law;
+mod making;
 mod opening;
 mod reading;
-mod replacing;
 mod seen;
 mod size_law;
 mod snapshot;
@@ -17,7 +17,11 @@ mod stored;
 mod storing;
 
 pub use faults::OpenFault;
-pub use law::{a_formatted_journal_stands_for_the_empty_state, an_image_stands_for_one_state};
+pub use law::{
+    a_formatted_journal_stands_for_the_empty_state, an_image_stands_for_one_state,
+    bytes_that_are_written_back_mean_nothing,
+};
+pub use making::make_holding;
 pub use opening::open;
 pub use seen::{Seen, read};
 pub use size_law::restarts_fit_large_areas;

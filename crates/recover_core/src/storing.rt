@@ -25,6 +25,13 @@ impl<D: Disk> Store<D> {
         self.opened.take()
     }
 
+    /// The disk that the journal stands on.
+    pub fn disk(&self) -> &D
+        ensures { result.now ≡ disk_of self.now }
+    {
+        &self.disk
+    }
+
     /// How many bytes each of the journal's two areas has.
     pub fn size(&self) -> u64
         ensures { result ≡ size_of self.now }
