@@ -1,11 +1,12 @@
 -- What is counted of commands and topics.
-use Rattle.std.specs.Prelude.{◌+◌, ◌-◌, ◌*◌, ◌/◌, ◌%◌, ◌^◌, ◌≡◌, ◌≢◌, ℕ, List, [], ◌∷◌, Option, None, Some, cond, max, min, nat_le, bit_xor, fold, length, sum_by}
+use Rattle.std.specs.Prelude.{◌+◌, ◌-◌, ◌*◌, ◌/◌, ◌%◌, ◌^◌, ◌≡◌, ◌≢◌, ℕ, List, [], Option, None, Some, cond, max, min, nat_le, bit_xor, fold, length, sum_by}
 use Rattle.std.specs.List.{AllByRecursion}
 use Rattle.command_core.specs.declared.command.Op.{Op}
 use Rattle.command_core.specs.declared.command.Op.TheVariants.{Subscribe, Send, Commit}
 use Rattle.command_core.specs.declared.member.Member.{Member}
 use Rattle.command_core.specs.declared.member.Member.TheVariants as members
 use Rattle.command_core.specs.Destinations.{is_queue}
+use Rattle.work_share.specs.declared.audiences.TheConstants.{MOST_COPIES}
 use Rattle.work_share.specs.declared.sample.Sample.{Sample}
 use Rattle.work_share.specs.declared.sample.Sample.TheVariants.{Nothing, Joins, Hears}
 
@@ -71,5 +72,5 @@ place_told (Hears place _) = Some place
 -- What is too much falls slowly, since topics share a place.
 abbrev pub audience_after : Sample → (known outs : ℕ) → ℕ
 audience_after Nothing known outs = known
-audience_after (Joins _) known outs = min most (known + 1)
+audience_after (Joins _) known outs = min (known + 1) MOST_COPIES
 audience_after (Hears _ count) known outs = max (outs / max count 1) (known - known / 16)

@@ -1,19 +1,29 @@
--- How many commands of a desk may be under way.
-use Rattle.std.specs.Prelude.{◌≡◌, ◌⊎◌, ◌≤◌, ◌<◌, ◌+◌, ◌*◌, ℕ, Bool, true}
+-- Whether a desk may have one more command under way.
+use Rattle.std.specs.Prelude.{◌≡◌, ◌⊎◌, ◌≤◌, ◌<◌, ◌+◌, ℕ}
 use Rattle.work_share.specs.declared.granting.TheConstants.{BUDGET, GREEDY, SHARE, WIDEST}
+use Rattle.work_share.specs.declared.standing.Standing.{Standing}
+use Rattle.work_share.specs.declared.standing.Standing.TheVariants.{Alone, First, Behind}
 
--- why a desk may have so many under way, with one that costs so much, beside what costs so much: all together want little, they keep to
--- the desk's share, or it is the only one, and nothing else is under way, or the budget has room and no other has waited longer
-abbrev pub IsGranted : (cost all : ℕ) (is_first : Bool) (window : ℕ) → Type 0
-IsGranted cost all is_first window =
-    (all + cost ≤ GREEDY) ⊎ (window * cost ≤ SHARE) ⊎ ((window ≡ 1) × ((all ≡ 0) ⊎ ((is_first ≡ true) × (all + cost ≤ BUDGET))))
+-- a dear command, which no share holds, finds room in the whole budget
+abbrev pub FitsBudget : (cost all : ℕ) → Type 0
+FitsBudget cost all = (SHARE < cost) × (all + cost ≤ BUDGET)
 
--- So many commands of a desk may be under way, with one that comes next and costs so much, while those of all desks under way cost so much.
--- It is one at least if nothing is under way, if the share holds it, and if no other has waited longer and the budget holds it.
-pub record IsWindow (cost all : ℕ) (is_first : Bool) (window : ℕ) : Type 0 where
-  pub most : window ≤ WIDEST
-  pub granted : 0 < window → IsGranted cost all is_first window
-  pub alive : all ≡ 0 → 0 < window
-  pub share : cost ≤ SHARE → 0 < window
-  pub fair : is_first ≡ true → all + cost ≤ BUDGET → 0 < window
-  pub wide : all + cost ≤ GREEDY → window ≡ WIDEST
+-- what the room of all allows beyond a desk's share: while nobody waits what all want together, to the first in line the budget, and nothing
+-- to those behind it
+abbrev pub FitsAll : Standing → (cost all : ℕ) → Type 0
+FitsAll Alone cost all = (all + cost ≤ GREEDY) ⊎ FitsBudget cost all
+FitsAll First cost all = FitsBudget cost all
+FitsAll Behind cost all = ⊥
+
+-- A command may go that costs so much, beside those of its desk under way that cost `own`, and of all desks that cost `all`: it keeps to its
+-- desk's share, or all have room for it.
+abbrev pub MayGo : (cost own all : ℕ) → Standing → Type 0
+MayGo cost own all standing = (own + cost ≤ SHARE) ⊎ FitsAll standing cost all
+
+-- a command that may go finds the widest window, and any other none
+abbrev pub IsWindow : (cost own all : ℕ) → Standing → ℕ → Type 0
+IsWindow cost own all standing window = (MayGo cost own all standing × (window ≡ WIDEST)) ⊎ (¬ (MayGo cost own all standing) × (window ≡ 0))
+
+-- a dear command that may not go gets a number in line for its desk, if that has none
+abbrev pub TakesNumber : (window cost line : ℕ) → Type 0
+TakesNumber window cost line = (window ≡ 0) × (SHARE < cost) × (line ≡ 0)

@@ -1,10 +1,12 @@
 //! How many listen to each topic, as far as is known.
 
-ghost use Rattle.std.specs.Prelude.{◌≡◌, ◌≤◌, ◌*◌, ◌+◌, IfOk, length};
+ghost use Rattle.std.specs.Prelude.{◌≡◌, ◌≤◌, ◌*◌, ◌+◌, IfOk, length, min};
 ghost use Rattle.work_share.specs.Costs.{least_cost};
 ghost use Rattle.work_share.specs.Counts.{place_for};
-ghost use Rattle.work_share.specs.declared.audiences.TheConstants.{OPERATION, PLACES};
+ghost use Rattle.work_share.specs.declared.audiences.TheConstants.{DELIVERY, MOST_COPIES, OPERATION, PLACES};
+ghost use Rattle.work_share.specs.declared.granting.TheConstants.{GREEDY};
 
+use crate::granting::GREEDY;
 use crate::sample::Sample;
 use crate::words::Words;
 use command_core::{Dest, Member, Op};
@@ -19,6 +21,9 @@ pub const OPERATION: u64 = 3_000;
 
 // What a delivery costs.
 const DELIVERY: u64 = 4_000;
+
+/// To how many a message may be copied: so many messages are held at most.
+pub(crate) const MOST_COPIES: u64 = 4_096;
 
 /// How many listen to each topic, as far as is known. Topics share places, so that a count may be too large. The flusher counts, and others look.
 /// Contracts see in how many places topics are counted. The counts no contract knows, since another thread writes them.
@@ -55,18 +60,19 @@ impl Audiences {
 
     // What it costs to send a message there.
     fn cost_to(&self, destination: &Dest) -> u64
-        ensures { OPERATION ≤ result }
+        ensures { (OPERATION ≤ result) × (result ≤ GREEDY) }
     {
         let audience = match place_of(destination) {
             Some(place) => self.counts.get(place),
             None => 1,
         };
-        OPERATION.saturating_add(DELIVERY.saturating_mul(audience))
+        price(audience)
     }
 
     /// What this operation is taken to cost, in nanoseconds of a processor.
     pub fn cost(&self, op: &Op) -> u64
-        ensures { least_cost op.now ≤ result }
+        ensures least { least_cost op.now ≤ result }
+        ensures most { result ≤ GREEDY }
     {
         match op {
             Op::Send(sending) => self.cost_to(sending.destination()),
@@ -78,11 +84,12 @@ impl Audiences {
     // What it costs to carry out all members of a transaction.
     fn cost_of(&self, members: &[Member]) -> u64
         requires { length members.now ≤ 64 }
-        ensures { OPERATION * (1 + length members.now) ≤ result }
+        ensures least { OPERATION * (1 + length members.now) ≤ result }
+        ensures most { result ≤ GREEDY }
     {
         let mut cost = OPERATION;
         for member in members {
-            cost = cost.saturating_add(self.cost_of_one(member));
+            cost = together(cost, self.cost_of_one(member));
         }
         cost
     }
@@ -95,6 +102,20 @@ impl Audiences {
             Member::Ack(_) | Member::Nack(_) => OPERATION,
         }
     }
+}
+
+// What it costs to send a message to so many.
+fn price(audience: u64) -> u64
+    ensures { result ≡ OPERATION + DELIVERY * min audience MOST_COPIES }
+{
+    OPERATION + DELIVERY * audience.min(MOST_COPIES)
+}
+
+// What two parts of a command are taken to cost together.
+fn together(cost: u64, more: u64) -> u64
+    ensures { result ≡ min (cost + more) GREEDY }
+{
+    cost.saturating_add(more).min(GREEDY)
 }
 
 /// The place of a topic; `None` for a queue.

@@ -1,6 +1,6 @@
 //! What is counted of desks, over the numbers that they share.
 
-ghost use Rattle.std.specs.Prelude.{◌≡◌, ◌⊎◌, ◌≢◌, ◌<◌, ◌↔◌, IsTrue, min};
+ghost use Rattle.std.specs.Prelude.{◌≡◌, cond, min, nat_lt};
 ghost use Rattle.work_share.specs.Counts.{most, cost_from};
 
 /// What those of these commands cost that are under way at this mark. Each has its ticket, and what it costs.
@@ -16,9 +16,9 @@ pub(crate) fn under_way(commands: &[(u64, u64)], mark: u64) -> u64
     sum
 }
 
-/// Whether who has that number in line stands before who has the other one. Who has 0 stands behind all, and before nobody.
-pub(crate) fn is_before(line: u64, other: u64) -> bool
-    ensures { IsTrue result ↔ ((line ≢ 0) × ((other ≡ 0) ⊎ (line < other))) }
+/// What is left of what a desk has under way, at a mark: nothing once its last command is under that.
+pub(crate) fn left_of(sum: u64, last: u64, mark: u64) -> u64
+    ensures { result ≡ cond (nat_lt last mark) 0 sum }
 {
-    line != 0 && (other == 0 || line < other)
+    if last < mark { 0 } else { sum }
 }

@@ -3,8 +3,9 @@
 ghost use Rattle.std.specs.Prelude.{◌≡◌, ◌≤◌, IfOk, false};
 ghost use Rattle.work_share.specs.declared.granting.TheConstants.{WIDEST};
 
-use crate::counting::{is_before, under_way};
-use crate::granting::{SHARE, WIDEST, window};
+use crate::counting::{left_of, under_way};
+use crate::granting::{SHARE, WIDEST, takes_number, window};
+use crate::standing::{Standing, number_of, number_without};
 use crate::words::{Words, get, set};
 use std::alloc::{AllocError, Global};
 use std::marker::Model;
@@ -27,7 +28,7 @@ struct Load {
     asked: AtomicU64,
     // Its number in line, if it waits with a command that is dear, or 0; and the client for whose command it got that.
     line: AtomicU64,
-    client: AtomicU64,
+    holder: AtomicU64,
 }
 
 impl Load {
@@ -41,17 +42,20 @@ impl Load {
             sum: AtomicU64::new(0),
             asked: AtomicU64::new(0),
             line: AtomicU64::new(0),
-            client: AtomicU64::new(0),
+            holder: AtomicU64::new(0),
         })
     }
 
-    // What its commands cost that are under way at this mark.
+    // What its commands cost that are under way at this mark, or were at an earlier one.
     fn under_way(&self, mark: u64) -> u64 {
-        if get(&self.last) < mark {
-            0
-        } else {
-            get(&self.sum)
-        }
+        left_of(get(&self.sum), get(&self.last), mark)
+    }
+
+    // Counts anew what its commands cost that are under way at this mark, and answers it.
+    fn count(&self, mark: u64) -> u64 {
+        let sum = under_way(&self.commands(), mark);
+        set(&self.sum, sum);
+        sum
     }
 
     // The command that it has asked about last has that ticket.
@@ -63,11 +67,8 @@ impl Load {
         let place = (self.count.fetch_add(1, Ordering::SeqCst) % WIDEST as u64) as usize;
         self.tickets.set(place, ticket);
         self.costs.set(place, cost);
-        set(&self.sum, under_way(&self.commands(), mark));
         set(&self.last, ticket);
-        if cost > SHARE {
-            set(&self.line, 0);
-        }
+        self.count(mark);
     }
 
     // The tickets of its last commands, and what each of them cost.
@@ -81,15 +82,24 @@ impl Load {
 
     // It stands in line with a command of that client, with that number.
     fn stand(&self, client: u64, line: u64) {
-        set(&self.client, client);
+        set(&self.holder, client);
         set(&self.line, line);
     }
 
-    // That client has left: if its command stood in line, it does so no more.
+    // The number in line that a command of that client has.
+    fn number_of(&self, client: u64) -> u64 {
+        number_of(client, get(&self.holder), get(&self.line))
+    }
+
+    // That client's command was appended or given up: if it stood in line, it does so no more.
     fn leave(&self, client: u64) {
-        if get(&self.client) == client {
-            set(&self.line, 0);
-        }
+        let line = number_without(client, get(&self.holder), get(&self.line));
+        set(&self.line, line);
+    }
+
+    // The number in line that it has by others than that client.
+    fn number_of_others(&self, client: u64) -> u64 {
+        number_without(client, get(&self.holder), get(&self.line))
     }
 }
 
@@ -138,18 +148,20 @@ impl Loads {
             return WIDEST;
         }
         set(&own.asked, cost);
-        let window = window(cost, self.under_way(mark), self.is_first(own));
-        if window == 0 && get(&own.line) == 0 {
+        let (under_way, standing) = (own.count(mark), self.standing(desk, client, own));
+        let window = window(cost, under_way, self.under_way(mark), standing);
+        if takes_number(window, cost, get(&own.line)) {
             let line = self.line.fetch_add(1, Ordering::SeqCst);
             own.stand(client, line.saturating_add(1));
         }
         window
     }
 
-    /// The command that this desk has asked about last has that ticket.
-    pub fn appended(&self, desk: usize, ticket: u64, mark: u64) {
+    /// The command of this client of the desk that was asked about last has that ticket.
+    pub fn appended(&self, desk: usize, client: u64, ticket: u64, mark: u64) {
         if let Some(own) = self.desks.get(desk) {
             own.add(ticket, mark);
+            own.leave(client);
         }
     }
 
@@ -179,14 +191,18 @@ impl Loads {
         sum
     }
 
-    // Whether nobody stands in line before this desk.
-    fn is_first(&self, own: &Load) -> bool {
-        let stands = get(&own.line);
-        for desk in &self.desks {
-            if is_before(get(&desk.line), stands) {
-                return false;
-            }
+    // Where a command of that client of a desk stands in line. Another client's number counts as that of a desk of its own.
+    fn standing(&self, desk: usize, client: u64, own: &Load) -> Standing {
+        let number = own.number_of(client);
+        let mut standing = Standing::Alone;
+        for (place, other) in self.desks.iter().enumerate() {
+            let line = if place == desk {
+                other.number_of_others(client)
+            } else {
+                get(&other.line)
+            };
+            standing = standing.beside(line, number);
         }
-        true
+        standing
     }
 }

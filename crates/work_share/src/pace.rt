@@ -68,8 +68,8 @@ impl Pace {
         self.loads.waits(desk)
     }
 
-    /// The command that this desk has asked about last has got that ticket.
-    pub fn appended(&self, desk: usize, ticket: u64, mark: u64) {
-        self.loads.appended(desk, ticket, mark);
+    /// The command of this client of the desk that was asked about last has got that ticket.
+    pub fn appended(&self, desk: usize, client: u64, ticket: u64, mark: u64) {
+        self.loads.appended(desk, client, ticket, mark);
     }
 }

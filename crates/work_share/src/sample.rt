@@ -3,7 +3,7 @@
 ghost use Rattle.std.specs.Prelude.{◌≡◌};
 ghost use Rattle.work_share.specs.Counts.{IsSampleOf, Tells, audience_after, place_sent, place_told};
 
-use crate::audiences::place_of;
+use crate::audiences::{MOST_COPIES, place_of};
 use command_core::{Member, Op};
 
 // A count that is too large falls by this part of itself with each message to the topic.
@@ -55,7 +55,7 @@ impl Sample {
     {
         match self {
             Sample::Nothing => known,
-            Sample::Joins(_) => known.saturating_add(1),
+            Sample::Joins(_) => known.saturating_add(1).min(MOST_COPIES),
             Sample::Hears(_, count) => (outs / count.max(1)).max(known - known / FALL),
         }
     }
