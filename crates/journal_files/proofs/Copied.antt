@@ -1,20 +1,11 @@
--- What a copy stands for.
-use Rattle.std.proofs.Common.{ℕ, List, [], refl}
-use Rattle.std.proofs.Math.Logic.{∥∥₁_map}
-use Rattle.area_core.specs.declared.version.Version.TheVariants.{Two}
+-- What a copy is while it is made.
+use Rattle.std.proofs.Common.{inl, inr, ⊎_elim, ℕ, List}
 use Rattle.broker_core.specs.States.{State}
-use Rattle.recover_core.specs.Compactions.{HoldsItAlone}
-use Rattle.recover_core.specs.Opens.{HoldsOnlySnapshot}
 use Rattle.recover_core.specs.Standing.{Stands}
+use Rattle.area_core.specs.Making.{IsMaking}
+use Rattle.journal_files.specs.Copies.{IsCopy}
 
--- an image with a snapshot of the state alone stands for that state
-pub stands_alone : (size used : ℕ) (s : State) (image : List ℕ) → HoldsItAlone size used s image → Stands image s
-stands_alone size used s image alone = ∥∥₁_map alone (λ (it : HoldsOnlySnapshot size used s image). record {
-  version = Two;
-  size = size;
-  selector = it.selector;
-  snapshot = it.snapshot;
-  blocks = [];
-  reads = it.reads;
-  leads = record { first = s; spells = it.spells; is = refl };
-})
+-- a journal that stands for the state that the content stands for is a copy
+pub copying : (content before : List ℕ) (s : State) (c : List ℕ) → Stands content s → IsMaking before (λ d. Stands d s) c → IsMaking before (IsCopy content) c
+copying content before s c stands making =
+    ⊎_elim (λ unnaming. inl unnaming) (λ named. inr (⊎_elim (λ other. inl other) (λ made. inr (s, stands, made)) named)) making

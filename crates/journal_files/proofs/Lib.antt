@@ -1,3 +1,3 @@
-pub mod Gathered
 pub mod Copied
+pub mod Gathered
 pub mod Shown

@@ -1,16 +1,17 @@
 //! A copy of a journal.
 
-ghost use Rattle.std.specs.Prelude.{◌≡◌, IfOk, false};
+ghost use Rattle.std.specs.Prelude.{◌≡◌, IfErr, OnOk};
+ghost use Rattle.disk_core.specs.Calls.{Lasts, Throughout};
+ghost use Rattle.disk_core.specs.Images.{Only};
+ghost use Rattle.area_core.specs.Making.{IsMaking};
 ghost use Rattle.area_core.specs.Reading.{Quiet};
-ghost use Rattle.recover_core.specs.Standing.{StandFor};
-ghost use Rattle.journal_files.specs.Copies.{Copies};
+ghost use Rattle.journal_files.specs.Copies.{Copies, IsCopy, IsUntouchedBy, fault_of};
 
 use crate::journal_files::ShowFault;
 use crate::steady::steady_broker;
-use area_core::{AreaFault, FormatFault, format};
-use broker_core::Broker;
+use area_core::{FormatFault, MakeFault};
 use disk_core::Disk;
-use recover_core::{OpenFault, open};
+use recover_core::make_holding;
 use std::alloc::Global;
 use std::{error, fmt};
 
@@ -21,10 +22,8 @@ pub enum CopyFault {
     Read(ShowFault),
     /// What it holds does not fit into an area of the copy.
     Full,
-    /// The copy could not be made, or not written.
+    /// The copy could not be made.
     Format(FormatFault),
-    /// The copy could not be written.
-    Write(OpenFault),
 }
 
 /// The text for the user.
@@ -39,81 +38,49 @@ impl fmt::Display for CopyFault {
             CopyFault::Read(fault) => write!(f, "{fault}"),
             CopyFault::Full => f.write_str("the copy is too small for what the journal holds"),
             CopyFault::Format(fault) => write!(f, "{fault}"),
-            CopyFault::Write(fault) => write!(f, "{fault}"),
         }
     }
 }
 
 impl error::Error for CopyFault {}
 
-/// Makes a disk a journal with areas of `area_bytes` bytes that stands for what another journal stands for, its open sessions included, and
-/// answers that disk. The other one is only read, and may be that of a running server. What the copy's disk held is lost.
+/// Makes a disk a journal with areas of `area_bytes` bytes that stands for what another journal stands for, its open sessions included. The
+/// other one is only read, and may be that of a running server. What the copy's disk held is lost.
 ///
-/// After a refusal the copy's disk may hold anything, and is let go.
-pub fn copy<D: Disk, E: Disk + Drop>(
+/// The copy's name is written last, once all else is synced. So if nothing of its disk was unsynced before, a stop at any moment leaves
+/// what no call opens as a journal, or the whole copy. If the journal can't be read, or the copy is too small, nothing was written; after
+/// another refusal the copy's disk may hold anything.
+pub fn copy<D: Disk, E: Disk>(
     alloc: Global,
     from: &mut D,
-    to: E,
+    to: &mut E,
     area_bytes: u64,
-) -> Result<E, CopyFault>
-    ensures copies { D.honest from.old → E.honest to → IfOk result (λ made. Copies (D.content from.old) (E.images made)) }
+) -> Result<(), CopyFault>
+    ensures any_moment { D.honest from.old → Only (E.content to.old) (E.images to.old) → Throughout E.Disk to.old to.new
+        (IsMaking (E.content to.old) (IsCopy (D.content from.old))) }
+    ensures copies { D.honest from.old → E.honest to.old → OnOk result (Copies (D.content from.old) (E.images to.new)) }
+    ensures same { IfErr result (λ fault. IsUntouchedBy fault (to.new ≡ to.old)) }
     ensures quiet { D.honest from.old → Quiet D.Disk from.old from.new }
+    ensures lasts { Lasts E.Disk to.old to.new }
 {
-    match steady_broker(alloc, from) {
-        Ok(broker) => write_journal(alloc, to, area_bytes, &broker),
-        Err(fault) => {
-            drop(to);
-            Err(CopyFault::Read(fault))
-        }
-    }
-}
-
-// Makes a disk a journal that stands for the broker's state.
-fn write_journal<E: Disk + Drop>(
-    alloc: Global,
-    to: E,
-    area_bytes: u64,
-    broker: &Broker,
-) -> Result<E, CopyFault>
-    requires whole { broker.now.broken ≡ false }
-    ensures { E.honest to → IfOk result (λ made. StandFor (E.images made) broker.now.state) }
-{
-    let mut to = to;
-    match format(alloc, &mut to, area_bytes) {
-        Ok(()) => fill(alloc, to, broker),
-        Err(fault) => {
-            drop(to);
-            Err(CopyFault::Format(fault))
-        }
-    }
-}
-
-// Has a journal that was just made stand for the broker's state.
-fn fill<E: Disk + Drop>(alloc: Global, to: E, broker: &Broker) -> Result<E, CopyFault>
-    requires whole { broker.now.broken ≡ false }
-    ensures { E.honest to → IfOk result (λ made. StandFor (E.images made) broker.now.state) }
-{
-    let mut store = match open(alloc, to) {
-        Ok(store) => store,
-        Err((disk, fault)) => {
-            drop(disk);
-            return Err(CopyFault::Write(fault));
-        }
+    let broker = match steady_broker(alloc, from) {
+        Ok(broker) => broker,
+        Err(fault) => return Err(CopyFault::Read(fault)),
     };
-    match store.replace(alloc, broker) {
-        Ok(()) => Ok(store.into_disk()),
-        Err(fault) => {
-            drop(store);
-            Err(fault_of(fault))
-        }
+    match make_holding(alloc, to, area_bytes, &broker) {
+        Ok(()) => Ok(()),
+        Err(fault) => Err(fault_of(fault)),
     }
 }
 
-fn fault_of(fault: AreaFault) -> CopyFault {
+// What refuses a copy that is not made.
+fn fault_of(fault: MakeFault) -> CopyFault
+    ensures { result ≡ fault_of fault }
+{
     match fault {
-        AreaFault::Full => CopyFault::Full,
-        AreaFault::Device | AreaFault::Broken | AreaFault::Memory(_) => {
-            CopyFault::Write(OpenFault::Area(fault))
-        }
+        MakeFault::Full => CopyFault::Full,
+        MakeFault::TooSmall => CopyFault::Format(FormatFault::TooSmall),
+        MakeFault::Device => CopyFault::Format(FormatFault::Device),
+        MakeFault::Memory(refused) => CopyFault::Format(FormatFault::Memory(refused)),
     }
 }
