@@ -115,6 +115,13 @@ impl<D: Disk, B: Bell, W: Width> Flusher<D, B, W> {
         &self.broker
     }
 
+    /// The disk.
+    pub fn disk(&self) -> &D
+        ensures { result.now ≡ self.now.disk }
+    {
+        self.journal.disk()
+    }
+
     /// Whether no session has a box.
     pub fn has_no_box(&self) -> bool
         ensures { result ≡ (length self.now.boxes == 0) }
