@@ -4,7 +4,7 @@ use Rattle.std.specs.Option.{is_some}
 use Rattle.desk_core.specs.declared.turned.Turned.{Turned}
 use Rattle.desk_core.specs.declared.turned.Next.{Next}
 use Rattle.desk_core.specs.declared.turned.Next.TheVariants.{Read, Write, Output, Close, Memory}
-use Rattle.client_schedule.specs.Deadlines.{IsDue, freed_by, heard_by, held_up_by, parting_by, pinged_by, taken_by}
+use Rattle.client_schedule.specs.Deadlines.{IsDue, freed_by, heard_by, held_up_by, parting_by, pinged_by, taken_by, unread_by}
 use Rattle.client_schedule.specs.declared.deadlines.Due.{Due}
 use Rattle.client_schedule.specs.declared.deadlines.Due.TheVariants as dues
 use Rattle.client_schedule.specs.declared.deadlines.Deadlines.{Deadlines}
@@ -107,14 +107,15 @@ heard_if true now p = heard_by now p
 heard_if false now p = p
 
 -- what a client is waited for after a turn that came to this
-abbrev pub waited_by : Next → ℕ → Deadlines → Deadlines
-waited_by Write now p = held_up_by now p
-waited_by Close now p = parting_by now (freed_by now p)
-waited_by _ now p = freed_by now p
+abbrev pub waited_by : Next → (is_unread : Bool) → ℕ → Deadlines → Deadlines
+waited_by Write is_unread now p = held_up_by now p
+waited_by Close is_unread now p = parting_by now (freed_by now p)
+waited_by _ true now p = unread_by p
+waited_by _ false now p = freed_by now p
 
 -- what is known of a client after a turn, if its socket has taken so many bytes
-abbrev pub waited_for : Turned → ℕ → ℕ → Client → Deadlines
-waited_for turned taken now client = waited_by turned.next now (taken_by taken now (heard_if turned.heard now client.deadlines))
+abbrev pub waited_for : Turned → (is_unread : Bool) → ℕ → ℕ → Client → Deadlines
+waited_for turned is_unread taken now client = waited_by turned.next is_unread now (taken_by taken now (heard_if turned.heard now client.deadlines))
 
 -- its close was not waited for until now
 abbrev pub parts_now : Option Client → Bool
@@ -134,11 +135,11 @@ abbrev pub look_at : Due → ℕ → ℕ
 look_at (dues.In millis) now = later now millis
 look_at _ now = now
 
--- when it is to be looked at after a turn that came to this, at the latest
-abbrev pub LooksBy : Next → Deadlines → ℕ → ℕ → Type 0
-LooksBy Write p now at = (due : Due) × IsDue Open p now due × (at ≡ look_at due now)
-LooksBy Close p now at = (due : Due) × IsDue Open p now due × (at ≡ look_at due now)
-LooksBy _ p now at = at ≡ NEVER
+-- when it is to be looked at after a turn, at the latest
+pub record LooksBy (p : Deadlines) (now at : ℕ) : Type 0 where
+  pub due : Due
+  pub is : IsDue Open p now due
+  pub moment : at ≡ look_at due now
 
 -- when clients to which memory was refused try again, after a turn that came to this
 abbrev pub retry_by : Next → ℕ → ℕ → ℕ
@@ -146,8 +147,8 @@ retry_by Memory retry now = min retry (later now SHORTAGE)
 retry_by _ retry now = retry
 
 -- that client is looked at by a moment that its turn asks for, or before
-abbrev pub IsLookedAtBy : ℕ → Next → Deadlines → ℕ → Clients → Clients → Type 0
-IsLookedAtBy n next p now old new = (at : ℕ) × LooksBy next p now at × (new.timers ≡ with_earlier n at old.timers)
+abbrev pub IsLookedAtBy : ℕ → Deadlines → ℕ → Clients → Clients → Type 0
+IsLookedAtBy n p now old new = (at : ℕ) × LooksBy p now at × (new.timers ≡ with_earlier n at old.timers)
 
 -- memory was refused in a turn that came to this
 abbrev pub is_refused : Next → Bool
@@ -155,14 +156,14 @@ is_refused Memory = true
 is_refused _ = false
 
 -- a client after a turn, if its socket has taken so many bytes
-abbrev pub client_after : Turned → ℕ → ℕ → Client → Client
-client_after turned taken now client = record client { deadlines = waited_for turned taken now client; is_short = is_refused turned.next }
+abbrev pub client_after : Turned → (is_unread : Bool) → ℕ → ℕ → Client → Client
+client_after turned is_unread taken now client = record client { deadlines = waited_for turned is_unread taken now client; is_short = is_refused turned.next }
 
 -- After a turn a client is waited for as the turn says, and all others stay. A client that is gone is not waited for.
-pub record IsWaitedFor (n : ℕ) (turned : Turned) (taken now : ℕ) (old new : Clients) : Type 0 where
-  pub timers : MatchOption (client_at n old) (new.timers ≡ old.timers) (λ client. IsLookedAtBy n turned.next (waited_for turned taken now client) now old new)
+pub record IsWaitedFor (n : ℕ) (turned : Turned) (is_unread : Bool) (taken now : ℕ) (old new : Clients) : Type 0 where
+  pub timers : MatchOption (client_at n old) (new.timers ≡ old.timers) (λ client. IsLookedAtBy n (waited_for turned is_unread taken now client) now old new)
   pub retry : MatchOption (client_at n old) (new.retry ≡ old.retry) (λ client. new.retry ≡ retry_by turned.next old.retry now)
-  pub client : MatchOption (client_at n old) (new.all ≡ old.all) (λ client. Updates old.all new.all n (Some (client_after turned taken now client)))
+  pub client : MatchOption (client_at n old) (new.all ≡ old.all) (λ client. Updates old.all new.all n (Some (client_after turned is_unread taken now client)))
   pub reach : new.reach ≡ old.reach
 
 -- what is known of a client once what was due is done

@@ -1,6 +1,7 @@
 -- For how long a worker waits for a client, by what has happened to it. Moments are in milliseconds of the worker's own clock.
-use Rattle.std.specs.Prelude.{◌≡◌, ◌⊎◌, ℕ, Bool, true, false, Option, Some, None, ◌+◌, ◌-◌, ◌*◌, ◌/◌, ◌^◌, ◌≤◌, ◌<◌, ◌==◌, nat_lt, min, cond, unwrap_or}
-use Rattle.client_schedule.specs.declared.deadlines.TheConstants.{LONGEST_PART, LONGEST_GREETING, QUIET, PINGS, SLOWEST, MOST_UNREAD, LONGEST_WRITE, LONGEST_CLOSE}
+use Rattle.std.specs.Prelude.{◌≡◌, ◌⊎◌, ℕ, Bool, true, false, Option, Some, None, ◌+◌, ◌-◌, ◌*◌, ◌/◌, ◌^◌, ◌≤◌, ◌<◌, ◌==◌, nat_lt, min, cond, not, ◌||◌, unwrap_or}
+use Rattle.std.specs.Option.{is_some}
+use Rattle.client_schedule.specs.declared.deadlines.TheConstants.{LONGEST_PART, LONGEST_GREETING, LONGEST_GUEST, QUIET, PINGS, SLOWEST, MOST_UNREAD, LONGEST_WRITE, LONGEST_CLOSE}
 use Rattle.client_schedule.specs.declared.deadlines.Due.{Due}
 use Rattle.client_schedule.specs.declared.deadlines.Due.TheVariants.{GivenUp, Write, Ping, In}
 use Rattle.client_schedule.specs.declared.deadlines.Deadlines.{Deadlines}
@@ -11,16 +12,22 @@ use Rattle.client_schedule.specs.declared.deadlines.Progress.TheVariants.{Greeti
 abbrev pub Passed : ℕ → ℕ → ℕ → Type 0
 Passed span since now = since + span ≤ now
 
+-- it came to a full server, is no ping that has its WebSocket, and is there for too long
+abbrev pub Overstays : Progress → Deadlines → ℕ → Type 0
+Overstays Greeting p now = (p.is_guest ≡ true) × Passed LONGEST_GUEST p.connected now
+Overstays Unopened p now = ⊥
+Overstays Open p now = ⊥
+
 -- it says nothing between two parts of its handshake
 abbrev pub SaysNoPart : Progress → Deadlines → ℕ → Type 0
 SaysNoPart Greeting p now = Passed LONGEST_PART p.heard now
 SaysNoPart Unopened p now = ⊥
 SaysNoPart Open p now = ⊥
 
--- it is connected and opens no session
+-- it is connected and opens no session, though it is read
 abbrev pub OpensNothing : Progress → Deadlines → ℕ → Type 0
-OpensNothing Greeting p now = Passed LONGEST_GREETING p.connected now
-OpensNothing Unopened p now = Passed LONGEST_GREETING p.connected now
+OpensNothing Greeting p now = (p.is_unread ≡ false) × Passed LONGEST_GREETING p.connected now
+OpensNothing Unopened p now = (p.is_unread ≡ false) × Passed LONGEST_GREETING p.connected now
 OpensNothing Open p now = ⊥
 
 -- Something has waited for it, and its socket took nothing, for so long before it was last offered that.
@@ -33,12 +40,12 @@ abbrev pub NeverCloses : Option ℕ → ℕ → Type 0
 NeverCloses None now = ⊥
 NeverCloses (Some since) now = Passed LONGEST_CLOSE since now
 
--- Its silence counts: it has its WebSocket, so that it answers pings, nothing waits to be written, and no close is waited for.
-abbrev pub counts : Progress → Option ℕ → Option ℕ → Bool
-counts Greeting held_up parting = false
-counts Unopened None None = true
-counts Open None None = true
-counts _ _ _ = false
+-- Its silence counts: it has its WebSocket, so that it answers pings, nothing waits to be written, no close is waited for, and it is read.
+abbrev pub counts : Progress → Option ℕ → Option ℕ → (is_unread : Bool) → Bool
+counts Greeting held_up parting is_unread = false
+counts Unopened None None is_unread = not is_unread
+counts Open None None is_unread = not is_unread
+counts _ _ _ _ = false
 
 -- in how many milliseconds a client reads so many bytes if it reads as slowly as it may: 300,000 at most
 abbrev pub reading_time : ℕ → ℕ
@@ -52,17 +59,17 @@ wait_of p = cond (p.pings == 0) QUIET (QUIET + reading_time p.unanswered)
 abbrev pub silent_since : Deadlines → ℕ
 silent_since p = cond (p.pings == 0) p.heard p.pinged
 
--- it has been silent for so long, and in that time nothing waited to be written
+-- it has been silent for so long, and in that time nothing waited to be written, and it was read
 abbrev pub IsQuiet : Deadlines → ℕ → Type 0
 IsQuiet p now = Passed (wait_of p) (silent_since p) now × Passed (wait_of p) p.freed now
 
 -- it was sent all pings, and has answered none
 abbrev pub IsSilent : Progress → Deadlines → ℕ → Type 0
-IsSilent progress p now = (counts progress p.held_up p.parting ≡ true) × (PINGS ≤ p.pings) × IsQuiet p now
+IsSilent progress p now = (counts progress p.held_up p.parting p.is_unread ≡ true) × (PINGS ≤ p.pings) × IsQuiet p now
 
 -- It is to be given up.
 abbrev pub IsGivenUp : Progress → Deadlines → ℕ → Type 0
-IsGivenUp progress p now = SaysNoPart progress p now ⊎ OpensNothing progress p now ⊎ TakesNothing p.held_up p ⊎ NeverCloses p.parting now ⊎ IsSilent progress p now
+IsGivenUp progress p now = Overstays progress p now ⊎ SaysNoPart progress p now ⊎ OpensNothing progress p now ⊎ TakesNothing p.held_up p ⊎ NeverCloses p.parting now ⊎ IsSilent progress p now
 
 -- Something has waited for it, and its socket took nothing, for so long: that is to be offered once more.
 abbrev pub IsWriteDue : Option ℕ → Deadlines → ℕ → Type 0
@@ -71,7 +78,7 @@ IsWriteDue (Some since) p now = Passed LONGEST_WRITE since now × Passed LONGEST
 
 -- it has been silent, and not all pings were sent
 abbrev pub IsPingDue : Progress → Deadlines → ℕ → Type 0
-IsPingDue progress p now = (counts progress p.held_up p.parting ≡ true) × (p.pings < PINGS) × IsQuiet p now
+IsPingDue progress p now = (counts progress p.held_up p.parting p.is_unread ≡ true) × (p.pings < PINGS) × IsQuiet p now
 
 -- something is to be done
 abbrev pub IsSomethingDue : Progress → Deadlines → ℕ → Type 0
@@ -91,9 +98,9 @@ IsDue progress p now Write = IsWriteDue p.held_up p now × (IsGivenUp progress p
 IsDue progress p now Ping = IsPingDue progress p now × (IsGivenUp progress p now → ⊥) × (IsWriteDue p.held_up p now → ⊥)
 IsDue progress p now (In millis) = (0 < millis) × Until (IsSomethingDue progress p) now millis
 
--- a client was connected just now
-abbrev pub fresh : ℕ → Deadlines
-fresh now = record { connected = now; heard = now; pings = 0; pinged = now; took = now; unanswered = 0; taken = 0; held_up = None; freed = now; offered = now; parting = None }
+-- a client was connected just now, to a full server if it is a guest
+abbrev pub fresh : (is_guest : Bool) → ℕ → Deadlines
+fresh is_guest now = record { connected = now; is_guest = is_guest; heard = now; pings = 0; pinged = now; took = now; unanswered = 0; taken = 0; held_up = None; freed = now; is_unread = false; offered = now; parting = None }
 
 -- something came from it
 abbrev pub heard_by : ℕ → Deadlines → Deadlines
@@ -111,14 +118,13 @@ taken_by taken now p = cond (nat_lt p.taken taken) (record p { took = now; unans
 abbrev pub held_up_by : ℕ → Deadlines → Deadlines
 held_up_by now p = record p { held_up = Some (unwrap_or p.held_up now); offered = now }
 
--- when nothing waited any more
-abbrev pub freed_at : Option ℕ → ℕ → ℕ → ℕ
-freed_at None now freed = freed
-freed_at (Some since) now freed = now
-
--- nothing waits to be written
+-- nothing waits to be written, and it is read: since now, if that was not so
 abbrev pub freed_by : ℕ → Deadlines → Deadlines
-freed_by now p = record p { held_up = None; freed = freed_at p.held_up now p.freed }
+freed_by now p = record p { held_up = None; is_unread = false; freed = cond (is_some p.held_up || p.is_unread) now p.freed }
+
+-- nothing waits to be written, and it isn't read
+abbrev pub unread_by : Deadlines → Deadlines
+unread_by p = record p { held_up = None; is_unread = true }
 
 -- its close is waited for
 abbrev pub parting_by : ℕ → Deadlines → Deadlines

@@ -118,18 +118,19 @@ impl Clients {
         if number < CLIENTS { Some(number) } else { None }
     }
 
-    /// Takes a client in, under the next number. It has a turn next. If memory is refused, nothing has changed but how many have room.
+    /// Takes a client in, under the next number, as a guest if the server was full when it came. It has a turn next. If memory is refused, nothing has changed but how many have room.
     pub fn admit(
         &mut self,
         greeting: Greeting<ReadBudget<TcpStream>>,
+        is_guest: bool,
         now: u64,
     ) -> Result<(), AllocError>
-        ensures ok { OnOk result (Admits now self.old self.new (record { state = ClientState.Greeting greeting; deadlines = fresh now; is_short = false })) }
+        ensures ok { OnOk result (Admits now self.old self.new (record { state = ClientState.Greeting greeting; deadlines = fresh is_guest now; is_short = false })) }
         ensures err { OnErr result (self.new ≡ record self.old { all = record self.old.all { capacity = self.new.all.capacity } }) }
     {
         let client = Client {
             state: ClientState::Greeting(greeting),
-            deadlines: Deadlines::new(now),
+            deadlines: Deadlines::new(is_guest, now),
             is_short: false,
         };
         let number = self.all.insert(client)?;

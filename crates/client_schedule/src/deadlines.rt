@@ -2,13 +2,17 @@
 
 ghost use Rattle.std.specs.Prelude.{◌≡◌, ◌<◌, ℕ, true, false};
 ghost use Rattle.std.specs.Option.{is_some};
-ghost use Rattle.client_schedule.specs.Deadlines.{IsDue, IsGivenUp, IsPingDue, IsQuiet, IsSilent, IsWriteDue, NeverCloses, OpensNothing, Passed, SaysNoPart, TakesNothing, Until, counts, fresh, freed_by, heard_by, held_up_by, parting_by, pinged_by, taken_by, wait_of};
+ghost use Rattle.client_schedule.specs.Deadlines.{IsDue, IsGivenUp, IsPingDue, IsQuiet, IsSilent, IsWriteDue, NeverCloses, OpensNothing, Overstays, Passed, SaysNoPart, TakesNothing, Until, counts, fresh, freed_by, heard_by, held_up_by, parting_by, pinged_by, taken_by, unread_by, wait_of};
 
 /// For how many milliseconds a client may say nothing between two parts of its handshake.
 const LONGEST_PART: u64 = 20_000;
 
 /// For how many milliseconds a client may be connected without having opened a session, counting its handshake.
 const LONGEST_GREETING: u64 = 60_000;
+
+/// For how many milliseconds a client may be there, from its connection on, that came to a full server and is no ping: for its handshake, the
+/// answer, and its close. Pings need its descriptor.
+const LONGEST_GUEST: u64 = 2_000;
 
 /// After how many milliseconds in which nothing came a client is sent a ping. Its answer is waited for as long too, and also for the
 /// time that the client needs to read what its socket took before.
@@ -57,8 +61,9 @@ pub enum Due {
 /// What has happened to a client, as far as its worker's deadlines depend on it. Moments are in milliseconds of the worker's clock.
 #[derive(Clone, Copy)]
 pub struct Deadlines {
-    // When it was connected.
+    // When it was connected, and whether the server was full then.
     connected: u64,
+    is_guest: bool,
     // When something came from it last, or it was connected.
     heard: u64,
     // How many pings it was sent since, and when the last, or when it was connected.
@@ -71,6 +76,8 @@ pub struct Deadlines {
     // Since when something waits to be written, if something does; since when nothing does, or when it was connected.
     held_up: Option<u64>,
     freed: u64,
+    // Whether nothing is read from it, since a command of it waits for room. If that was so, `freed` also counts from its end.
+    is_unread: bool,
     // When what waits was offered to its socket last, or it was connected.
     offered: u64,
     // Since when its close is waited for.
@@ -78,12 +85,13 @@ pub struct Deadlines {
 }
 
 impl Deadlines {
-    /// The deadlines of a client that was connected just now.
-    pub fn new(now: u64) -> Deadlines
-        ensures { result ≡ fresh now }
+    /// The deadlines of a client that was connected just now, to a full server if it is a guest.
+    pub fn new(is_guest: bool, now: u64) -> Deadlines
+        ensures { result ≡ fresh is_guest now }
     {
         Deadlines {
             connected: now,
+            is_guest,
             heard: now,
             pings: 0,
             pinged: now,
@@ -92,6 +100,7 @@ impl Deadlines {
             taken: 0,
             held_up: None,
             freed: now,
+            is_unread: false,
             offered: now,
             parting: None,
         }
@@ -135,14 +144,23 @@ impl Deadlines {
         }
     }
 
-    /// Nothing waits to be written to the client.
+    /// Nothing waits to be written to the client, and it is read.
     pub fn freed(&mut self, now: u64)
         ensures { self.new ≡ freed_by now self.old }
     {
-        if self.held_up.is_some() {
+        if self.held_up.is_some() || self.is_unread {
             self.held_up = None;
+            self.is_unread = false;
             self.freed = now;
         }
+    }
+
+    /// Nothing waits to be written to the client, and it isn't read, since a command of it waits for room.
+    pub fn unread(&mut self)
+        ensures { self.new ≡ unread_by self.old }
+    {
+        self.held_up = None;
+        self.is_unread = true;
     }
 
     /// The client's close is waited for. That began now, unless it had begun.
@@ -183,12 +201,22 @@ impl Deadlines {
     fn given_up_in(&self, progress: Progress, now: u64) -> u64
         ensures { Until (IsGivenUp progress self.now) now result }
     {
+        let stay = self.stay_in(progress, now);
         let part = self.part_in(progress, now);
         let session = self.session_in(progress, now);
         let take = self.take_in();
         let close = self.close_in(now);
         let silence = self.silence_in(progress, now);
-        part.min(session.min(take.min(close.min(silence))))
+        stay.min(part.min(session.min(take.min(close.min(silence)))))
+    }
+
+    fn stay_in(&self, progress: Progress, now: u64) -> u64
+        ensures { Until (Overstays progress self.now) now result }
+    {
+        match progress {
+            Progress::Greeting if self.is_guest => left_of(LONGEST_GUEST, self.connected, now),
+            _ => u64::MAX,
+        }
     }
 
     fn part_in(&self, progress: Progress, now: u64) -> u64
@@ -204,12 +232,12 @@ impl Deadlines {
         ensures { Until (OpensNothing progress self.now) now result }
     {
         match progress {
-            Progress::Greeting | Progress::Unopened => left_of(
+            Progress::Greeting | Progress::Unopened if !self.is_unread => left_of(
                 LONGEST_GREETING,
                 self.connected,
                 now,
             ),
-            Progress::Open => u64::MAX,
+            _ => u64::MAX,
         }
     }
 
@@ -265,10 +293,10 @@ impl Deadlines {
 
     // Whether its silence counts.
     fn counts(&self, progress: Progress) -> bool
-        ensures { result ≡ counts progress self.now.held_up self.now.parting }
+        ensures { result ≡ counts progress self.now.held_up self.now.parting self.now.is_unread }
     {
         match (progress, self.held_up, self.parting) {
-            (Progress::Unopened | Progress::Open, None, None) => true,
+            (Progress::Unopened | Progress::Open, None, None) => !self.is_unread,
             _ => false,
         }
     }

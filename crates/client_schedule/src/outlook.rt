@@ -5,8 +5,9 @@ ghost use Rattle.client_schedule.specs.Outlooks.{awaits_mark, is_ready, longest_
 
 use crate::clients::Clients;
 
-/// For how many milliseconds a worker waits at most before it looks again. Nothing waits for this to end.
-const LONGEST_SLEEP: u64 = 10_000;
+/// For how many milliseconds a worker waits at most before it looks again. Nobody waits for this to end. It bounds what counts of a pause of the
+/// whole process: no round counts for more than this and a second.
+const LONGEST_SLEEP: u64 = 2_000;
 
 /// The same while its server ends, or while all clients together hold more memory than they may: then it looks whether it has waited for its
 /// clients long enough, or whether one of its own holds most.

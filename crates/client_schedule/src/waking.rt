@@ -68,14 +68,15 @@ impl Clients {
         self.timers.earliest().min(self.retry)
     }
 
-    /// What is to come of a client that had a turn and has not ended, and whose stream tells this.
-    pub fn settle(&mut self, number: usize, turned: Turned, flow: Flow, now: u64)
+    /// What is to come of a client that had a turn and has not ended, and whose stream tells this. `is_unread` says that nothing is read from it,
+    /// since a command of it waits for room: then its silence doesn't count.
+    pub fn settle(&mut self, number: usize, turned: Turned, flow: Flow, is_unread: bool, now: u64)
         ensures lines { self.new.lines ≡ gone_on (has_more flow.has_rest turned.next (client_at number self.old)) number (settled number turned self.old.lines) }
-        ensures rest { IsWaitedFor number turned flow.taken now self.old self.new }
+        ensures rest { IsWaitedFor number turned is_unread flow.taken now self.old self.new }
     {
         let has_more = self.has_more(number, flow.has_rest, turned.next);
         self.lines.settle(number, turned);
-        self.await_client(number, turned, flow.taken, now);
+        self.await_client(number, turned, is_unread, flow.taken, now);
         self.go_on(number, has_more);
     }
 
@@ -116,9 +117,9 @@ impl Clients {
     }
 
     // Begins to wait for what a client is waited for after a turn.
-    fn await_client(&mut self, number: usize, turned: Turned, taken: u64, now: u64)
+    fn await_client(&mut self, number: usize, turned: Turned, is_unread: bool, taken: u64, now: u64)
         ensures lines { self.new.lines ≡ self.old.lines }
-        ensures rest { IsWaitedFor number turned taken now self.old self.new }
+        ensures rest { IsWaitedFor number turned is_unread taken now self.old self.new }
     {
         let Some(client) = self.all.get_mut(number) else {
             return;
@@ -128,7 +129,7 @@ impl Clients {
         }
         client.deadlines.took(taken, now);
         client.is_short = matches!(turned.next, Next::Memory);
-        let at = client.wait(turned.next, now);
+        let at = client.wait(turned.next, is_unread, now);
         self.timers.set_earlier(number, at);
         if let Next::Memory = turned.next {
             self.retry = self.retry.min(now.saturating_add(SHORTAGE));
@@ -168,9 +169,9 @@ impl Client {
     }
 
     // Begins to wait, and answers the moment at which that is to be looked at: any later one has been set before.
-    fn wait(&mut self, next: Next, now: u64) -> u64
-        ensures deadlines { self.new ≡ record self.old { deadlines = waited_by next now self.old.deadlines } }
-        ensures moment { LooksBy next (waited_by next now self.old.deadlines) now result }
+    fn wait(&mut self, next: Next, is_unread: bool, now: u64) -> u64
+        ensures deadlines { self.new ≡ record self.old { deadlines = waited_by next is_unread now self.old.deadlines } }
+        ensures moment { LooksBy (waited_by next is_unread now self.old.deadlines) now result }
     {
         match next {
             Next::Write => self.deadlines.held_up(now),
@@ -178,10 +179,8 @@ impl Client {
                 self.deadlines.freed(now);
                 self.deadlines.parting(now);
             }
-            _ => {
-                self.deadlines.freed(now);
-                return NEVER;
-            }
+            _ if is_unread => self.deadlines.unread(),
+            _ => self.deadlines.freed(now),
         }
         match self.deadlines.due(Progress::Open, now) {
             Due::In(millis) => now.saturating_add(millis),

@@ -95,6 +95,11 @@ pub record IsChanged {B L : Type 0} (f : ConnectionValue → ConnectionValue) (w
   pub kept : is.slot.kept ≡ was.slot.kept
   pub link : is.link ≡ was.link
 
+-- it asked for a command that waits for room
+abbrev pub awaits_room_at : {B L : Type 0} → Option (Seated B L) → Bool
+awaits_room_at None = false
+awaits_room_at (Some seated) = is_some seated.slot.waiting
+
 -- why acts of the connection at a place were cut off
 abbrev pub cut_at : {B L : Type 0} → Option (Seated B L) → Cut
 cut_at None = cuts.No

@@ -52,7 +52,7 @@ impl<B: Bell, L: Link + Drop> Desk<B, L> {
     ghost use Rattle.desk_core.specs.Conversations.{Converse};
     ghost use Rattle.desk_core.specs.Connections.{evicted, with_given_up, with_lost};
     ghost use Rattle.desk_core.specs.Desks.{Admits, Changes, IsWhy, Leaves, Others, TalkApart, Turns, Touches, desk, seated_at};
-    ghost use Rattle.desk_core.specs.Places.{PingedAt, cut_at, is_open_at, is_over_at};
+    ghost use Rattle.desk_core.specs.Places.{PingedAt, awaits_room_at, cut_at, is_open_at, is_over_at};
 
     /// A desk with no connection, whose sessions may have `limit` bytes together in a snapshot of the broker. No memory is taken.
     pub fn new(alloc: Global, seat: BrokerSeat<OutSender<B>>, limit: u64) -> Desk<B, L>
@@ -199,6 +199,16 @@ impl<B: Bell, L: Link + Drop> Desk<B, L> {
     {
         match sitter(&self.places, at) {
             Some(seated) => seated.slot.connection.number().is_some(),
+            None => false,
+        }
+    }
+
+    /// Whether the client at that place asked for a command that waits for room. Until that was appended, nothing is read from the client.
+    pub fn awaits_room(&self, at: usize) -> bool
+        ensures { result ≡ awaits_room_at (seated_at self.now.places at) }
+    {
+        match sitter(&self.places, at) {
+            Some(seated) => seated.slot.waiting.is_some(),
             None => false,
         }
     }
