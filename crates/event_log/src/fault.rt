@@ -1,7 +1,8 @@
 //! Why a server does not serve.
 
+use crate::device::cause_text;
 use crate::unopened::Unopened;
-use disk_core::OpenError;
+use disk_core::{DeviceCause, OpenError};
 use flush_core::FlushFault;
 use recover_core::OpenFault;
 use std::alloc::AllocError;
@@ -27,6 +28,8 @@ pub enum ServeFault {
     Output,
     /// A step of the flusher failed: nothing more is acknowledged.
     Flushing(FlushFault),
+    /// The disk failed, while the journal was opened or after that: nothing more is acknowledged.
+    Device(DeviceCause),
 }
 
 /// The text for the user.
@@ -50,6 +53,7 @@ impl fmt::Display for ServeFault {
             ServeFault::Threads => f.write_str("cannot start a thread"),
             ServeFault::Output => f.write_str("input or output failed"),
             ServeFault::Flushing(fault) => write!(f, "{fault}"),
+            ServeFault::Device(cause) => write!(f, "J3 device failed: {}", cause_text(*cause)),
         }
     }
 }

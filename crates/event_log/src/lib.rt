@@ -2,16 +2,21 @@
 
 #![tactic(auto)]
 
+mod crowding;
+mod device;
 mod event;
 mod fault;
 mod kind;
 mod line;
+mod reopening;
 mod rhythm;
 mod unopened;
 
+pub use crowding::{Crowding, tenths_of};
 pub use event::{Crowd, Event, Figures, Start};
 pub use fault::ServeFault;
 pub use kind::{KINDS, Kind};
 pub use line::write_line;
+pub use reopening::{Reopening, is_too_full};
 pub use rhythm::Rhythm;
 pub use unopened::Unopened;
