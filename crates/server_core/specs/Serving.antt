@@ -1,20 +1,23 @@
 -- What contracts see of a server and of its workers.
-use Rattle.std.specs.Prelude.{◌≡◌, ◌+◌, ◌≤◌, ℕ, List, [], ◌∷◌, ◌++◌, Vec, codes, false, length, true}
+use Rattle.std.specs.Prelude.{◌≡◌, ◌+◌, ◌≤◌, ℕ, List, [], ◌∷◌, ◌++◌, Option, Some, None, Vec, codes, false, length, true}
 use Rattle.std.specs.declared.alloc.Global.{Global}
 use Rattle.std.specs.List.{All, AllByRecursion}
 use Rattle.std.specs.Fmt.{decimal}
 use Rattle.std.specs.declared.thread.PromisedHandle.{PromisedHandle}
 use Rattle.atomic_table.specs.Seated.{TableId}
-use Rattle.claim_core.specs.Seats.{SessionSeatValue}
+use Rattle.claim_core.specs.Seats.{SessionSeatValue, when_stopped}
 use Rattle.claim_core.specs.declared.limits.TheConstants.{SEATS}
 use Rattle.disk_core.specs.declared.file.FileDisk.{FileDisk}
+use Rattle.disk_core.specs.declared.loss.DeviceCause.{DeviceCause}
 use Rattle.flush_core.specs.Flushed.{Flushed}
 use Rattle.engine_core.specs.Hubs.{HubValue, IsWhole}
 use Rattle.command_core.specs.Commands.{CommandValue}
 use Rattle.engine_core.specs.Closings.{Closes}
 use Rattle.engine_core.specs.declared.closed.Closed.{Closed}
 use Rattle.engine_core.specs.declared.hub.SeatRoom.{SeatRoom}
-use Rattle.event_log.specs.declared.fault.ServeFault.TheVariants.{Output, Flushing}
+use Rattle.recover_core.specs.declared.faults.OpenFault.{OpenFault}
+use Rattle.event_log.specs.declared.fault.ServeFault.{ServeFault}
+use Rattle.event_log.specs.declared.fault.ServeFault.TheVariants.{Output, Flushing, Opening, Device}
 use Rattle.wakeups.specs.declared.mailbox.ClientWaker.{ClientWaker}
 use Rattle.server_core.specs.declared.service.Service.{Service}
 use Rattle.server_core.specs.declared.serving.ServeEnd.{ServeEnd}
@@ -68,6 +71,10 @@ pub record IsReady {D : Type 0} (ring : TableId) (flusher : Flushed D) : Type 0 
   pub ring_is : flusher.seat.ring ≡ ring
   pub executed : flusher.broken ≡ false → flusher.executed ≡ flusher.stored
 
+-- the flusher was found with a disk that failed: it is broken, and the ring is stopped
+abbrev pub failed : Flushed FileDisk → Flushed FileDisk
+failed f = record f { broken = true; seat = when_stopped f.seat }
+
 -- the flusher has ended: it is at that ring still, which has as many seats and is stopped
 pub record HasEnded (ring : TableId) (old new : Flushed FileDisk) : Type 0 where
   pub ready : IsReady ring new
@@ -77,6 +84,11 @@ pub record HasEnded (ring : TableId) (old new : Flushed FileDisk) : Type 0 where
 -- all seats and the flusher are at the server's ring
 abbrev pub IsServer : ServerValue → Type 0
 IsServer s = IsReady s.ring s.flusher × AreAt s.ring s.seats
+
+-- why a journal was not opened, whose disk has failed for that cause or not at all
+abbrev pub unopened : Option DeviceCause → OpenFault → ServeFault
+unopened (Some cause) fault = Device cause
+unopened None fault = Opening fault
 
 -- nothing was handed out of the hub
 abbrev pub IsNewHub : HubValue FileDisk → Type 0
@@ -122,11 +134,12 @@ pub record IsFailed (old new : ServerValue) : Type 0 where
   pub stopped : IsStopped old new
 
 -- A server serves no more. It was asked to end, and then its ring is stopped; or its announcement can't be written, and then nothing
--- has changed; or a step of its flusher has failed.
+-- has changed; or a step of its flusher has failed, or its disk.
 abbrev pub IsEnd : ServerValue → ServerValue → ServeEnd → Type 0
 IsEnd old new Asked = IsStopped old new
 IsEnd old new (Fault Output) = new ≡ old
 IsEnd old new (Fault (Flushing fault)) = IsFailed old new
+IsEnd old new (Fault (Device cause)) = IsFailed old new
 IsEnd old new (Fault _) = ⊥
 
 -- The hub has ended with this flusher: all that hubs promise of an end holds, over a disk with these images.

@@ -15,8 +15,11 @@ use ws_core::Vacancy;
 /// For how many milliseconds nobody is accepted after accepting a client has failed.
 const REST: u64 = 20;
 
-/// How many places are kept for pings.
-const KEPT: u64 = 8;
+/// How many places a full server has for pings. Until it is known that one is none, a client has such a place, for two seconds at most.
+const KEPT: u64 = 16;
+
+/// How many more it then answers that it is full, pings too. Descriptors are left for all of these.
+const ANSWERED: u64 = 4;
 
 /// Where clients come in, the mailboxes of the desks that get them, and how many clients the server takes.
 #[derive(Drop)]
@@ -79,11 +82,16 @@ fn bind<R: Net>(net: &R, address: SocketAddr) -> io::Result<TcpListener> {
 
 impl<R: Wait + Clock> Acceptor<R> {
     /// Accepts clients and hands each to the desk that has the fewest, until the server is asked to end. A client that comes then
-    /// is let go.
+    /// is let go. The first one after the server has ended ends this call too.
     pub(crate) fn accept_all(&self) {
         for _client in self.rt.forever() {
             match self.listener.accept() {
-                Ok((socket, _)) if self.ending.is_asked() => drop(socket),
+                Ok((socket, _)) if self.ending.is_asked() => {
+                    drop(socket);
+                    if self.ending.has_begun() {
+                        return;
+                    }
+                }
                 Ok((socket, _)) => self.hand_out(socket),
                 Err(_) => {
                     self.log.count(Kind::NotAccepted);
@@ -93,7 +101,8 @@ impl<R: Wait + Clock> Acceptor<R> {
         }
     }
 
-    // Hands a client to the desk that has the fewest. If as many are there as the server takes, all but a ping only hear that.
+    // Hands a client to the desk that has the fewest. If as many are there as the server takes, all but a ping are only answered that. If many
+    // are answered so just now, its socket is closed.
     fn hand_out(&self, socket: TcpStream) {
         let mut counts = [0u64; SEATS];
         let total = count(&self.mailboxes, &mut counts);
@@ -102,21 +111,27 @@ impl<R: Wait + Clock> Acceptor<R> {
             drop(socket);
             return;
         };
-        let vacancy = vacancy(total, self.most_clients);
+        let Some(vacancy) = vacancy(total, self.most_clients) else {
+            self.log.count(Kind::Full);
+            drop(socket);
+            return;
+        };
         self.mailboxes[at].hand(&self.rt, Arrival { socket, vacancy });
     }
 }
 
-// Whom the server has a place for if it has so many clients, and takes no more than that.
-fn vacancy(clients: u64, most: u64) -> Vacancy
+// Whom the server has a place for if it has so many clients, and takes no more than that; `None` if nobody is even answered.
+fn vacancy(clients: u64, most: u64) -> Option<Vacancy>
     ensures { result ≡ vacancy clients most }
 {
     if clients < most {
-        Vacancy::Any
+        Some(Vacancy::Any)
     } else if clients - most < KEPT {
-        Vacancy::Ping
+        Some(Vacancy::Ping)
+    } else if clients - most < KEPT + ANSWERED {
+        Some(Vacancy::Nobody)
     } else {
-        Vacancy::Nobody
+        None
     }
 }
 

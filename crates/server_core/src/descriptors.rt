@@ -5,7 +5,7 @@ use std::fs::{File, Files};
 use std::io;
 
 /// How many descriptors a server has besides those of its clients: two for each of its workers, its file, its port, the standard
-/// streams, and some to spare.
+/// streams, and those of its guests.
 const OWN: u64 = 160;
 
 /// How many clients the descriptors allow that a process may have; `None` if the system does not say.

@@ -10,6 +10,7 @@ mod fittings;
 mod greeting;
 mod keeping;
 mod last_rounds;
+mod looks;
 mod reporter;
 mod service;
 mod serving;
@@ -21,6 +22,7 @@ mod turns;
 mod worker;
 mod worker_setup;
 
+pub use disk_core::FileAt;
 pub use entrance::Reception;
 pub use event_log::{ServeFault, Unopened};
 pub use serving::{Ender, MOST_CLIENTS, MOST_MEMORY, ServeEnd, Server};

@@ -7,32 +7,33 @@ use crate::shared::Shared;
 use broker_core::Broker;
 use broker_state::{Held, MOST_BYTES, MOST_MESSAGES};
 use command_core::Dest;
-use event_log::{Crowd, Event, Figures};
+use event_log::{Crowd, Crowding, Event, Figures, tenths_of};
 use journal_files::lots_of;
 use std::alloc::{AllocError, Global};
 use std::sync::Wait;
+use std::time::Clock;
 
 /// What the flusher's thread keeps for its reports.
 #[derive(Drop)]
 pub(crate) struct Reporter {
     // The queue of dead letters, if there was memory for its name.
     dead_queue: Option<Dest>,
-    // Whether it was reported that nearly all is held that may be.
-    is_crowded: bool,
+    // When it is reported that nearly all is held that may be.
+    crowding: Crowding,
 }
 
 impl Reporter {
-    /// Nothing was reported yet.
-    pub(crate) fn new(alloc: Global) -> Reporter {
+    /// Nothing was reported until now.
+    pub(crate) fn new(alloc: Global, now: u64) -> Reporter {
         Reporter {
             dead_queue: Dest::read(alloc, "/queue/dead").ok(),
-            is_crowded: false,
+            crowding: Crowding::new(now),
         }
     }
 
-    /// Says how the server does after so many commands, whether a compaction has left little room, and, once, whether nearly all is held that
-    /// may be.
-    pub(crate) fn report<R: Wait>(
+    /// Says how the server does after so many commands, whether a compaction has left little room, and whether nearly all is held that may be:
+    /// that once, until it has become clearly less.
+    pub(crate) fn report<R: Wait + Clock>(
         &mut self,
         alloc: Global,
         shared: &Shared<R>,
@@ -58,10 +59,7 @@ impl Reporter {
         if shared.wakeups.has_compacted() && used / 3 > area / 4 {
             log.note(&shared.rt, Event::NearlyFull { used, area });
         }
-        let was_crowded = self.is_crowded;
-        self.is_crowded = is_crowded(&held);
-        if self.is_crowded
-            && !was_crowded
+        if self.crowding.tells(tenths(&held), shared.moment())
             && let Ok(crowd) = crowd_of(alloc, flusher.broker(), &held)
         {
             log.note(&shared.rt, Event::Crowded(crowd));
@@ -80,9 +78,13 @@ impl Reporter {
     }
 }
 
-// Whether nine tenths are held of what may be.
-fn is_crowded(held: &Held) -> bool {
-    held.messages >= MOST_MESSAGES * 9 / 10 || held.bytes >= MOST_BYTES * 9 / 10
+// How many tenths are held of what may be: of the messages, or of the bytes.
+fn tenths(held: &Held) -> u64 {
+    let (messages, bytes) = (
+        tenths_of(held.messages, MOST_MESSAGES),
+        tenths_of(held.bytes, MOST_BYTES),
+    );
+    messages.max(bytes)
 }
 
 // What is held, and in which place most messages wait.

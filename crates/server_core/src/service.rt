@@ -12,7 +12,7 @@ use std::io;
 use std::sync::{Arc, Wait};
 use std::time::Clock;
 use wakeups::{Account, Arrival, BITS, Called, ClientWaker, Mailbox, WORDS};
-use ws_core::{Greeting, WsLink};
+use ws_core::{Greeting, Vacancy, WsLink};
 
 /// How many new clients a desk takes in at most before those that it has are served.
 const NEW_CLIENTS: u32 = 64;
@@ -182,8 +182,9 @@ impl<'a, R: Wait + Clock + Drop> Service<'a, R> {
         let stream = watched(registry, socket, token_of(self.number, number))?;
         let stream = ReadBudget::new(self.alloc, stream);
         let origins = self.shared.origins.clone()?;
+        let is_guest = !matches!(vacancy, Vacancy::Any);
         let greeting = Greeting::begin(self.alloc, stream, origins, vacancy);
-        self.clients.admit(greeting, self.now)?;
+        self.clients.admit(greeting, is_guest, self.now)?;
         Ok(())
     }
 

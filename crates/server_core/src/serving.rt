@@ -1,29 +1,32 @@
 //! A server.
 
-ghost use Rattle.std.specs.Prelude.{◌≡◌, ◌≢◌, ◌+◌, [], true, length, IfErr, IfOk, OnOk};
+ghost use Rattle.std.specs.Prelude.{◌≡◌, ◌≢◌, ◌+◌, [], true, length, IfErr, IfOk, OnErr, OnOk};
 ghost use Rattle.std.specs.Arc.{arc_value};
 ghost use Rattle.std.specs.Io.KnownBytes.{Appends};
+ghost use Rattle.disk_core.specs.File.{file_cause};
 ghost use Rattle.event_log.specs.Faults.{IsNotStarted};
-ghost use Rattle.server_core.specs.Serving.{AreAt, HasEnded, IsReady, IsNewHub, IsOpened, IsEnd, announced};
+ghost use Rattle.server_core.specs.Serving.{AreAt, HasEnded, IsReady, IsNewHub, IsOpened, IsEnd, announced, failed, unopened};
 
 use crate::acceptor::Acceptor;
 use crate::descriptors::clients_allowed;
 use crate::entrance::{Entrance, Reception};
 use crate::fittings::share;
 use crate::last_rounds::LastRounds;
+use crate::looks::Looks;
 use crate::reporter::Reporter;
 use crate::shared::{ServerSeat, Shared};
 use crate::worker::WorkerThread;
 use crate::worker_setup::WorkerSetup;
 use claim_core::SEATS;
 use desk_core::SESSION_BYTES;
-use disk_core::FileDisk;
-use engine_core::{HELD_BYTES, Hub, HubFlusher, SeatRoom, compact_last, flush_loop};
+use disk_core::{FileAt, FileDisk, OpenError};
+use engine_core::{Gate, HELD_BYTES, Hub, HubFlusher, SeatRoom, compact_last, flush_loop};
 use event_log::{Event, ServeFault, Start};
 use flush_core::FlushFault;
+use recover_core::OpenFault;
 use std::alloc::Global;
 use std::fs::{File, Files};
-use std::io::Write;
+use std::io::{ErrorKind, Write};
 use std::marker::Model;
 use std::net::{Net, TcpListener, TcpStream};
 use std::sync::{Arc, Wait};
@@ -79,7 +82,7 @@ impl<R> Server<R>
 where
     R: Files<File = File> + Net<Listener = TcpListener, Stream = TcpStream> + Wait + Clone + Drop,
 {
-    /// Opens the port at 127.0.0.1, and then the journal in a file, whose lock the server has from then on until its flusher is gone. It
+    /// Opens the port at 127.0.0.1, and then the journal in the file `at` a path, whose lock the server has from then on until its flusher is gone. It
     /// takes as many clients at a time as `reception` says, or as the process may have descriptors for, if these are fewer. `Port` if the
     /// port can't be opened, `Threads` if the system refuses what workers wait on, and `Memory` if memory is refused. `File` if the file
     /// can't be opened, or another server has its lock: then nothing of it is read or written. `Opening` if the journal is refused: what
@@ -87,7 +90,7 @@ where
     pub fn open(
         alloc: Global,
         rt: &R,
-        path: &str,
+        at: FileAt<'_>,
         port: u16,
         reception: Reception,
     ) -> Result<Server<R>, ServeFault>
@@ -98,7 +101,7 @@ where
             reception.most_clients = reception.most_clients.min(allowed);
         }
         match Entrance::open(alloc, rt, port, reception) {
-            Ok(entrance) => Server::behind(alloc, rt, path, entrance),
+            Ok(entrance) => Server::behind(alloc, rt, at, entrance),
             Err(fault) => Err(fault),
         }
     }
@@ -107,12 +110,12 @@ where
     fn behind(
         alloc: Global,
         rt: &R,
-        path: &str,
+        at: FileAt<'_>,
         entrance: Entrance,
     ) -> Result<Server<R>, ServeFault>
         ensures { IfOk result (IsOpened entrance.port) }
     {
-        match open_hub(alloc, rt, path) {
+        match open_hub(alloc, at) {
             Ok(hub) => Server::over(alloc, rt, hub, entrance),
             Err(fault) => {
                 drop(entrance);
@@ -180,8 +183,13 @@ impl<R: Wait + Clock + Drop> Server<R> {
             return ServeEnd::Fault(ServeFault::Output);
         }
         self.tell_start();
-        match flush(alloc, &self.shared, &mut self.flusher) {
+        let mut looks = Looks::new();
+        match flush(alloc, &self.shared, &mut self.flusher, &mut looks) {
             Ok(()) => ServeEnd::Asked,
+            Err(FlushFault::Device) => {
+                let cause = looks.cause(self.flusher.disk().cause());
+                ServeEnd::Fault(ServeFault::Device(cause))
+            }
             Err(fault) => ServeEnd::Fault(ServeFault::Flushing(fault)),
         }
     }
@@ -232,20 +240,34 @@ impl Ender {
 }
 
 // The hub over the journal in a file, whose lock its disk has.
-fn open_hub<R: Files<File = File>>(
-    alloc: Global,
-    rt: &R,
-    path: &str,
-) -> Result<ServerHub, ServeFault>
+fn open_hub(alloc: Global, at: FileAt<'_>) -> Result<ServerHub, ServeFault>
     ensures { IfOk result IsNewHub }
 {
-    let disk = match FileDisk::open_locked(rt, path) {
+    let disk = match FileDisk::open_locked(alloc, at) {
         Ok(disk) => disk,
-        Err(error) => return Err(ServeFault::File(error)),
+        Err(error) => return Err(unopened_file(error)),
     };
     match Hub::open(alloc, disk) {
         Ok(hub) => Ok(hub),
-        Err((_, fault)) => Err(ServeFault::Opening(fault)),
+        Err((disk, fault)) => Err(unopened(&disk, fault)),
+    }
+}
+
+// Why a file was not opened.
+fn unopened_file(error: OpenError) -> ServeFault {
+    match &error {
+        OpenError::System(error) if error.kind() == ErrorKind::OutOfMemory => ServeFault::Memory,
+        _ => ServeFault::File(error),
+    }
+}
+
+// Why a journal was not opened; of a disk that failed, its cause.
+fn unopened(disk: &FileDisk, fault: OpenFault) -> ServeFault
+    ensures { result ≡ unopened (file_cause disk.now) fault }
+{
+    match disk.cause() {
+        Some(cause) => ServeFault::Device(cause),
+        None => ServeFault::Opening(fault),
     }
 }
 
@@ -281,20 +303,21 @@ fn add_seat(seats: &mut Vec<ServerSeat>, hub: &mut ServerHub) -> Result<(), Serv
     }
 }
 
-// Flushes until the server was asked to end and nothing that was claimed is left, and then stops the ring; or until a step fails.
+// Flushes until the server was asked to end and nothing that was claimed is left, and then stops the ring; or until a step or a look fails.
 fn flush<R: Wait + Clock + Drop>(
     alloc: Global,
     shared: &Shared<R>,
     flusher: &mut ServerFlusher,
+    looks: &mut Looks,
 ) -> Result<(), FlushFault>
     requires { IsReady shared.now.ring flusher.old }
     ensures ends { HasEnded shared.now.ring flusher.old flusher.new }
     ensures fails { IfErr result (λ _. flusher.new.broken ≡ true) }
 {
     let mut last = LastRounds::new();
-    let mut reporter = Reporter::new(alloc);
+    let mut reporter = Reporter::new(alloc, shared.moment());
     for _round in shared.rt.forever() {
-        match flush_loop(alloc, &shared.ring, flusher, &shared.wakeups, 1) {
+        match flush_once(alloc, shared, flusher, looks) {
             Ok(mark) if is_last(shared, &mut last, mark) => {
                 drop(reporter);
                 return flush_last(alloc, shared, flusher);
@@ -307,6 +330,46 @@ fn flush<R: Wait + Clock + Drop>(
         }
     }
     unreachable!()
+}
+
+// Looks at the journal's file if that is due, and makes a turn. Answers the mark.
+fn flush_once<R: Wait + Clock + Drop>(
+    alloc: Global,
+    shared: &Shared<R>,
+    flusher: &mut ServerFlusher,
+    looks: &mut Looks,
+) -> Result<u64, FlushFault>
+    requires { IsReady shared.now.ring flusher.old }
+    ensures ready { IsReady shared.now.ring flusher.new }
+    ensures seats { flusher.new.seat.seats ≡ flusher.old.seat.seats }
+    ensures stops { OnErr result ((flusher.new.broken ≡ true) × (flusher.new.seat.stopped ≡ true)) }
+{
+    look_if_due(shared, flusher, looks)?;
+    flush_loop(alloc, &shared.ring, flusher, &shared.wakeups, 1)
+}
+
+// Looks at the journal's file, if that is due. If it is lost, the flusher has failed, and the workers are woken.
+fn look_if_due<R: Wait + Clock + Drop>(
+    shared: &Shared<R>,
+    flusher: &mut ServerFlusher,
+    looks: &mut Looks,
+) -> Result<(), FlushFault>
+    requires { flusher.old.seat.ring ≡ shared.now.ring }
+    ensures ok { OnOk result (flusher.new ≡ flusher.old) }
+    ensures err { OnErr result (flusher.new ≡ failed flusher.old) }
+{
+    if !looks.is_due(shared.moment()) {
+        return Ok(());
+    }
+    match flusher.disk().look() {
+        Ok(()) => Ok(()),
+        Err(cause) => {
+            looks.note(cause);
+            flusher.fail(&shared.ring);
+            shared.wakeups.stopped();
+            Err(FlushFault::Device)
+        }
+    }
 }
 
 // Compacts what is worth it before the server ends, and stops the ring.

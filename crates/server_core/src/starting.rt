@@ -7,7 +7,7 @@ ghost use Rattle.claim_core.specs.declared.limits.TheConstants.{SEATS};
 ghost use Rattle.event_log.specs.Faults.{IsNotStarted};
 ghost use Rattle.server_core.specs.Serving.{AreAllAt, AreAt, IsClosed, IsStaffed, count_mailboxes};
 
-use crate::acceptor::Acceptor;
+use crate::entrance::mailboxes_again;
 use crate::serving::{Server, ServerFlusher, ServerHub};
 use crate::shared::{ServerRing, ServerSeat, Shared};
 use crate::worker::{Worker, WorkerThread, start};
@@ -69,15 +69,15 @@ where
         ensures { IfErr result IsNotStarted }
     {
         let log: Result<Arc<LogThread>, AllocError> = self.shared.wakeups.log().clone();
-        let acceptor: Result<Arc<Acceptor<R>>, AllocError> = self.acceptor.clone();
+        let mailboxes = mailboxes_again(alloc, self.acceptor.mailboxes());
         let its: Result<R, AllocError> = rt.clone();
-        let (Ok(log), Ok(acceptor), Ok(its)) = (log, acceptor, its) else {
+        let (Ok(log), Ok(mailboxes), Ok(its)) = (log, mailboxes, its) else {
             drop(writer);
             return Err(ServeFault::Memory);
         };
         let mut writer = writer;
         match thread::spawn(rt, move || {
-            log.run(alloc, &its, acceptor.mailboxes(), &mut writer)
+            log.run(alloc, &its, mailboxes.as_slice(), &mut writer)
         }) {
             Ok(_) => Ok(()),
             Err(_) => Err(ServeFault::Threads),
@@ -220,6 +220,7 @@ impl<R: Threads + Wait + Drop> Server<R> {
         } = self;
         shared.wakeups.end();
         shared.wakeups.log().await_told(rt);
+        shared.wakeups.log().end();
         drop(acceptor);
         drop(setups);
         match join_promised(rt, workers) {

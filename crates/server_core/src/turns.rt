@@ -29,6 +29,7 @@ impl<R: Wait + Clock + Drop> Service<'_, R> {
             mark,
             log: self.shared.wakeups.log(),
         };
+        let was_full = is_full(&self.desk, number);
         let desk = &mut self.desk;
         let Some(turned) = take_turns(self.alloc, &self.shared.ring, desk, &wakers) else {
             return;
@@ -37,11 +38,12 @@ impl<R: Wait + Clock + Drop> Service<'_, R> {
         if turned.appended {
             self.shared.wakeups.wake_flusher();
         }
+        // At once: its client may keep its connection for as long as its close is waited for.
+        if !was_full && is_full(&self.desk, number) {
+            self.shared.wakeups.log().count(Kind::LongNames);
+        }
         match turned.next {
             Next::Over(_) => {
-                if matches!(self.desk.cut(number), Cut::Full(_)) {
-                    self.shared.wakeups.log().count(Kind::LongNames);
-                }
                 drop(self.desk.dismiss(number));
                 self.leave(number);
             }
@@ -54,7 +56,9 @@ impl<R: Wait + Clock + Drop> Service<'_, R> {
         ensures shared { self.new.shared ≡ self.old.shared }
     {
         let flow = flow_of(&self.desk, number);
-        self.clients.settle(number, turned, flow, self.now);
+        let is_unread = self.desk.awaits_room(number);
+        self.clients
+            .settle(number, turned, flow, is_unread, self.now);
         let holds = self.desk.held(number);
         self.count(number, holds);
         // One that has nothing more to do at once hears the close.
@@ -71,6 +75,11 @@ fn waits(next: Next) -> bool {
         Next::Go | Next::Write | Next::Close | Next::Over(_) => false,
         Next::Read | Next::Room(_) | Next::Output(_) | Next::Memory => true,
     }
+}
+
+// Whether acts of a client at the desk were cut off, since its names have no room beside the others'.
+fn is_full(desk: &ClientDesk, number: usize) -> bool {
+    matches!(desk.cut(number), Cut::Full(_))
 }
 
 // What the stream of a client at the desk tells.

@@ -41,7 +41,7 @@ impl Ending {
     }
 
     /// Whether workers are to part with their clients.
-    pub(crate) fn has_begun(&self) -> bool {
+    pub fn has_begun(&self) -> bool {
         self.begun.load(Ordering::SeqCst)
     }
 

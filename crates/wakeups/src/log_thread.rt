@@ -7,7 +7,7 @@ use event_log::{Event, Figures, KINDS, Kind, Rhythm, write_line};
 use flush_core::{ERRORS, Tally};
 use std::alloc::{AllocError, Global};
 use std::io::Write;
-use std::sync::atomic::{AtomicU64, Ordering};
+use std::sync::atomic::{AtomicBool, AtomicU64, Ordering};
 use std::sync::{Arc, Wait};
 use std::thread::Parker;
 use std::time::{Clock, Duration};
@@ -102,6 +102,8 @@ pub struct LogThread {
     thread: Parker,
     // The sleep of what ends the server, until all is told.
     ender: Parker,
+    // Whether the server has ended, and its thread with it.
+    over: AtomicBool,
 }
 
 impl LogThread {
@@ -118,6 +120,7 @@ impl LogThread {
             gauges: Gauges::new(),
             thread: Parker::new(),
             ender: Parker::new(),
+            over: AtomicBool::new(false),
         })
     }
 
@@ -140,6 +143,12 @@ impl LogThread {
             }
             self.ender.park_timeout(rt, Duration::from_millis(LOOK));
         }
+    }
+
+    /// The server has ended: its thread writes the events that were noted, and ends.
+    pub fn end(&self) {
+        self.over.store(true, Ordering::SeqCst);
+        self.thread.unpark();
     }
 
     /// Counts something.
@@ -172,7 +181,8 @@ impl LogThread {
         self.gauges.set(figures);
     }
 
-    /// Tells what comes, and how many clients the desks of these mailboxes have. It does not return. A line that can't be written is left out.
+    /// Writes what comes, and how many clients the desks of these mailboxes have, until the server has ended. A line that can't be written is
+    /// left out.
     pub fn run<R: Wait + Clock, W: Write>(
         &self,
         alloc: Global,
@@ -183,7 +193,11 @@ impl LogThread {
         let mut rhythm = Rhythm::new(moment(rt));
         let mut told = 0;
         for _ in rt.forever() {
+            let is_over = self.over.load(Ordering::SeqCst);
             self.tell_events(alloc, rt, writer);
+            if is_over {
+                return;
+            }
             let now = moment(rt);
             if self.has_counts() && rhythm.tells_counts(now) {
                 self.tell_counts(alloc, rt, writer);

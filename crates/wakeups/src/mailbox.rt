@@ -205,7 +205,9 @@ impl Wakers<ClientWaker> for ClientWakers<'_> {
     }
 
     fn appended(&self, ticket: u64) {
-        self.pace.appended(self.mailbox.desk, ticket, self.mark);
+        let client = self.client as u64;
+        self.pace
+            .appended(self.mailbox.desk, client, ticket, self.mark);
     }
 
     fn answered(&self, notice: &Notice) {

@@ -13,9 +13,9 @@ use std::sync::{Arc, Wait};
 use std::thread;
 use std::time::{Clock, Duration};
 
-/// For how many seconds the flusher sleeps at most before it looks again. Nothing waits for this to end: the flusher is woken if
-/// there is something to do.
-const LONGEST_SLEEP: u64 = 10;
+/// For how many seconds the flusher sleeps at most before it looks again. It is woken if there is something to do; only its look at the
+/// journal's file waits for this.
+const LONGEST_SLEEP: u64 = 1;
 
 /// A turn of the flusher that took so many microseconds was on a slow disk.
 const SLOW: u64 = 2_000;
