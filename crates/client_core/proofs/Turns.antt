@@ -5,7 +5,7 @@ use Rattle.frame_core.specs.declared.frame.Frame.{Frame}
 use Rattle.frame_core.specs.Streams.{Frames}
 use Rattle.frame_core.proofs.Joins.{joined, joined_fault}
 use Rattle.client_core.specs.Answers.{Breaks, Gives, Hears, said}
-use Rattle.client_core.specs.Talks.{Adds, Answers, AreAnswered, BreaksOff, Converses, HasReason, Heard, IsAnswered, IsOfPeer, IsUnanswered, Leads, Refuses, Said, Spoken, all_of, turn}
+use Rattle.client_core.specs.Talks.{Adds, Answers, AreDoneFirst, BreaksOff, Converses, HasReason, Heard, IsAnswered, IsOfPeer, IsUnanswered, Leads, Refuses, Said, Spoken, all_of, turn}
 use Rattle.client_core.specs.declared.fault.Cause.{Cause}
 use Rattle.client_core.specs.declared.fault.ClientFault.{ClientFault}
 use Rattle.client_core.specs.declared.probe.Probe.{Probe}
@@ -118,11 +118,5 @@ pub has_reason : (probe : Probe) (frame : List ℕ) (fault : ClientFault) (x y :
 has_reason probe frame fault x y (inl own) = inl own
 has_reason probe frame fault x y (inr at) = inr (probe, all_of at.1.0, at.0, at.1.2)
 
-pub have_reason : (r : Result (Unit {0}) ClientFault) (probe : Probe) (frame : List ℕ) (x y : Option (List Spoken)) → IfErr r (λ fault. IsUnanswered probe frame fault x y) → IfErr r HasReason
-have_reason (Ok u) probe frame x y is = tt
-have_reason (Err fault) probe frame x y is = has_reason probe frame fault x y is
-
-pub three : {E : Type 0} (r : Result (Unit {0}) E) (one two last : Probe × List ℕ) (w x y z : Option (List Spoken)) → Answers one.0 one.1 w x → Answers two.0 two.1 x y → OnOk r (Answers last.0 last.1 y z)
-    → OnOk r (AreAnswered (one ∷ two ∷ last ∷ []) w z)
-three (Ok u) one two last w x y z a b c = (x, a, (y, b, (z, c, refl)))
-three (Err e) one two last w x y z a b c = tt
+pub both : (one next : Probe × List ℕ) (x y z w : Option (List Spoken)) → Answers one.0 one.1 x y → Answers next.0 next.1 y z → AreDoneFirst (one ∷ next ∷ []) x w
+both one next x y z w a b = (z, (y, a, (z, b, refl)))

@@ -5,11 +5,10 @@ use Rattle.std.specs.List.{starts_with}
 use Rattle.frame_core.specs.declared.frame.Frame.{Frame}
 use Rattle.frame_core.specs.declared.frame.Verb.TheVariants as verbs
 use Rattle.frame_core.specs.Written.{written}
-use Rattle.client_core.specs.Answers.{said}
 use Rattle.client_core.specs.declared.plan.Outgoing.{Outgoing}
 use Rattle.client_core.specs.declared.plan.Plan.{Plan}
 use Rattle.client_core.specs.declared.probe.Probe.{Probe}
-use Rattle.client_core.specs.declared.probe.Probe.TheVariants.{Connect, Disconnect, Send}
+use Rattle.client_core.specs.declared.probe.Probe.TheVariants.{Connect, Send}
 
 -- a header that may be left out
 abbrev pub header : List ℕ → Option (Bor (List ℕ)) → List (List ℕ × List ℕ)
@@ -68,9 +67,10 @@ forget_frame name = record {
 abbrev pub ack_frame : List ℕ → Frame
 ack_frame delivery = record { verb = verbs.Ack; headers = (codes "id", delivery) ∷ []; body = [] }
 
--- the whole conversation of one who sends a message, and of one who gives up a durable name
+-- What is said for a message to be sent, and for a durable name to be given up, each once the one before is answered. How the session
+-- ends after that changes nothing.
 abbrev pub send_turns : List ℕ → Outgoing → List (Probe × List ℕ)
-send_turns host message = (Connect, written (connect_frame host None)) ∷ (Send, written (send_frame message)) ∷ (Disconnect, said Disconnect) ∷ []
+send_turns host message = (Connect, written (connect_frame host None)) ∷ (Send, written (send_frame message)) ∷ []
 
 abbrev pub forget_turns : List ℕ → Bor (List ℕ) → List ℕ → List (Probe × List ℕ)
-forget_turns host client name = (Connect, written (connect_frame host (Some client))) ∷ (Send, written (forget_frame name)) ∷ (Disconnect, said Disconnect) ∷ []
+forget_turns host client name = (Connect, written (connect_frame host (Some client))) ∷ (Send, written (forget_frame name)) ∷ []

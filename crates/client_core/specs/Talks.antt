@@ -62,6 +62,14 @@ abbrev pub AreAnswered : List (Probe × List ℕ) → Option (List Spoken) → O
 AreAnswered [] before after = after ≡ before
 AreAnswered (one ∷ more) before after = (between : Option (List Spoken)) × Answers one.0 one.1 before between × AreAnswered more between after
 
+-- what was asked for was not answered: the session was not opened, or its RECEIPT did not come
+abbrev pub IsUndone : ClientFault → Type 0
+IsUndone fault = (fault.step ≡ steps.Connected) ⊎ (fault.step ≡ steps.Receipt)
+
+-- these frames are said, each once the one before is answered, and then perhaps more
+abbrev pub AreDoneFirst : List (Probe × List ℕ) → Option (List Spoken) → Option (List Spoken) → Type 0
+AreDoneFirst turns before after = (between : Option (List Spoken)) × AreAnswered turns before between
+
 -- the talk that leads to a probe: what is said before it is answered
 abbrev pub Leads : Probe → List Spoken → Type 0
 Leads Connect talk = talk ≡ []

@@ -1,7 +1,7 @@
 //! A frame is said, and its answer heard.
 
 ghost use Rattle.std.specs.Prelude.{◌≡◌, ◌∷◌, ◌++◌, ◌⊎◌, [], List, ℕ, IfErr, IfOk, OnOk, false, map};
-ghost use Rattle.client_core.specs.Answers.{Breaks, Hears};
+ghost use Rattle.client_core.specs.Answers.{Breaks, Hears, step_of};
 ghost use Rattle.client_core.specs.Talks.{Adds, Answers, Heard, IsAnswered, IsOfPeer, IsUnanswered, Refuses, all_of};
 
 use crate::fault::{Cause, ClientFault};
@@ -20,6 +20,7 @@ pub fn ask<P: Peer>(
 ) -> Result<(), ClientFault>
     ensures ok { OnOk result (Answers probe frame.now (P.talk peer.old) (P.talk peer.new)) }
     ensures fault { IfErr result (λ fault. IsUnanswered probe frame.now fault (P.talk peer.old) (P.talk peer.new)) }
+    ensures step { IfErr result (λ fault. fault.step ≡ step_of probe) }
 {
     match answer(alloc, probe, frame, peer) {
         Ok(()) => Ok(()),

@@ -3,7 +3,7 @@
 ghost use Rattle.std.specs.Prelude.{◌≡◌, ◌⊎◌, IfErr, OnOk};
 ghost use Rattle.frame_core.specs.Written.{written};
 ghost use Rattle.client_core.specs.declared.probe.Probe.TheVariants.{Connect, Disconnect, Send};
-ghost use Rattle.client_core.specs.Answers.{said};
+ghost use Rattle.client_core.specs.Answers.{said, step_of};
 ghost use Rattle.client_core.specs.Requests.{connect_frame, forget_frame, send_frame};
 ghost use Rattle.client_core.specs.Talks.{Answers, IsOfPeer, IsUnanswered};
 
@@ -24,6 +24,7 @@ pub fn open<P: Peer>(
 ) -> Result<(), ClientFault>
     ensures ok { OnOk result (Answers Connect (written (connect_frame host.now client.entry)) (P.talk peer.old) (P.talk peer.new)) }
     ensures fault { IfErr result (λ fault. IsUnanswered Connect (written (connect_frame host.now client.entry)) fault (P.talk peer.old) (P.talk peer.new)) }
+    ensures step { IfErr result (λ fault. fault.step ≡ step_of Connect) }
 {
     match connect_text(alloc, host, client) {
         Ok(text) => ask_owned(alloc, Probe::Connect, text, peer),
@@ -35,6 +36,7 @@ pub fn open<P: Peer>(
 pub fn send<P: Peer>(alloc: Global, message: &Outgoing<'_>, peer: &mut P) -> Result<(), ClientFault>
     ensures ok { OnOk result (Answers Send (written (send_frame message.now)) (P.talk peer.old) (P.talk peer.new)) }
     ensures fault { IfErr result (λ fault. IsUnanswered Send (written (send_frame message.now)) fault (P.talk peer.old) (P.talk peer.new)) }
+    ensures step { IfErr result (λ fault. fault.step ≡ step_of Send) }
 {
     match send_text(alloc, message) {
         Ok(text) => ask_owned(alloc, Probe::Send, text, peer),
@@ -46,6 +48,7 @@ pub fn send<P: Peer>(alloc: Global, message: &Outgoing<'_>, peer: &mut P) -> Res
 pub fn forget<P: Peer>(alloc: Global, name: &str, peer: &mut P) -> Result<(), ClientFault>
     ensures ok { OnOk result (Answers Send (written (forget_frame name.now)) (P.talk peer.old) (P.talk peer.new)) }
     ensures fault { IfErr result (λ fault. IsUnanswered Send (written (forget_frame name.now)) fault (P.talk peer.old) (P.talk peer.new)) }
+    ensures step { IfErr result (λ fault. fault.step ≡ step_of Send) }
 {
     match forget_text(alloc, name) {
         Ok(text) => ask_owned(alloc, Probe::Send, text, peer),
@@ -92,6 +95,7 @@ fn ask_owned<P: Peer>(
 ) -> Result<(), ClientFault>
     ensures ok { OnOk result (Answers probe text.items (P.talk peer.old) (P.talk peer.new)) }
     ensures fault { IfErr result (λ fault. IsUnanswered probe text.items fault (P.talk peer.old) (P.talk peer.new)) }
+    ensures step { IfErr result (λ fault. fault.step ≡ step_of probe) }
 {
     let answered = ask(alloc, probe, text.as_slice(), peer);
     drop(text);
@@ -100,7 +104,8 @@ fn ask_owned<P: Peer>(
 
 // The fault if a frame was not said.
 fn unsaid(probe: Probe, cause: Cause) -> ClientFault
-    ensures { result.cause ≡ cause }
+    ensures cause { result.cause ≡ cause }
+    ensures step { result.step ≡ step_of probe }
 {
     ClientFault {
         step: probe.step(),

@@ -60,7 +60,8 @@ pub struct Way<'a, R> {
     pub headers: &'a [(&'a str, &'a str)],
 }
 
-/// Sends each line of a stream as a message, once the one before has its RECEIPT. Answers how many were taken, and why no more.
+/// Sends each line of a stream as a message, once the one before has its RECEIPT. Answers how many were taken, and why no more. How the
+/// last session ends changes nothing.
 pub fn send_lines<R, I>(way: &Way<'_, R>, input: I) -> (u64, Result<(), InputFault>)
 where
     R: Net<Stream = TcpStream> + Clock + RandomSource + Clone + Drop,
@@ -74,13 +75,11 @@ where
     let mut taken = 0;
     let ended = send_all(way, &mut reader, &mut peer, &mut taken);
     drop(reader);
-    match (ended, peer) {
-        (Ok(()), Some(open)) => (taken, leave(way.alloc, open)),
-        (ended, peer) => {
-            drop(peer);
-            (taken, ended)
-        }
+    match (&ended, peer) {
+        (Ok(()), Some(open)) => leave(way.alloc, open),
+        (_, peer) => drop(peer),
     }
+    (taken, ended)
 }
 
 // Sends lines until there are no more, and counts those that were taken.
@@ -165,19 +164,11 @@ where
     }
 }
 
-// Ends the session of the last connection.
-fn leave<R>(alloc: Global, peer: WebPeer<R>) -> Result<(), InputFault>
-where
-    R: Clock + RandomSource + Drop,
-    ensures { IfErr result IsLineFault }
-{
+// Ends the session of the last connection, as far as the server goes along with that: each line has its RECEIPT.
+fn leave<R: Clock + RandomSource + Drop>(alloc: Global, peer: WebPeer<R>) {
     let mut peer = peer;
-    let left = client_core::leave(alloc, &mut peer);
+    drop(client_core::leave(alloc, &mut peer));
     drop(peer);
-    match left {
-        Ok(()) => Ok(()),
-        Err(fault) => Err(InputFault::Client(fault)),
-    }
 }
 
 // The next line without its end.

@@ -1,19 +1,15 @@
 use Rattle.std.proofs.Common.{Some}
 use Rattle.frame_core.specs.Written.{written}
-use Rattle.client_core.specs.Answers.{said}
 use Rattle.client_core.specs.Requests.{connect_frame, forget_frame}
-use Rattle.client_core.specs.declared.probe.Probe.TheVariants.{Connect, Disconnect, Send}
-use Rattle.client_core.proofs.Turns.{has_reason, have_reason, three}
+use Rattle.client_core.specs.declared.probe.Probe.TheVariants.{Connect, Send}
+use Rattle.client_core.proofs.Turns.{has_reason, both}
 use Rattle.client_core.proofs.calls.forget_once.Goals as goal
 
 pub returns-in-Ok-forget-clause-ok : goal.returns-in-Ok-forget-clause-ok
 returns-in-Ok-forget-clause-ok g c =
     let talk = g.P.Peer.talk in
-    three c.leave.result (Connect, written (connect_frame c.args.host.now (Some c.args.client))) (Send, written (forget_frame c.args.name.now)) (Disconnect, said Disconnect) (talk c.args.peer.now) (talk c.open.new.peer)
-    (talk c.forget.new.peer) (talk c.leave.new.peer) c.in-Ok.ensures.ok c.in-Ok-forget.ensures.ok c.leave.ensures.ok
-
-pub returns-in-Ok-forget-clause-fault : goal.returns-in-Ok-forget-clause-fault
-returns-in-Ok-forget-clause-fault g c = have_reason c.leave.result Disconnect (said Disconnect) (g.P.Peer.talk c.forget.new.peer) (g.P.Peer.talk c.leave.new.peer) c.leave.ensures.fault
+    both (Connect, written (connect_frame c.args.host.now (Some c.args.client))) (Send, written (forget_frame c.args.name.now)) (talk c.args.peer.now) (talk c.open.new.peer) (talk c.forget.new.peer) (talk c.part.new.peer)
+    c.in-Ok.ensures.ok c.in-Ok-forget.ensures.ok
 
 pub returns-in-Err-forget-clause-fault : goal.returns-in-Err-forget-clause-fault
 returns-in-Err-forget-clause-fault g c =

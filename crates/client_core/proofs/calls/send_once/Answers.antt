@@ -1,19 +1,15 @@
 use Rattle.std.proofs.Common.{None}
 use Rattle.frame_core.specs.Written.{written}
-use Rattle.client_core.specs.Answers.{said}
 use Rattle.client_core.specs.Requests.{connect_frame, send_frame}
-use Rattle.client_core.specs.declared.probe.Probe.TheVariants.{Connect, Disconnect, Send}
-use Rattle.client_core.proofs.Turns.{has_reason, have_reason, three}
+use Rattle.client_core.specs.declared.probe.Probe.TheVariants.{Connect, Send}
+use Rattle.client_core.proofs.Turns.{has_reason, both}
 use Rattle.client_core.proofs.calls.send_once.Goals as goal
 
 pub returns-in-Ok-send-clause-ok : goal.returns-in-Ok-send-clause-ok
 returns-in-Ok-send-clause-ok g c =
     let talk = g.P.Peer.talk in
-    three c.leave.result (Connect, written (connect_frame c.args.host.now None)) (Send, written (send_frame c.args.message.now)) (Disconnect, said Disconnect) (talk c.args.peer.now) (talk c.open.new.peer)
-    (talk c.send.new.peer) (talk c.leave.new.peer) c.in-Ok.ensures.ok c.in-Ok-send.ensures.ok c.leave.ensures.ok
-
-pub returns-in-Ok-send-clause-fault : goal.returns-in-Ok-send-clause-fault
-returns-in-Ok-send-clause-fault g c = have_reason c.leave.result Disconnect (said Disconnect) (g.P.Peer.talk c.send.new.peer) (g.P.Peer.talk c.leave.new.peer) c.leave.ensures.fault
+    both (Connect, written (connect_frame c.args.host.now None)) (Send, written (send_frame c.args.message.now)) (talk c.args.peer.now) (talk c.open.new.peer) (talk c.send.new.peer) (talk c.part.new.peer)
+    c.in-Ok.ensures.ok c.in-Ok-send.ensures.ok
 
 pub returns-in-Err-send-clause-fault : goal.returns-in-Err-send-clause-fault
 returns-in-Err-send-clause-fault g c =
