@@ -3,7 +3,7 @@ use Rattle.std.proofs.Common.{◌≡◌, ◌∙◌, ◌*◌, ◌<◌, ◌≤◌,
 use Rattle.client_core.specs.declared.address.Address.{Address}
 use Rattle.client_core.specs.declared.address.Address.TheVariants.{Port, Url}
 use Rattle.command_line.specs.Addresses.{IsAddress, is_url}
-use Rattle.command_line.specs.CommandLines.{AskForMemory}
+use Rattle.command_line.specs.CommandLines.{AskForMemory, AskForNew}
 use Rattle.command_line.specs.Numbers.{IsNumber}
 use Rattle.command_line.specs.Sizes.{IsSize, unit_of}
 
@@ -27,3 +27,11 @@ no_memory texts text are large (Some n) asked =
     let e : text ∷ [] ≡ asked.0.0 ∷ [] = sym are ∙ asked.0.1 in
     let t : asked.0.0 ≡ text = cc in
     let most = large n (subst (λ x. IsSize x n) t asked.0.2) asked.1 in omega (arith, most, asked.2)
+
+-- nor for a new journal, if it means no size
+pub no_new : (texts : List (List ℕ)) (text : List ℕ) → texts ≡ text ∷ [] → ((n : ℕ) → IsSize text n → 2 ^ 64 ≤ n) → (new : Option ℕ) → AskForNew texts new → ⊥
+no_new texts text are large None asked = let l = ap length (sym are ∙ asked) in omega (arith, l)
+no_new texts text are large (Some n) asked =
+    let e : text ∷ [] ≡ asked.0.0 ∷ [] = sym are ∙ asked.0.1 in
+    let t : asked.0.0 ≡ text = cc in
+    let most = large n (subst (λ x. IsSize x n) t asked.0.2) in omega (arith, most, asked.1)

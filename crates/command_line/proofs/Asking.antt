@@ -1,9 +1,10 @@
 -- Words that ask for nothing that the program does.
-use Rattle.std.proofs.Common.{◌≡◌, ◌≢◌, ◌∙◌, ◌<◌, ◌≤◌, ◌^◌, List, [], ◌∷◌, ℕ, ap, arith, bytes_eq, codes, false, length, refl, subst, sym, true}
-use Rattle.command_line.specs.CommandLines.{AreAddress, AreFileAndNumber, AreFileAndSize, AreFilesAndSize, AskForNothing, AskNothingWith, AskWith, Words, given_by}
+use Rattle.std.proofs.Common.{◌≡◌, ◌≢◌, ◌∙◌, ◌<◌, ◌≤◌, ◌^◌, List, [], ◌∷◌, ℕ, IfOk, Result, Ok, Err, ap, arith, bytes_eq, codes, false, length, refl, subst, sym, true}
+use Rattle.command_line.specs.CommandLines.{AreAddress, AreFileAndNumber, AreFileAndSize, AreFilesAndSize, AskFor, AskForNothing, AskNothingWith, AskWith, Words, given_by}
 use Rattle.command_line.specs.Addresses.{IsAddress}
 use Rattle.command_line.specs.Sizes.{IsSize}
 use Rattle.client_core.specs.declared.address.Address.{Address}
+use Rattle.command_line.specs.declared.parsing.Subcommand.{Subcommand}
 use Rattle.command_line.specs.declared.parsing.Subcommand.TheVariants.{Script, Version, Ping, Format, Show, Held, Sessions, Copy, Serve}
 
 same_test : (a b : List ℕ) → a ≡ b → bytes_eq a b ≡ bytes_eq b b
@@ -30,7 +31,7 @@ no_script given some (Show file) asked = apart (codes "script") (codes "show") r
 no_script given some (Held file) asked = apart (codes "script") (codes "held") refl refl asked.0
 no_script given some (Sessions file) asked = apart (codes "script") (codes "sessions") refl refl asked.0
 no_script given some (Copy file copy bytes is_sparse) asked = apart (codes "script") (codes "copy") refl refl asked.0
-no_script given some (Serve file port origins threads memory until_eof) asked = apart (codes "script") (codes "serve") refl refl asked.0
+no_script given some (Serve file port origins threads memory new until_eof) asked = apart (codes "script") (codes "serve") refl refl asked.0
 
 pub no_version : (given : Words) → given.arguments ≢ [] → AskNothingWith (codes "--version") given
 no_version given some Script asked = apart (codes "--version") (codes "script") refl refl asked.0
@@ -41,7 +42,7 @@ no_version given some (Show file) asked = apart (codes "--version") (codes "show
 no_version given some (Held file) asked = apart (codes "--version") (codes "held") refl refl asked.0
 no_version given some (Sessions file) asked = apart (codes "--version") (codes "sessions") refl refl asked.0
 no_version given some (Copy file copy bytes is_sparse) asked = apart (codes "--version") (codes "copy") refl refl asked.0
-no_version given some (Serve file port origins threads memory until_eof) asked = apart (codes "--version") (codes "serve") refl refl asked.0
+no_version given some (Serve file port origins threads memory new until_eof) asked = apart (codes "--version") (codes "serve") refl refl asked.0
 
 pub no_ping : (given : Words) → ((address : Address) → AreAddress given.arguments address → ⊥) → AskNothingWith (codes "ping") given
 no_ping given none Script asked = apart (codes "ping") (codes "script") refl refl asked.0
@@ -52,7 +53,7 @@ no_ping given none (Show file) asked = apart (codes "ping") (codes "show") refl 
 no_ping given none (Held file) asked = apart (codes "ping") (codes "held") refl refl asked.0
 no_ping given none (Sessions file) asked = apart (codes "ping") (codes "sessions") refl refl asked.0
 no_ping given none (Copy file copy bytes is_sparse) asked = apart (codes "ping") (codes "copy") refl refl asked.0
-no_ping given none (Serve file port origins threads memory until_eof) asked = apart (codes "ping") (codes "serve") refl refl asked.0
+no_ping given none (Serve file port origins threads memory new until_eof) asked = apart (codes "ping") (codes "serve") refl refl asked.0
 
 pub no_format : (given : Words) → NoSize given.arguments → AskNothingWith (codes "format") given
 no_format given none Script asked = apart (codes "format") (codes "script") refl refl asked.0
@@ -63,7 +64,7 @@ no_format given none (Show file) asked = apart (codes "format") (codes "show") r
 no_format given none (Held file) asked = apart (codes "format") (codes "held") refl refl asked.0
 no_format given none (Sessions file) asked = apart (codes "format") (codes "sessions") refl refl asked.0
 no_format given none (Copy file copy bytes is_sparse) asked = apart (codes "format") (codes "copy") refl refl asked.0
-no_format given none (Serve file port origins threads memory until_eof) asked = apart (codes "format") (codes "serve") refl refl asked.0
+no_format given none (Serve file port origins threads memory new until_eof) asked = apart (codes "format") (codes "serve") refl refl asked.0
 
 not_one : (arguments : List (List ℕ)) (file : List ℕ) → length arguments ≢ 1 → arguments ≡ file ∷ [] → ⊥
 not_one arguments file other is = other (ap length is)
@@ -77,7 +78,7 @@ no_show given other (Show file) asked = not_one given.arguments file.now other a
 no_show given other (Held file) asked = apart (codes "show") (codes "held") refl refl asked.0
 no_show given other (Sessions file) asked = apart (codes "show") (codes "sessions") refl refl asked.0
 no_show given other (Copy file copy bytes is_sparse) asked = apart (codes "show") (codes "copy") refl refl asked.0
-no_show given other (Serve file port origins threads memory until_eof) asked = apart (codes "show") (codes "serve") refl refl asked.0
+no_show given other (Serve file port origins threads memory new until_eof) asked = apart (codes "show") (codes "serve") refl refl asked.0
 
 pub no_held : (given : Words) → length given.arguments ≢ 1 → AskNothingWith (codes "held") given
 no_held given other Script asked = apart (codes "held") (codes "script") refl refl asked.0
@@ -88,7 +89,7 @@ no_held given other (Show file) asked = apart (codes "held") (codes "show") refl
 no_held given other (Held file) asked = not_one given.arguments file.now other asked.1
 no_held given other (Sessions file) asked = apart (codes "held") (codes "sessions") refl refl asked.0
 no_held given other (Copy file copy bytes is_sparse) asked = apart (codes "held") (codes "copy") refl refl asked.0
-no_held given other (Serve file port origins threads memory until_eof) asked = apart (codes "held") (codes "serve") refl refl asked.0
+no_held given other (Serve file port origins threads memory new until_eof) asked = apart (codes "held") (codes "serve") refl refl asked.0
 
 pub no_sessions : (given : Words) → length given.arguments ≢ 1 → AskNothingWith (codes "sessions") given
 no_sessions given other Script asked = apart (codes "sessions") (codes "script") refl refl asked.0
@@ -99,7 +100,7 @@ no_sessions given other (Show file) asked = apart (codes "sessions") (codes "sho
 no_sessions given other (Held file) asked = apart (codes "sessions") (codes "held") refl refl asked.0
 no_sessions given other (Sessions file) asked = not_one given.arguments file.now other asked.1
 no_sessions given other (Copy file copy bytes is_sparse) asked = apart (codes "sessions") (codes "copy") refl refl asked.0
-no_sessions given other (Serve file port origins threads memory until_eof) asked = apart (codes "sessions") (codes "serve") refl refl asked.0
+no_sessions given other (Serve file port origins threads memory new until_eof) asked = apart (codes "sessions") (codes "serve") refl refl asked.0
 
 pub no_copy : (given : Words) → NoSizeOfCopy given.arguments → AskNothingWith (codes "copy") given
 no_copy given none Script asked = apart (codes "copy") (codes "script") refl refl asked.0
@@ -110,7 +111,7 @@ no_copy given none (Show file) asked = apart (codes "copy") (codes "show") refl 
 no_copy given none (Held file) asked = apart (codes "copy") (codes "held") refl refl asked.0
 no_copy given none (Sessions file) asked = apart (codes "copy") (codes "sessions") refl refl asked.0
 no_copy given none (Copy file copy bytes is_sparse) asked = none file.now copy.now bytes asked.1 asked.2
-no_copy given none (Serve file port origins threads memory until_eof) asked = apart (codes "copy") (codes "serve") refl refl asked.0
+no_copy given none (Serve file port origins threads memory new until_eof) asked = apart (codes "copy") (codes "serve") refl refl asked.0
 
 pub no_serve : (given : Words) → ((file : List ℕ) (port : ℕ) → AreFileAndNumber given.arguments file port → 0 < port → port < 2 ^ 16 → ⊥) → AskNothingWith (codes "serve") given
 no_serve given none Script asked = apart (codes "serve") (codes "script") refl refl asked.0
@@ -121,7 +122,7 @@ no_serve given none (Show file) asked = apart (codes "serve") (codes "show") ref
 no_serve given none (Held file) asked = apart (codes "serve") (codes "held") refl refl asked.0
 no_serve given none (Sessions file) asked = apart (codes "serve") (codes "sessions") refl refl asked.0
 no_serve given none (Copy file copy bytes is_sparse) asked = apart (codes "serve") (codes "copy") refl refl asked.0
-no_serve given none (Serve file port origins threads memory until_eof) asked = none file.now port asked.1 asked.2 asked.3
+no_serve given none (Serve file port origins threads memory new until_eof) asked = none file.now port asked.1 asked.2 asked.3
 
 -- a word that names no subcommand asks for nothing
 pub no_name : (name : List ℕ) (given : Words) → name ≢ codes "script" → name ≢ codes "--version" → name ≢ codes "ping" → name ≢ codes "format" → name ≢ codes "show" → name ≢ codes "held" → name ≢ codes "sessions" → name ≢ codes "copy" → name ≢ codes "serve" → AskNothingWith name given
@@ -133,7 +134,7 @@ no_name name given s v i f w h e y p (Show file) asked = w asked.0
 no_name name given s v i f w h e y p (Held file) asked = h asked.0
 no_name name given s v i f w h e y p (Sessions file) asked = e asked.0
 no_name name given s v i f w h e y p (Copy file copy bytes is_sparse) asked = y asked.0
-no_name name given s v i f w h e y p (Serve file port origins threads memory until_eof) asked = p asked.0
+no_name name given s v i f w h e y p (Serve file port origins threads memory new until_eof) asked = p asked.0
 
 -- nothing is asked for by words of which that is so behind the program's name
 pub nothing_named : (words rest : List (List ℕ)) (program name : List ℕ) → words ≡ program ∷ name ∷ rest → AskNothingWith name (given_by rest) → AskForNothing words
@@ -174,3 +175,9 @@ no_address arguments text are none address found =
 
 pub not_one_address : (arguments : List (List ℕ)) → length arguments ≢ 1 → (address : Address) → AreAddress arguments address → ⊥
 not_one_address arguments other address found = other (ap length found.1)
+
+-- A subcommand is asked for by words behind the program's name.
+pub asked_named : {E : Type 0} (r : Result Subcommand E) (words rest : List (List ℕ)) (program name : List ℕ) (given : Words)
+    → words ≡ program ∷ name ∷ rest → given ≡ given_by rest → IfOk r (AskWith name given) → IfOk r (AskFor words)
+asked_named (Ok asked) words rest program name given are is asks = (program, name, rest, are, subst (λ g. AskWith name g asked) is asks)
+asked_named (Err e) words rest program name given are is asks = tt

@@ -1,5 +1,5 @@
 -- What a client does by the words of a command line, and what is told of that.
-use Rattle.std.specs.Prelude.{◌≡◌, ◌≢◌, ◌<◌, ◌≤◌, ◌^◌, ◌⊎◌, List, [], ◌∷◌, ◌++◌, ◌==◌, ◌||◌, ◌&&◌, ℕ, Bool, None, Option, true, false, ⊤, bytes_eq, codes, cond, length, nat_eq, not}
+use Rattle.std.specs.Prelude.{◌≡◌, ◌≢◌, ◌<◌, ◌≤◌, ◌^◌, ◌⊎◌, List, [], ◌∷◌, ◌++◌, ◌==◌, ◌||◌, ◌&&◌, ℕ, Bool, None, Option, Some, true, false, ⊤, bytes_eq, codes, cond, length, nat_eq, not}
 use Rattle.std.specs.Borrow.{Bor}
 use Rattle.std.specs.List.{AllByRecursion, before_first, position_or_len, starts_with}
 use Rattle.std.specs.Fmt.{decimal}
@@ -51,12 +51,17 @@ CanCome plan count = (0 < count) × (count ≤ most_of plan)
 abbrev pub names_queue : Plan → Bool
 names_queue plan = cond (is_unnamed plan.name) false (starts_with nat_eq plan.destination.now (codes "/queue/"))
 
+-- a word that may be left out is not empty
+abbrev pub IsFilled : Option (Bor (List ℕ)) → Type 0
+IsFilled None = ⊤
+IsFilled (Some word) = word.now ≢ []
+
 -- What is asked of a client can be done. Each header has a name, and lines of standard input come with no other body. A durable name has
--- its client.
+-- its client, and neither is empty.
 abbrev pub CanBeDone : Call → Type 0
 CanBeDone (Send address destination headers body by_lines) = AllByRecursion (λ header. header.0.now ≢ []) headers.items × (by_lines ≡ true → body ≡ None)
-CanBeDone (Listen address client plan) = CanCome plan plan.count × (names_queue plan ≡ false) × (is_unnamed client ≡ is_unnamed plan.name)
-CanBeDone (Forget address client name) = ⊤
+CanBeDone (Listen address client plan) = CanCome plan plan.count × (names_queue plan ≡ false) × (is_unnamed client ≡ is_unnamed plan.name) × IsFilled client × IsFilled plan.name
+CanBeDone (Forget address client name) = (client.now ≢ []) × (name.now ≢ [])
 
 -- the word is not of that kind: no address, no number from 1 on, a number over 16, or no header, since it has no colon or no name before it
 abbrev pub IsNoneOf : WordKind → List ℕ → Type 0
@@ -66,6 +71,7 @@ IsNoneOf kinds.UnsettledCount word = (n : ℕ) × IsNumber word n × (16 < n)
 IsNoneOf kinds.Header word = (position_or_len (λ b. b == 58) word ≡ length word) ⊎ (before_first (λ b. b == 58) word ≡ [])
 IsNoneOf kinds.BodyOfLines word = ⊤
 IsNoneOf kinds.DurableQueue word = ⊤
+IsNoneOf kinds.EmptyName word = word ≡ []
 IsNoneOf _ word = ⊥
 
 -- why nothing is asked of a client is true of the word that is named

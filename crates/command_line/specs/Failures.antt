@@ -68,7 +68,7 @@ IsDoneAs (asks.Show file) unread left before after = (left ≡ unread) × Shows 
 IsDoneAs (asks.Held file) unread left before after = (left ≡ unread) × ShowsHeld before after
 IsDoneAs (asks.Sessions file) unread left before after = (left ≡ unread) × ShowsSessions before after
 IsDoneAs (asks.Copy file copy bytes is_sparse) unread left before after = (8224 ≤ bytes) × Untouched unread left before after
-IsDoneAs (asks.Serve file port origins threads memory until_eof) unread left before after = ⊥
+IsDoneAs (asks.Serve file port origins threads memory new until_eof) unread left before after = ⊥
 
 -- what the words ask for is done
 abbrev pub IsDone : List (List ℕ) → Option (List ℕ) → Option (List ℕ) → Option (List ℕ) → Option (List ℕ) → Type 0
@@ -164,13 +164,16 @@ abbrev pub file_text : List ℕ → FileFault → List ℕ
 file_text file (files.Open error) = open_text file (reason_text (unopened error))
 file_text file files.NoFolder = open_text file (codes "there is no such folder")
 file_text file files.NoSpace = codes "no space left for the file"
+file_text file files.BeingMade = codes "cannot open: " ++ file ++ codes ".new: it is locked, since another stompd makes the file"
+file_text file files.Foreign = codes "cannot open: " ++ file ++ codes ".new: it is there, and no unfinished journal; rename or remove it"
+file_text file files.NoLinks = open_text file (codes "there are no hard links here; make it elsewhere, and move it")
 file_text file (files.Format fault) = format_text fault
 file_text file (files.Show fault) = show_text fault
 file_text file (files.Copy fault) = copy_text fault
 
--- what is told of a server's file; if it is missing, that names the command that makes one
+-- what is told of a server's file; if it is missing, that names the option that makes one
 abbrev pub unserved_text : List ℕ → Unopened → List ℕ
-unserved_text file Missing = open_text file (codes "there is no such file; stompd format makes a journal")
+unserved_text file Missing = open_text file (codes "there is no such file; --new BYTES makes one")
 unserved_text file why = open_text file (reason_text why)
 
 -- what is told of a server that was not started, or has ended

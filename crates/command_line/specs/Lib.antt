@@ -3,6 +3,7 @@ pub mod CommandLines
 pub mod Failures
 pub mod Origins
 pub mod Pings
+pub mod Placing
 pub mod Views
 pub mod Words
 pub mod Numbers

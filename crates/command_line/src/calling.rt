@@ -1,8 +1,8 @@
 //! What the words ask of a client.
 
-ghost use Rattle.std.specs.Prelude.{◌≡◌, ◌≢◌, [], IfErr, IfOk, IfNone, IfSome, map};
+ghost use Rattle.std.specs.Prelude.{◌≡◌, ◌≢◌, ◌↔◌, [], IfErr, IfOk, IfNone, IfSome, IsTrue, map};
 ghost use Rattle.std.specs.List.{AllByRecursion};
-ghost use Rattle.command_line.specs.Calls.{CanBeDone, CanCome, IsNoneOf, IsRefused, is_call_name, most_of, names_call};
+ghost use Rattle.command_line.specs.Calls.{CanBeDone, CanCome, IsFilled, IsNoneOf, IsRefused, is_call_name, most_of, names_call};
 ghost use Rattle.command_line.specs.declared.words.WordKind.TheVariants as kinds;
 
 use crate::addresses::address_of;
@@ -125,6 +125,9 @@ fn listen_in<'a>(given: &ArgMatches<'a>) -> Result<Call<'a>, Uncalled<'a>>
         Some([client, name]) => (Some(*client), Some(*name)),
         _ => (None, None),
     };
+    if !is_filled(client) || !is_filled(name) {
+        return Err(Uncalled::Word(WordKind::EmptyName, ""));
+    }
     if let (Some(name), true) = (name, destination.starts_with("/queue/")) {
         return Err(Uncalled::Word(WordKind::DurableQueue, name));
     }
@@ -174,11 +177,25 @@ fn forget_in<'a>(given: &ArgMatches<'a>) -> Result<Call<'a>, Uncalled<'a>>
     ensures refused { IfErr result IsRefused }
 {
     let address = address_in(given)?;
+    let (client, name) = (word_in(given, "CLIENT"), word_in(given, "NAME"));
+    if client.is_empty() || name.is_empty() {
+        return Err(Uncalled::Word(WordKind::EmptyName, ""));
+    }
     Ok(Call::Forget {
         address,
-        client: word_in(given, "CLIENT"),
-        name: word_in(given, "NAME"),
+        client,
+        name,
     })
+}
+
+// Whether a word that may be left out is not empty.
+fn is_filled(word: Option<&str>) -> bool
+    ensures { IsTrue result ↔ IsFilled word.entry }
+{
+    match word {
+        Some(word) => !word.is_empty(),
+        None => true,
+    }
 }
 
 fn address_in<'a>(given: &ArgMatches<'a>) -> Result<Address<'a>, Uncalled<'a>>

@@ -18,18 +18,21 @@ pub enum Place {
     Threads,
     /// The number of bytes that belongs to the option before it.
     Memory,
+    /// The size of a new journal that belongs to the option before it.
+    Fresh,
     /// An argument, whatever it is: it stands after `--`.
     Behind,
 }
 
-/// The arguments; the origins; what is given for the number of threads and for the memory of clients. Also whether a file is to be
-/// sparse, and whether a server ends with standard input.
+/// The arguments; the origins; what is given for the number of threads, the memory of clients and the size of a new journal. Also
+/// whether a file is to be sparse, and whether a server ends with standard input.
 #[derive(Drop)]
 pub struct Given<'a> {
     pub arguments: Vec<&'a str>,
     pub origins: Vec<&'a [u8]>,
     pub threads: Vec<&'a str>,
     pub memory: Vec<&'a str>,
+    pub fresh: Vec<&'a str>,
     pub is_sparse: bool,
     pub until_eof: bool,
 }
@@ -43,6 +46,7 @@ pub fn given_by<'a, S: AsStr>(alloc: Global, words: &'a [S]) -> Result<Given<'a>
         origins: Vec::new(alloc),
         threads: Vec::new(alloc),
         memory: Vec::new(alloc),
+        fresh: Vec::new(alloc),
         is_sparse: false,
         until_eof: false,
     };
@@ -87,6 +91,10 @@ impl<'a> Given<'a> {
                 self.memory.push(word)?;
                 Ok(Place::Free)
             }
+            Place::Fresh => {
+                self.fresh.push(word)?;
+                Ok(Place::Free)
+            }
             Place::Free => self.take_free(word),
         }
     }
@@ -109,6 +117,9 @@ impl<'a> Given<'a> {
         if is_same(word, "--memory") {
             return Ok(Place::Memory);
         }
+        if is_same(word, "--new") {
+            return Ok(Place::Fresh);
+        }
         self.take_written(word)?;
         Ok(Place::Free)
     }
@@ -125,8 +136,12 @@ impl<'a> Given<'a> {
             self.threads.push(threads)?;
             return Ok(());
         }
-        match value_in(word, "--memory=") {
-            Some(memory) => self.memory.push(memory)?,
+        if let Some(memory) = value_in(word, "--memory=") {
+            self.memory.push(memory)?;
+            return Ok(());
+        }
+        match value_in(word, "--new=") {
+            Some(fresh) => self.fresh.push(fresh)?,
             None => self.arguments.push(word)?,
         }
         Ok(())

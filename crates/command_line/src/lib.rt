@@ -12,6 +12,7 @@ mod numbers;
 mod origins;
 mod parsing;
 mod pinged;
+mod placing;
 mod program;
 mod telling;
 mod usage;
@@ -20,6 +21,7 @@ mod words;
 
 pub use called::{end_call, tell_taken};
 pub use calling::{Call, Uncalled, call_of, is_call};
+pub use making::journal_for_server;
 pub use parsing::{Refused, Subcommand, subcommand_of};
 pub use pinged::end_ping;
 pub use program::{

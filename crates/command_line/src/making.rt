@@ -1,13 +1,14 @@
 //! Making the file of a journal.
 
-ghost use Rattle.std.specs.Prelude.{◌≡◌, ◌+◌, ◌*◌, ◌<◌, ◌≤◌, IfErr, IfOk, OnOk};
+ghost use Rattle.std.specs.Prelude.{◌≡◌, ◌+◌, ◌*◌, ◌<◌, ◌≤◌, IfErr, IfOk, IfSome, IsErr, None, Ok, OnOk, false, true};
 ghost use Rattle.disk_core.specs.File.{file_size};
 ghost use Rattle.command_line.specs.Failures.{IsOfFile, IsTooShort, IsTooShortFault};
 
+use crate::placing::{clear, create, draft_name, is_there, leads_to, place, unmake};
 use crate::program::{Failure, FileFault};
 use crate::viewing::FileView;
 use area_core::{FormatFault, format};
-use disk_core::{FileDisk, OpenError};
+use disk_core::{Disk, FileDisk, OpenError};
 use journal_files::area_in;
 use std::alloc::Global;
 use std::fs::File;
@@ -28,8 +29,10 @@ const MEBIBYTE: u64 = 1_048_576;
 
 /// Makes a file of so many bytes with an empty journal, whose areas share what the header leaves. A file that would be too small
 /// is not made, and one that is there stays as it is. Unless the file is to be sparse, its zeros are written, so that it has all
-/// of its room. For a large file `progress` says how far that is, in a line a second at most. If the file system has no room for
-/// the zeros, or the journal is not written, the file is removed again.
+/// of its room. For a large file `progress` says how far that is, in a line a second at most.
+///
+/// The file is made as `FILE.new`, and gets its name once it is whole. If the file system has no room for the zeros, or the journal is
+/// not written, `FILE.new` is removed again.
 pub fn make_journal<R: Files<File = File> + Clock, P: Write>(
     alloc: Global,
     rt: &R,
@@ -45,12 +48,34 @@ pub fn make_journal<R: Files<File = File> + Clock, P: Write>(
     let Some(area) = area_in(bytes) else {
         return Err(FileFault::Format(FormatFault::TooSmall));
     };
-    let mut disk = make_file(rt, path, bytes, is_sparse, progress)?;
-    let made = write_journal(alloc, &mut disk, area);
-    if made.is_err() {
-        let _removed = std::fs::remove_file(rt, path);
+    let mut draft = draft_of(alloc, rt, path, bytes, is_sparse, progress)?;
+    let made = write_journal(alloc, &mut draft.disk, area);
+    end_draft(rt, draft, path, made)
+}
+
+/// Makes the file of a server's journal, with all of its room, if `bytes` says how many it is to have and nothing is there; answers
+/// whether it made it. All else is as `make_journal` has it.
+pub fn journal_for_server<'a, R: Files<File = File> + Clock, P: Write>(
+    alloc: Global,
+    rt: &R,
+    path: &'a str,
+    new: Option<u64>,
+    progress: &mut P,
+) -> Result<bool, Failure<'a>>
+    ensures none { new ≡ None → result ≡ Ok false }
+    ensures made { IfOk result (λ made. made ≡ true → IfSome new (λ bytes. 8224 ≤ bytes)) }
+    ensures err { IfErr result (λ failure. IsOfFile failure (Unit {0})) }
+{
+    let Some(bytes) = new else {
+        return Ok(false);
+    };
+    if is_there(rt, path) {
+        return Ok(false);
     }
-    made
+    match make_journal(alloc, rt, path, bytes, false, progress) {
+        Ok(()) => Ok(true),
+        Err(fault) => Err(Failure::File(path, fault)),
+    }
 }
 
 /// Makes a file of so many bytes with a journal that holds what the journal in another file holds, its open sessions included. The other
@@ -74,26 +99,67 @@ pub fn copy_journal<'a, R: Files<File = File> + Clock, P: Write>(
         Ok(disk) => disk,
         Err(error) => return Err(Failure::File(path, FileFault::Open(error))),
     };
-    let disk = match make_file(rt, copy, bytes, is_sparse, progress) {
-        Ok(disk) => disk,
+    let mut draft = match draft_of(alloc, rt, copy, bytes, is_sparse, progress) {
+        Ok(draft) => draft,
         Err(fault) => return Err(Failure::File(copy, fault)),
     };
-    match journal_files::copy(alloc, &mut from, disk, area) {
-        Ok(made) => {
-            drop(made);
-            Ok(())
-        }
+    let made = match journal_files::copy(alloc, &mut from, &mut draft.disk, area) {
+        Ok(()) => Ok(()),
+        Err(fault) => Err(FileFault::Copy(fault)),
+    };
+    match end_draft(rt, draft, copy, made) {
+        Ok(()) => Ok(()),
+        Err(FileFault::Copy(fault)) => Err(Failure::File(path, FileFault::Copy(fault))),
+        Err(fault) => Err(Failure::File(copy, fault)),
+    }
+}
+
+// A file that is being made under another name, which this process holds locked.
+#[derive(Drop)]
+struct Draft {
+    name: String,
+    lock: File,
+    disk: FileDisk,
+}
+
+// Makes a file of so many bytes as `FILE.new`, with all of its room unless it is to be sparse. If there is none, it is removed again.
+fn draft_of<R: Files<File = File> + Clock, P: Write>(
+    alloc: Global,
+    rt: &R,
+    path: &str,
+    bytes: u64,
+    is_sparse: bool,
+    progress: &mut P,
+) -> Result<Draft, FileFault>
+    ensures size { IfOk result (λ draft. file_size draft.disk ≡ bytes) }
+    ensures long { IsTooShort result → ⊥ }
+{
+    if most_bytes(rt).is_some_and(|most| most < bytes) {
+        return Err(FileFault::Open(too_large()));
+    }
+    if is_there(rt, path) {
+        return Err(FileFault::Open(OpenError::Exists));
+    }
+    let name = draft_name(alloc, path)?;
+    clear(rt, &name)?;
+    let lock = create(rt, &name)?;
+    let drawn = draw(rt, &lock, &name, bytes, is_sparse, progress);
+    match drawn {
+        Ok(disk) => Ok(Draft { name, lock, disk }),
         Err(fault) => {
-            let _removed = std::fs::remove_file(rt, copy);
-            Err(Failure::File(path, FileFault::Copy(fault)))
+            unmake(rt, &lock, &name);
+            drop(lock);
+            drop(name);
+            Err(fault)
         }
     }
 }
 
-// Makes a file of so many bytes, with all of its room unless it is to be sparse. If there is none, it is removed again.
-fn make_file<R: Files<File = File> + Clock, P: Write>(
+// Gives a new file its size, and all of its room unless it is to be sparse.
+fn draw<R: Files<File = File> + Clock, P: Write>(
     rt: &R,
-    path: &str,
+    file: &File,
+    name: &str,
     bytes: u64,
     is_sparse: bool,
     progress: &mut P,
@@ -101,13 +167,18 @@ fn make_file<R: Files<File = File> + Clock, P: Write>(
     ensures size { IfOk result (λ disk. file_size disk ≡ bytes) }
     ensures long { IsTooShort result → ⊥ }
 {
-    if most_bytes(rt).is_some_and(|most| most < bytes) {
-        return Err(FileFault::Open(too_large()));
+    if let Err(error) = file.set_len(bytes) {
+        return Err(FileFault::Open(OpenError::from(error)));
     }
-    let mut disk = match FileDisk::create(rt, path, bytes) {
+    let mut disk = match FileDisk::open(rt, name) {
         Ok(disk) => disk,
-        Err(error) => return Err(unmade(error)),
+        Err(error) => return Err(FileFault::Open(error)),
     };
+    // The name leads to another file if somebody has moved this one away.
+    if disk.size() != bytes || !leads_to(rt, name, file) {
+        drop(disk);
+        return Err(FileFault::Foreign);
+    }
     if is_sparse {
         return Ok(disk);
     }
@@ -115,24 +186,28 @@ fn make_file<R: Files<File = File> + Clock, P: Write>(
         Ok(()) => Ok(disk),
         Err(error) => {
             drop(disk);
-            let _removed = std::fs::remove_file(rt, path);
             Err(not_filled(error))
         }
     }
 }
 
-// Why a file was not made: if something is missing, it is its folder.
-fn unmade(error: OpenError) -> FileFault
-    ensures { IsTooShortFault result → ⊥ }
+// Gives a draft its name, unless something failed. The name under which it was made is gone then.
+fn end_draft<R: Files<File = File>>(
+    rt: &R,
+    draft: Draft,
+    path: &str,
+    made: Result<(), FileFault>,
+) -> Result<(), FileFault>
+    ensures ok { OnOk result (IsErr made → ⊥) }
+    ensures long { (IsTooShort made → ⊥) → IsTooShort result → ⊥ }
 {
-    match error {
-        OpenError::System(error) if is_missing(&error) => FileFault::NoFolder,
-        error => FileFault::Open(error),
-    }
-}
-
-fn is_missing(error: &io::Error) -> bool {
-    matches!(error.kind(), ErrorKind::NotFound)
+    let ended = match made {
+        Ok(()) => place(rt, &draft.lock, &draft.name, path),
+        Err(fault) => Err(fault),
+    };
+    unmake(rt, &draft.lock, &draft.name);
+    drop(draft);
+    ended
 }
 
 // How many bytes a file of this process may have, if the system tells a limit. One more would end the process by a signal, for which it can

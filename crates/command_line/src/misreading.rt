@@ -19,6 +19,8 @@ pub enum Misread {
     Threads,
     /// A number of bytes for clients.
     Memory,
+    /// The size of a new journal.
+    New,
     /// An origin.
     Origin,
 }
@@ -45,6 +47,7 @@ fn word_of<'a>(name: &str, given: &Given<'a>, what: Misread) -> (WordKind, &'a s
     match what {
         Misread::Threads => (WordKind::Threads, nth(&given.threads, 0)),
         Misread::Memory => (WordKind::Memory, nth(&given.memory, 0)),
+        Misread::New => (WordKind::Bytes, nth(&given.fresh, 0)),
         Misread::Origin => (WordKind::Origin, bad_origin(&given.origins)),
         Misread::Number => match name {
             "ping" => (WordKind::Address, nth(&given.arguments, 0)),

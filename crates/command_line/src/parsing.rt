@@ -1,7 +1,7 @@
 //! What the words of a command line ask for.
 
 ghost use Rattle.std.specs.Prelude.{◌≡◌, ◌≢◌, ◌<◌, ◌^◌, ◌∷◌, ◌↔◌, [], List, Option, ℕ, IfNone, IfOk, IfSome, IsErrOf, IsNone, IsTrue, codes, length, true, map, Ok};
-ghost use Rattle.command_line.specs.CommandLines.{AreFileAndNumber, AskFor, AskForAlone, AskForMemory, AskForNothing, AskForThreads, AskNothingWith, AskWith, AsksForScript, HasOtherMemory, HasOtherOrigin, HasOtherThreads, HaveOtherMemory, HaveOtherOrigin, HaveOtherThreads, words_of};
+ghost use Rattle.command_line.specs.CommandLines.{AreFileAndNumber, AskFor, AskForAlone, AskForMemory, AskForNew, AskForNothing, AskForThreads, AskNothingWith, AskWith, AsksForScript, HasOtherMemory, HasOtherNew, HasOtherOrigin, HasOtherThreads, HaveOtherMemory, HaveOtherNew, HaveOtherOrigin, HaveOtherThreads, words_of};
 ghost use Rattle.std.specs.List.{list_all};
 ghost use Rattle.command_line.specs.Origins.{is_origin};
 ghost use Rattle.command_line.specs.declared.parsing.Subcommand.TheVariants.{Script, Version};
@@ -55,13 +55,14 @@ pub enum Subcommand<'a> {
     },
     /// Serves the broker of the journal in a file at a port, to pages of these origins, or to all if none is named. If a number of
     /// threads is given, 1 to 64, so many serve it. If `memory` is given, its clients may hold so many bytes together, 16,777,216 at
-    /// least. On request it serves until standard input ends.
+    /// least. If `new` is given and the file is missing, it is made first, with so many bytes. On request it serves until standard input ends.
     Serve {
         file: &'a str,
         port: u16,
         origins: Vec<&'a [u8]>,
         threads: Option<u16>,
         memory: Option<u64>,
+        new: Option<u64>,
         until_eof: bool,
     },
 }
@@ -78,6 +79,8 @@ pub enum Refused {
     Threads,
     /// A number of bytes for clients that is not one from 16,777,216 on and under 2^64.
     Memory,
+    /// A number of bytes of a new journal that is invalid, as `Number` has it.
+    New,
     /// An origin that no browser sends. No page would be served.
     Origin,
 }
@@ -85,13 +88,14 @@ pub enum Refused {
 /// The subcommand that the words ask for, of which the first is the program's name. If `clap` refuses the words, its error is the
 /// answer. What `clap` takes has one of the program's forms, or else is refused as an invalid number. Words that are refused for a
 /// number or an origin ask for nothing that the program does. If several are wrong, the first is told: file and port, threads, memory,
-/// origins.
+/// the size of a new journal, origins.
 pub fn subcommand_of<'a, S: AsStr>(alloc: Global, words: &'a [S]) -> Result<Subcommand<'a>, Refused>
     ensures script { AsksForScript (map S.text words.now) → result ≡ Ok Script }
     ensures ok { IfOk result (AskFor (map S.text words.now)) }
     ensures number { IsErrOf result Refused.Number → (asked : Subcommand) → AskFor (map S.text words.now) asked → ⊥ }
     ensures threads { IsErrOf result Refused.Threads → HaveOtherThreads (map S.text words.now) }
     ensures memory { IsErrOf result Refused.Memory → HaveOtherMemory (map S.text words.now) }
+    ensures new { IsErrOf result Refused.New → HaveOtherNew (map S.text words.now) }
     ensures origin { IsErrOf result Refused.Origin → HaveOtherOrigin (map S.text words.now) }
 {
     // These words have nothing to parse, and take no memory.
@@ -133,6 +137,7 @@ fn asked_of<'a, S: AsStr>(alloc: Global, words: &'a [S]) -> Result<Subcommand<'a
     ensures number { IsErrOf result Refused.Number → AskForNothing (map S.text words.now) }
     ensures threads { IsErrOf result Refused.Threads → HaveOtherThreads (map S.text words.now) }
     ensures memory { IsErrOf result Refused.Memory → HaveOtherMemory (map S.text words.now) }
+    ensures new { IsErrOf result Refused.New → HaveOtherNew (map S.text words.now) }
     ensures origin { IsErrOf result Refused.Origin → HaveOtherOrigin (map S.text words.now) }
 {
     let Some((name, rest)) = named(words) else {
@@ -161,6 +166,7 @@ fn asked_with<'a>(name: &str, given: Given<'a>) -> Result<Subcommand<'a>, Refuse
     ensures number { IsErrOf result Refused.Number → AskNothingWith name.now (words_of given.entry) }
     ensures threads { IsErrOf result Refused.Threads → (name.now ≡ codes "serve") × HasOtherThreads (words_of given.entry) }
     ensures memory { IsErrOf result Refused.Memory → (name.now ≡ codes "serve") × HasOtherMemory (words_of given.entry) }
+    ensures new { IsErrOf result Refused.New → (name.now ≡ codes "serve") × HasOtherNew (words_of given.entry) }
     ensures origin { IsErrOf result Refused.Origin → (name.now ≡ codes "serve") × HasOtherOrigin (words_of given.entry) }
 {
     if name == "serve" {
@@ -270,28 +276,32 @@ fn serve_asked<'a>(given: Given<'a>) -> Result<Subcommand<'a>, Refused>
     ensures number { IsErrOf result Refused.Number → AskNothingWith (codes "serve") (words_of given.entry) }
     ensures threads { IsErrOf result Refused.Threads → HasOtherThreads (words_of given.entry) }
     ensures memory { IsErrOf result Refused.Memory → HasOtherMemory (words_of given.entry) }
+    ensures new { IsErrOf result Refused.New → HasOtherNew (words_of given.entry) }
     ensures origin { IsErrOf result Refused.Origin → HasOtherOrigin (words_of given.entry) }
 {
     let are_served = are_origins(&given.origins);
     match numbers_in(&given) {
-        Ok((file, port, threads, memory)) if are_served => {
+        Ok((file, port, threads, memory, new)) if are_served => {
             let Given {
                 arguments,
                 origins,
                 threads: texts,
                 memory: bytes,
+                fresh,
                 is_sparse: _,
                 until_eof,
             } = given;
             drop(arguments);
             drop(texts);
             drop(bytes);
+            drop(fresh);
             Ok(Subcommand::Serve {
                 file,
                 port,
                 origins,
                 threads,
                 memory,
+                new,
                 until_eof,
             })
         }
@@ -317,13 +327,16 @@ fn are_origins(origins: &[&[u8]]) -> bool
     true
 }
 
-/// The file of a server, its port, how many threads it is to have, and how many bytes its clients may hold.
-fn numbers_in<'a>(given: &Given<'a>) -> Result<(&'a str, u16, Option<u16>, Option<u64>), Refused>
+/// The file of a server, its port, how many threads it is to have, how many bytes its clients may hold, and how many a new journal has.
+fn numbers_in<'a>(
+    given: &Given<'a>,
+) -> Result<(&'a str, u16, Option<u16>, Option<u64>, Option<u64>), Refused>
     ensures file { IfOk result (λ it. AreFileAndNumber (words_of given.now).arguments it.0.now it.1 × (0 < it.1) × (it.1 < 2 ^ 16)) }
-    ensures ok { IfOk result (λ it. AskForThreads (words_of given.now).threads it.2 × AskForMemory (words_of given.now).memory it.3) }
+    ensures ok { IfOk result (λ it. AskForThreads (words_of given.now).threads it.2 × AskForMemory (words_of given.now).memory it.3 × AskForNew (words_of given.now).fresh it.4) }
     ensures number { IsErrOf result Refused.Number → AskNothingWith (codes "serve") (words_of given.now) }
     ensures threads { IsErrOf result Refused.Threads → HasOtherThreads (words_of given.now) }
     ensures memory { IsErrOf result Refused.Memory → HasOtherMemory (words_of given.now) }
+    ensures new { IsErrOf result Refused.New → HasOtherNew (words_of given.now) }
     ensures origin { IsErrOf result Refused.Origin → ⊥ }
 {
     let Some((file, port)) = file_and_port(&given.arguments) else {
@@ -335,7 +348,10 @@ fn numbers_in<'a>(given: &Given<'a>) -> Result<(&'a str, u16, Option<u16>, Optio
     let Some(memory) = memory_in(&given.memory) else {
         return Err(Refused::Memory);
     };
-    Ok((file, port, threads, memory))
+    let Some(new) = new_in(&given.fresh) else {
+        return Err(Refused::New);
+    };
+    Ok((file, port, threads, memory, new))
 }
 
 fn file_and_port<'a>(arguments: &[&'a str]) -> Option<(&'a str, u16)>
@@ -370,6 +386,19 @@ fn memory_in(texts: &[&str]) -> Option<Option<u64>>
     }
     let only = one_in(texts)?;
     let number = memory_number_of(only)?;
+    Some(Some(number))
+}
+
+/// How many bytes the texts ask for that are given for a new journal.
+fn new_in(texts: &[&str]) -> Option<Option<u64>>
+    ensures some { IfSome result (AskForNew (map (λ text. text.now) texts.now)) }
+    ensures none { IsNone result → (new : Option ℕ) → AskForNew (map (λ text. text.now) texts.now) new → ⊥ }
+{
+    if texts.is_empty() {
+        return Some(None);
+    }
+    let size = one_in(texts)?;
+    let number = size_of(size)?;
     Some(Some(number))
 }
 

@@ -58,6 +58,12 @@ pub enum FileFault {
     NoFolder,
     /// The file system has no room for all of the file. It is not there.
     NoSpace,
+    /// Another process makes it: `FILE.new` is locked.
+    BeingMade,
+    /// `FILE.new` is there, and no run that was killed left it.
+    Foreign,
+    /// Its file system has no hard links, by which it would get its name.
+    NoLinks,
     /// It would be too small for a journal, or no journal was written into it.
     Format(FormatFault),
     /// It was not shown.
@@ -236,6 +242,7 @@ fn refused_words<'a, S: AsStr>(alloc: Global, words: &'a [S], refused: Refused) 
         Refused::Number => failure_of(alloc, words, Misread::Number),
         Refused::Threads => failure_of(alloc, words, Misread::Threads),
         Refused::Memory => failure_of(alloc, words, Misread::Memory),
+        Refused::New => failure_of(alloc, words, Misread::New),
         Refused::Origin => failure_of(alloc, words, Misread::Origin),
     }
 }

@@ -54,6 +54,18 @@ fn tell_file<E: Write>(file: &str, fault: &FileFault, errors: &mut E) -> io::Res
             "stompd: cannot open: {file}: there is no such folder"
         ),
         FileFault::NoSpace => writeln!(errors, "stompd: no space left for the file"),
+        FileFault::BeingMade => writeln!(
+            errors,
+            "stompd: cannot open: {file}.new: it is locked, since another stompd makes the file"
+        ),
+        FileFault::Foreign => writeln!(
+            errors,
+            "stompd: cannot open: {file}.new: it is there, and no unfinished journal; rename or remove it"
+        ),
+        FileFault::NoLinks => writeln!(
+            errors,
+            "stompd: cannot open: {file}: there are no hard links here; make it elsewhere, and move it"
+        ),
         FileFault::Format(fault) => writeln!(errors, "stompd: {fault}"),
         FileFault::Show(fault) => writeln!(errors, "stompd: {fault}"),
         FileFault::Copy(fault) => writeln!(errors, "stompd: {fault}"),
@@ -87,7 +99,7 @@ fn tell_unserved<E: Write>(file: &str, why: Unopened, errors: &mut E) -> io::Res
     match why {
         Unopened::Missing => writeln!(
             errors,
-            "stompd: cannot open: {file}: there is no such file; stompd format makes a journal"
+            "stompd: cannot open: {file}: there is no such file; --new BYTES makes one"
         ),
         why => writeln!(errors, "stompd: cannot open: {file}: {}", why.text()),
     }

@@ -262,6 +262,11 @@ fn add_serve<'a>(alloc: Global, commands: &mut Vec<Command<'a>>) -> Result<(), A
                 "BYTES",
                 "Lets clients hold so many bytes together, 16M at least, 1G if it is not given; beyond that whoever holds most is given up",
             ),
+            Row::Valued(
+                "new",
+                "SIZE",
+                "Makes FILE first if it is missing, with so many bytes, as 512M",
+            ),
             Row::Flag(
                 "until-eof",
                 "Ends in good order once standard input ends: clients hear it, and the status is 0",

@@ -28,6 +28,8 @@ pub enum WordKind {
     BodyOfLines,
     /// No durable name, since a queue has none.
     DurableQueue,
+    /// A durable name, or its `client-id`, with at least one character.
+    EmptyName,
     /// A port that stands as an argument.
     PortOption,
 }
@@ -54,6 +56,7 @@ impl WordKind {
                 "without --settle at most 16 are shown of what others may get",
             WordKind::BodyOfLines => "with --lines the bodies come from standard input",
             WordKind::DurableQueue => "only a topic has durable names",
+            WordKind::EmptyName => "a durable name and its client-id are not empty",
             WordKind::PortOption =>
                 "there is no such option: the port stands by itself, as in stompd serve FILE 8080",
         }
