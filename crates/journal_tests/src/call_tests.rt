@@ -1,5 +1,7 @@
 use crate::journal_steps::{JournalStep, play};
-use crate::journals::{JournalImage, SIZE, Told, expect, expect_none, front_with, header_with};
+use crate::journals::{
+    JournalImage, SIZE, Told, expect, expect_none, front_with, header_with, put,
+};
 use area_core::{AreaFault, FormatFault, ReadFault, Version, closed, closed_snapshot, header_of};
 use disk_core::Call;
 use std::alloc::{AllocError, Global};
@@ -60,10 +62,15 @@ fn each_refusal_has_its_text(rt: HostRuntime) {
     );
 }
 
-// What formatting asks of the disk: the front of the first area, the header, a sync.
-const FORMAT_CALLS: [Call; 3] = [
+// What formatting asks of a disk without a name: whether it has one, the header behind it, the front of the first area, the name; each
+// is synced.
+const FORMAT_CALLS: [Call; 7] = [
+    Call::Read { at: 0, len: 6 },
+    Call::Write { at: 8, len: 24 },
+    Call::Sync,
     Call::Write { at: 32, len: 41 },
-    Call::Write { at: 0, len: 32 },
+    Call::Sync,
+    Call::Write { at: 0, len: 8 },
     Call::Sync,
 ];
 
@@ -110,27 +117,81 @@ fn a_disk_is_formatted_where_both_areas_fit(rt: HostRuntime) {
     expect_none(&rt, first_wrong_size(rt.alloc()));
 }
 
-// Each of its three calls may be the one that fails.
-const STOPPED: [(JournalStep<'static>, Told); 4] = [
-    (JournalStep::Format(4_096, 0), Told::Device),
-    (JournalStep::Format(4_096, 1), Told::Device),
-    (JournalStep::Format(4_096, 2), Told::Device),
-    (JournalStep::Format(4_096, 3), Told::Done),
-];
+// How many calls a disk makes until it is formatted.
+const CALLS: u64 = 7;
 
-// The place of the first of these steps that comes to something else on a new disk.
+// The steps in which formatting is stopped after so many calls, and the unsynced bytes become that. A name of other bytes is none.
+fn stopped(passed: u64, fill: Option<u8>) -> [(JournalStep<'static>, Told); 3] {
+    let (told, read) = if passed < CALLS {
+        (Told::Device, Told::NotAJournal)
+    } else {
+        (Told::Done, Told::Holds(0, 0))
+    };
+    [
+        (JournalStep::Format(4_096, passed), told),
+        (JournalStep::Stop(fill), Told::Done),
+        (JournalStep::Read, read),
+    ]
+}
+
+// The number of calls after which a stop of formatting leaves something else.
 fn first_wrong_stop(alloc: Global) -> Option<usize> {
-    for (place, step) in STOPPED.iter().enumerate() {
-        if play(alloc, SIZE as u64, &[*step]).is_some() {
-            return Some(place);
+    for passed in 0..=CALLS {
+        for fill in [None, Some(0), Some(b'S')] {
+            if play(alloc, SIZE as u64, &stopped(passed, fill)).is_some() {
+                return Some(passed as usize);
+            }
         }
     }
     None
 }
 
 #[test]
-fn formatting_fails_where_its_disk_fails(rt: HostRuntime) {
+fn formatting_that_stops_leaves_no_journal(rt: HostRuntime) {
     expect_none(&rt, first_wrong_stop(rt.alloc()));
+}
+
+// The number of calls after which a stop of formatting may leave this image, a header and no area.
+fn first_with_header_alone(alloc: Global) -> Option<usize> {
+    let mut image = [0; SIZE];
+    put(&mut image, 0, &header_with(b"STOMPJ02"));
+    for passed in 0..=CALLS {
+        let told = if passed < CALLS {
+            Told::Device
+        } else {
+            Told::Done
+        };
+        let steps = [
+            (JournalStep::Format(4_096, passed), told),
+            (JournalStep::Left(&image), Told::Other),
+        ];
+        if play(alloc, SIZE as u64, &steps).is_some() {
+            return Some(passed as usize);
+        }
+    }
+    None
+}
+
+// The name comes only once all else is synced.
+#[test]
+fn no_stop_leaves_a_header_without_its_area(rt: HostRuntime) {
+    expect_none(&rt, first_with_header_alone(rt.alloc()));
+}
+
+// Formatting a journal takes its name away first: two calls more. The sync of the third fails, or it succeeds.
+const RENAMED: [(JournalStep<'static>, Told); 7] = [
+    (JournalStep::Format(4_096, u64::MAX), Told::Done),
+    (JournalStep::Format(4_096, 2), Told::Device),
+    (JournalStep::Stop(None), Told::Done),
+    (JournalStep::Read, Told::Holds(0, 0)),
+    (JournalStep::Format(4_096, 3), Told::Device),
+    (JournalStep::Stop(None), Told::Done),
+    (JournalStep::Read, Told::NotAJournal),
+];
+
+#[test]
+fn formatting_a_journal_takes_its_name_first(rt: HostRuntime) {
+    expect_none(&rt, play(rt.alloc(), SIZE as u64, &RENAMED));
 }
 
 const FILLED: JournalImage = [0xee; SIZE];

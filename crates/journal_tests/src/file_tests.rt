@@ -2,11 +2,9 @@
 use crate::call_tests::is_text;
 use crate::disk_tests::{read, write};
 use crate::journals::{expect, expect_none};
-use disk_core::{DeviceFault, Disk, FileDisk, OpenError};
+use disk_core::{DeviceCause, DeviceFault, Disk, FileAt, FileDisk, OpenError};
 use std::alloc::Global;
 use std::fs;
-use std::fs::File;
-use std::rt::Files;
 
 // How a file becomes a disk.
 #[derive(Clone, Copy)]
@@ -43,6 +41,10 @@ enum FileWork {
     Cut,
     // The file is removed, and no later sync succeeds, also not one after another.
     LoseName,
+    // A copy is renamed over it, with the same end.
+    BeReplaced,
+    // Other bytes are written over it, and neither a look nor a write succeeds.
+    BeOverwritten,
 }
 
 // A step with a path.
@@ -58,15 +60,15 @@ enum FileStep {
     Does(FileUse, FileWork),
 }
 
-fn disk_at(rt: &impl Files<File = File>, path: &str, how: FileUse) -> Result<FileDisk, OpenError> {
+fn disk_at(rt: &HostRuntime, path: &str, how: FileUse) -> Result<FileDisk, OpenError> {
     match how {
         FileUse::Create(size) => FileDisk::create(rt, path, size),
         FileUse::Open => FileDisk::open(rt, path),
-        FileUse::Lock => FileDisk::open_locked(rt, path),
+        FileUse::Lock => FileDisk::open_locked(rt.alloc(), FileAt { host: *rt, path }),
     }
 }
 
-fn told(rt: &impl Files<File = File>, path: &str, how: FileUse) -> FileTold {
+fn told(rt: &HostRuntime, path: &str, how: FileUse) -> FileTold {
     match disk_at(rt, path, how) {
         Ok(disk) => {
             drop(disk);
@@ -122,7 +124,7 @@ fn finds_each(disk: &mut FileDisk) -> bool {
 }
 
 // Whether the file is opened beside this disk, and has the three bytes.
-fn finds_some(rt: &impl Files<File = File>, path: &str) -> bool {
+fn finds_some(rt: &HostRuntime, path: &str) -> bool {
     match FileDisk::open(rt, path) {
         Ok(mut disk) => {
             let found = read(&mut disk);
@@ -137,18 +139,46 @@ fn finds_some(rt: &impl Files<File = File>, path: &str) -> bool {
 }
 
 // What a disk with the lock of its file leaves to others: the file is not locked twice, and can be opened without the lock.
-fn leaves_the_rest(rt: &impl Files<File = File>, path: &str, disk: &mut FileDisk) -> bool {
+fn leaves_the_rest(rt: &HostRuntime, path: &str, disk: &mut FileDisk) -> bool {
     told(rt, path, FileUse::Lock) == FileTold::Locked
         && write_some(disk)
         && finds_some(rt, path)
         && disk.size() == 6
 }
 
-fn is_lost(rt: &impl Files<File = File>, path: &str, disk: &mut FileDisk) -> bool {
-    write_some(disk) && fs::remove_file(rt, path).is_ok() && !write_some(disk) && !write_some(disk)
+// Whether nothing is written any more, for that cause.
+fn has_failed(disk: &mut FileDisk, cause: DeviceCause) -> bool {
+    !write_some(disk)
+        && !write_some(disk)
+        && disk.look() == Err(cause)
+        && disk.cause() == Some(cause)
 }
 
-fn does(rt: &impl Files<File = File>, path: &str, disk: &mut FileDisk, work: FileWork) -> bool {
+// Whether all was well so far.
+fn is_well(disk: &mut FileDisk) -> bool {
+    write_some(disk) && disk.look() == Ok(()) && disk.cause() == None
+}
+
+fn is_removed(rt: &HostRuntime, path: &str, disk: &mut FileDisk) -> bool {
+    is_well(disk) && fs::remove_file(rt, path).is_ok() && has_failed(disk, DeviceCause::Removed)
+}
+
+const COPY: &str = "journal_tests_disk_copy";
+
+fn is_replaced(rt: &HostRuntime, path: &str, disk: &mut FileDisk) -> bool {
+    is_well(disk)
+        && fs::copy(rt, path, COPY).is_ok()
+        && fs::rename(rt, COPY, path).is_ok()
+        && has_failed(disk, DeviceCause::Replaced)
+}
+
+fn is_overwritten(rt: &HostRuntime, path: &str, disk: &mut FileDisk) -> bool {
+    is_well(disk)
+        && fs::write(rt, path, [7; 64].as_slice()).is_ok()
+        && has_failed(disk, DeviceCause::Overwritten)
+}
+
+fn does(rt: &HostRuntime, path: &str, disk: &mut FileDisk, work: FileWork) -> bool {
     match work {
         FileWork::WriteSome => write_some(disk),
         FileWork::FindSome => read(disk) == Ok(SOME),
@@ -158,12 +188,14 @@ fn does(rt: &impl Files<File = File>, path: &str, disk: &mut FileDisk, work: Fil
         FileWork::Cut => {
             fs::write(rt, path, b"abc".as_slice()).is_ok() && read(disk) == Err(DeviceFault)
         }
-        FileWork::LoseName => is_lost(rt, path, disk),
+        FileWork::LoseName => is_removed(rt, path, disk),
+        FileWork::BeReplaced => is_replaced(rt, path, disk),
+        FileWork::BeOverwritten => is_overwritten(rt, path, disk),
     }
 }
 
 // Whether the file becomes a disk with which that is done. Its lock is there for as long as the disk is, and no longer.
-fn is_done(rt: &impl Files<File = File>, path: &str, how: FileUse, work: FileWork) -> bool {
+fn is_done(rt: &HostRuntime, path: &str, how: FileUse, work: FileWork) -> bool {
     match disk_at(rt, path, how) {
         Ok(mut disk) => {
             let is_done = does(rt, path, &mut disk, work);
@@ -177,7 +209,7 @@ fn is_done(rt: &impl Files<File = File>, path: &str, how: FileUse, work: FileWor
     }
 }
 
-fn makes(rt: &(impl Files<File = File> + Alloc), path: &str, step: FileStep) -> bool {
+fn makes(rt: &HostRuntime, path: &str, step: FileStep) -> bool {
     match step {
         FileStep::MakeFolder => fs::create_dir(rt, path).is_ok(),
         FileStep::RemoveFolder(has_to) => fs::remove_dir_all(rt, path).is_ok() || !has_to,
@@ -187,10 +219,7 @@ fn makes(rt: &(impl Files<File = File> + Alloc), path: &str, step: FileStep) -> 
     }
 }
 
-fn first_wrong(
-    rt: &(impl Files<File = File> + Alloc),
-    steps: &[(&str, FileStep)],
-) -> Option<usize> {
+fn first_wrong(rt: &HostRuntime, steps: &[(&str, FileStep)]) -> Option<usize> {
     for (place, (path, step)) in steps.iter().enumerate() {
         if !makes(rt, path, *step) {
             return Some(place);
@@ -242,7 +271,7 @@ const NO_DISK: [(&str, FileStep); 6] = [
 ];
 
 // What opening the path says.
-fn says(rt: &impl Files<File = File>, alloc: Global, path: &str, wanted: &str) -> bool {
+fn says(rt: &HostRuntime, alloc: Global, path: &str, wanted: &str) -> bool {
     let Err(error) = FileDisk::open(rt, path) else {
         return false;
     };
@@ -314,6 +343,23 @@ const WITHOUT_A_NAME: [(&str, FileStep); 5] = [
 #[test]
 fn a_file_without_a_name_is_synced_no_more(rt: HostRuntime) {
     expect_none(&rt, first_wrong(&rt, &WITHOUT_A_NAME));
+}
+
+const LOST: &str = "journal_tests_disk_lost";
+
+const LOST_FILES: [(&str, FileStep); 7] = [
+    (LOST, FileStep::Remove(false)),
+    (LOST, FileStep::Told(FileUse::Create(64), FileTold::Opened)),
+    (LOST, FileStep::Does(FileUse::Lock, FileWork::BeReplaced)),
+    (LOST, FileStep::Does(FileUse::Lock, FileWork::BeOverwritten)),
+    (LOST, FileStep::Does(FileUse::Lock, FileWork::WriteSome)),
+    (LOST, FileStep::Does(FileUse::Lock, FileWork::LoseName)),
+    (LOST, FileStep::Told(FileUse::Lock, FileTold::Refused)),
+];
+
+#[test]
+fn a_file_that_is_replaced_or_overwritten_fails(rt: HostRuntime) {
+    expect_none(&rt, first_wrong(&rt, &LOST_FILES));
 }
 
 const FAR: &str = "journal_tests_disk_far";

@@ -49,6 +49,8 @@ pub(crate) enum JournalStep<'a> {
     Attempt(FailingCalls, bool),
     // It stops, and its unsynced bytes become that.
     Stop(Option<u8>),
+    // It stops, and is left with this image; or a stop can't leave that.
+    Left(&'a JournalImage),
     Read,
     // The version, the live area, how much of it is used, the count, and the messages and bytes that are held.
     Shows([u64; 6]),
@@ -345,6 +347,7 @@ fn make(alloc: Global, disk: &mut MemDisk, step: JournalStep<'_>) -> Told {
             disk.crash(fill);
             Told::Done
         }
+        JournalStep::Left(image) => done_if(disk.crash_to(image)),
         JournalStep::Read => told_by_read(alloc, disk),
         JournalStep::Shows(wanted) => done_if(shows(alloc, disk, &wanted)),
         JournalStep::Called(calls) => done_if(disk.calls() == calls),
