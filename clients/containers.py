@@ -174,6 +174,7 @@ def try_compose(base, _, checks):
     make_certificate(base / "deploy" / "stompd")
     compose = Compose(base)
     try:
+        compose.run("run", "--rm", "journal")
         compose.run("up", "--build", "--detach")
         checks.check("the broker comes to be healthy", wait_until(compose.is_healthy, 60), compose.run("logs"))
         checks.check("it answers a ping there", ANSWERED.fullmatch(compose.inside("stompd", "ping", "8080")))

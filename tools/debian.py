@@ -7,6 +7,7 @@ import os
 import pathlib
 import subprocess
 import tempfile
+import time
 
 TOP = pathlib.Path(__file__).resolve().parent.parent
 DOC = "usr/share/doc/stompd"
@@ -92,6 +93,13 @@ def files_of(program, serve, page, of_it, told, version, maintainer, moment):
         yield f"{DOC}/{name}", data, mode
 
 
+def version_of(line, moment):
+    """The package's version: the program's, with the moment of the commit before its name, so that a later one is an upgrade. It has no `-`, which would
+    begin a revision."""
+    number, _, commit = line.split()[1].rstrip(",").partition("+git")
+    return f"{number}+git{time.strftime('%Y%m%d%H%M%S', time.gmtime(moment))}.{commit.replace('-', '.')}"
+
+
 def write(path, data, mode):
     path.parent.mkdir(parents=True, exist_ok=True)
     path.write_bytes(data)
@@ -104,8 +112,7 @@ def package_of(program, serve, page, of_it, told, oldest_libc, maintainer, momen
     with tempfile.TemporaryDirectory(prefix="stompd-package-") as room:
         tree = pathlib.Path(room) / "tree"
         tree.mkdir()
-        # A package's version has no `-` but before its revision.
-        version = of_it[1].decode().split()[1].rstrip(",").replace("-", ".")
+        version = version_of(of_it[1].decode(), moment)
         files = list(files_of(program, serve, page, of_it, told, version, maintainer, moment))
         for name, data, mode in files:
             write(tree / name, data, mode)
