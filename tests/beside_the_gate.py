@@ -62,13 +62,18 @@ SCRIPTS = [
     Script("tests/program/trace_serve.py"),
     Script("tests/program/failing_disk.py"),
     Script("tests/program/lost_writes.py"),
+    Script("tests/program/start_calls.py"),
+    Script("tests/program/replaced_journal.py", light=""),
     Script("tests/program/handshakes.py", light=""),
     Script("tests/program/closes.py", light=""),
     Script("tests/program/pauses.py", light="", waits=True),
+    Script("tests/program/slow_disk.py", waits=True),
+    Script("tests/program/guests.py", light=""),
     Script("tests/program/refusals.py", light=""),
     Script("tests/program/no_memory.py"),
     Script("tests/attack/under_attack.py"),
     Script("tests/attack/dear_frames.py"),
+    Script("tests/attack/joins.py", light="--few"),
     Script("tests/program/memory_budget.py"),
     Script("tests/program/long_names.py", light=""),
     Script("tests/attack/soak.py", "--minutes 1"),
@@ -102,6 +107,7 @@ SCRIPTS = [
     Script("tests/kills/compactions.py", "--kills N"),
     Script("tests/program/compaction_memory.py", light=""),
     Script("tests/kills/migrating.py", "--kills N"),
+    Script("tests/kills/making.py"),
 ]
 
 # With this status a script says that it lacks a package.

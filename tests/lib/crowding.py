@@ -25,12 +25,12 @@ def transaction(members):
     return begun + members * stomp_message("SEND", among, "x") + stomp_message("COMMIT", [("transaction", "t")])
 
 
-def listen(port, pipe):
-    """A process with all subscribers: it tells that they are there, and drops what comes until the server is gone."""
+def listen(port, topic, readers, pipe):
+    """A process with all subscribers of a topic: it tells that they are there, and drops what comes until the server is gone."""
     poll, sockets = select.epoll(), {}
-    for _ in range(READERS):
+    for _ in range(readers):
         one = Client(port, timeout=LONGEST).connect()
-        one.subscribe("a", TOPIC)
+        one.subscribe("a", topic)
         one.socket.setblocking(False)
         sockets[one.socket.fileno()] = one.socket
         poll.register(one.socket, select.EPOLLIN)
@@ -136,7 +136,7 @@ def receipts(broker, client, seconds):
 def among_dear_frames(broker, clients, members, seconds):
     """What a neighbour's receipts take while so many clients send COMMITs of so many SENDs, how each `ping` ended, and how many clients and readers are left."""
     neighbour = Client(broker.port, timeout=LONGEST).connect()
-    with at_work(listen, broker.port) as readers, at_work(flood, broker.port, clients, transaction(members)) as senders:
+    with at_work(listen, broker.port, TOPIC, READERS) as readers, at_work(flood, broker.port, clients, transaction(members)) as senders:
         with Pings(broker) as pings:
             waits = receipts(broker, neighbour, seconds)
         left = []

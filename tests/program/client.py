@@ -100,6 +100,9 @@ def bad_words(program, checks):
         checks.same(f"17 of {more} without --settle", seen, (2, b"", told("'17': without --settle at most 16 are shown of what others may get")))
     seen = run(program, "listen", port, "/queue/a", "--durable", "c", "n")
     checks.same("a durable name of a queue", seen, (2, b"", told("'n': only a topic has durable names")))
+    empty = (2, b"", told("'': a durable name and its client-id are not empty"))
+    for words in (["listen", port, "/topic/a", "--durable", "c", ""], ["listen", port, "/topic/a", "--durable", "", "n"], ["forget", port, "c", ""], ["forget", port, "", "n"]):
+        checks.same(f"{words[0]} with an empty name: {words}", run(program, *words), empty)
     seen = run(program, "send", port, "/queue/a", "x", "--lines")
     checks.same("a body and --lines", seen, (2, b"", told("'x': with --lines the bodies come from standard input")))
     for words in (["send"], ["send", port], ["send", port, "a", "b", "c"], ["listen", port], ["listen", port, "/topic/a", "--durable", "c"], ["forget", port, "c"], ["send", port, "a", "--count", "1"]):
@@ -376,10 +379,20 @@ def frames(program, checks):
     peer.end()
 
 
+def farewells(program, checks):
+    """A RECEIPT is success, however the peer takes the DISCONNECT after it: no answer, an ERROR, no close, or nobody there any more."""
+    for what, farewell in (("isn't answered", lambda *_: None), ("is answered by an ERROR", saying(ERROR)), ("finds the end", ending)):
+        for words, given in ((["send", "/queue/a", "x"], b""), (["send", "/queue/a", "--lines"], b"x\n"), (["forget", "c", "n"], b"")):
+            peer = Peer(answering(connected, receipted, farewell))
+            seen = run(program, words[0], peer.port, *words[1:], given=given)
+            peer.end()
+            checks.same(f"{' '.join(words)}, whose DISCONNECT {what}", seen, (0, b"", ""))
+
+
 def main():
     program = built_program(words_of(__doc__, BUILT).parse_args())
     checks, start = Checks(), time.monotonic()
-    for scenario in (helps, bad_words, bodies, receipts, lines, peeks, durables, ends, peers, frames):
+    for scenario in (helps, bad_words, bodies, receipts, lines, peeks, durables, ends, peers, frames, farewells):
         scenario(program, checks)
     print(f"{checks.failed} checks failed, in {time.monotonic() - start:.0f} s")
     sys.exit(1 if checks.failed else 0)

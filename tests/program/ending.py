@@ -112,18 +112,15 @@ def full_pipe():
 
 
 def unread_fault(program, journal, checks):
-    """its journal is full while nobody reads what it tells"""
+    """its journal is removed while nobody reads what it logs"""
     journal = journal.with_name("small")
     subprocess.run([program, "format", journal, "8224"], check=True)
     reading, writing = full_pipe()
     port = scenario.free_port()
     process = subprocess.Popen([program, "serve", journal, str(port)], stdin=subprocess.DEVNULL, stdout=subprocess.PIPE, stderr=writing)
     checks.same("it serves", process.stdout.readline().decode(), f"listening {port}\n")
-    client = Client(port).connect()
     start = time.monotonic()
-    # More than half of the journal holds.
-    for _ in range(10):
-        client.send("SEND", [("destination", "/queue/much")], "x" * 1_000)
+    journal.unlink()
     try:
         status = process.wait(timeout=LONGEST)
     except subprocess.TimeoutExpired:

@@ -7,12 +7,13 @@ Python 3 alone; the gate does not run it.
 
 - If a write or a sync of `stompd format` fails, it ends with status 1 and one line, and the file is gone again. If the
   file system has no room for its zeros, the line says so.
-- If its name becomes a link while it is made, what that leads to stays as it is. A limit on the size of files is told.
+- If its name becomes a link while it is made, what that leads to stays as it is. So does a file that takes its name meanwhile. A limit on the
+  size of files is told, and a file system without hard links.
 - `show`, `held` and `serve` of a directory, a FIFO or a device say so at once.
 - If a read of `stompd show` fails, it is `J3 device failed`, and nothing is printed.
 - If the file of `stompd serve` can't be locked, it ends with `cannot open`, and the file is as it was.
-- If a write or a sync of `stompd serve` fails while it opens its journal, it ends with `J3 device failed` and does not
-  say that it listens.
+- If a write or a sync of `stompd serve` fails while it opens its journal, it ends with `J3 device failed`, says why, and does not
+  say that it listens. If the disk is full, it says that.
 - While it opens its journal it says each second for how long.
 - If one of a block's fails, the server ends so, and the block's command gets no receipt; the commands before it are in
   the journal.
@@ -42,7 +43,11 @@ from lib.stomp_client import Client
 SMALLEST = "8224"
 PAGE = 4_096
 DEVICE_FAILED = "stompd: J3 device failed\n"
+# Of a server it says why.
+INPUT_OUTPUT = "stompd: J3 device failed: input/output error\n"
 CANNOT_OPEN = "stompd: cannot open: FILE: the system refuses it\n"
+NO_LINKS = "stompd: cannot open: FILE: there are no hard links here; make it elsewhere, and move it\n"
+FOREIGN = "stompd: cannot open: FILE.new: it is there, and no unfinished journal; rename or remove it\n"
 NO_SPACE = "stompd: no space left for the file\n"
 TOO_LARGE = "stompd: cannot open: FILE: no file may be so large here\n"
 NO_FILE = "stompd: cannot open: FILE: it is no file\n"
@@ -74,16 +79,34 @@ def run(words):
 
 
 def formatting(checks):
-    """A new file is sized, synced, and synced with its folder; its zeros are written, unless it is to be sparse; then front and header are
-    written, and all is synced."""
-    cases = [("ftruncate", 1, CANNOT_OPEN), ("fsync", 1, CANNOT_OPEN), ("fsync", 2, CANNOT_OPEN)]
-    cases += [("pwrite64", 1, DEVICE_FAILED), ("pwrite64", 2, DEVICE_FAILED), ("fdatasync", 1, DEVICE_FAILED)]
-    for option, further in (((), [("pwrite64", 3, DEVICE_FAILED)]), (("--sparse",), [])):
+    """A new file is locked and sized under another name; its zeros are written, unless it is to be sparse; then header, front and name are written,
+    each synced. It is linked to its own name, which is synced with the folder."""
+    cases = [("flock", 1, CANNOT_OPEN), ("ftruncate", 1, CANNOT_OPEN), ("fsync", 1, CANNOT_OPEN), ("link,linkat", 1, CANNOT_OPEN), ("fsync", 2, CANNOT_OPEN)]
+    cases += [(call, number, DEVICE_FAILED) for call, most in (("pwrite64", 4), ("fdatasync", 3)) for number in range(1, most + 1)]
+    for option, further in (((), [("pwrite64", 5, DEVICE_FAILED)]), (("--sparse",), [])):
         for call, number, text in cases + further:
             what, path = f"format {option} without {call} {number}", checks.path("made")
             checks.same(what, run(checks.words(call, number, "format", *option, path, SMALLEST)), (1, "", text.replace("FILE", path)))
             checks.was_injected(what)
-            checks.same(f"{what}: the file is there", os.path.exists(path), False)
+            checks.same(f"{what}: what is there", [it for it in (path, path + ".new") if os.path.exists(it)], [])
+
+
+def linking(checks):
+    """A file system without hard links is told, and a file that took the name meanwhile stays."""
+    for error in ("EPERM", "EOPNOTSUPP", "ENOSYS", "EMLINK"):
+        what, path = f"format with {error} at its link", checks.path("linked")
+        words = ["strace", "-f", "-o", checks.path("trace"), "-e", "trace=link,linkat", "-e", f"inject=link,linkat:error={error}", checks.program]
+        checks.same(what, run([*words, "format", path, SMALLEST]), (1, "", NO_LINKS.replace("FILE", path)))
+        checks.was_injected(what)
+        checks.same(f"{what}: what is there", [it for it in (path, path + ".new") if os.path.exists(it)], [])
+    path = checks.path("taken")
+    words = ["strace", "-f", "-o", checks.path("trace"), "-e", "trace=fsync", "-e", "inject=fsync:delay_enter=500000:when=1", checks.program]
+    made = subprocess.Popen([*words, "format", path, SMALLEST], stdout=subprocess.PIPE, stderr=subprocess.PIPE)
+    await_file(path + ".new")
+    pathlib.Path(path).write_bytes(b"mine")
+    _, errors = made.communicate(timeout=60)
+    checks.same("a name that is taken meanwhile", (made.returncode, errors.decode()), (1, f"stompd: cannot open: {path}: it is there already\n"))
+    checks.same("a name that is taken meanwhile: what is there", (pathlib.Path(path).read_bytes(), os.path.exists(path + ".new")), (b"mine", False))
 
 
 def filling(checks):
@@ -93,10 +116,10 @@ def filling(checks):
         for number in (1, 9, 17):
             what, path = f"format with {error} at piece {number}", checks.path("filled")
             fault = f"inject=pwrite64:error={error}:when={number}"
-            words = ["strace", "-f", "-o", checks.path("trace"), "-P", path, "-e", "trace=pwrite64", "-e", fault, checks.program]
+            words = ["strace", "-f", "-o", checks.path("trace"), "-P", path + ".new", "-e", "trace=pwrite64", "-e", fault, checks.program]
             checks.same(what, run([*words, "format", path, str(size)]), (1, "", text))
             checks.was_injected(what)
-            checks.same(f"{what}: the file is there", os.path.exists(path), False)
+            checks.same(f"{what}: what is there", [it for it in (path, path + ".new") if os.path.exists(it)], [])
     path = checks.path("filled")
     checks.same("a format with room", run([checks.program, "format", path, str(size)]), (0, "", ""))
     checks.same("its room is there", os.stat(path).st_blocks * 512 >= size, True)
@@ -106,13 +129,21 @@ def filling(checks):
     checks.same("and takes less room", os.stat(sparse).st_blocks < os.stat(path).st_blocks, True)
 
 
+def await_file(path):
+    deadline = time.monotonic() + 30
+    while not os.path.exists(path):
+        if time.monotonic() > deadline:
+            raise RuntimeError(f"{path} is not made")
+        time.sleep(0.01)
+
+
 def progress(checks):
     """A file of 64 MiB is told of while its zeros are written, a line a second at most, and a smaller one is not."""
     lines = []
     for size in (67_108_864, 67_108_863):
         path = checks.path(f"large-{size}")
         fault = "inject=pwrite64:delay_enter=20000"
-        words = ["strace", "-f", "-o", checks.path("trace"), "-P", path, "-e", "trace=pwrite64", "-e", fault, checks.program]
+        words = ["strace", "-f", "-o", checks.path("trace"), "-P", path + ".new", "-e", "trace=pwrite64", "-e", fault, checks.program]
         start = time.monotonic()
         status, output, errors = run([*words, "format", path, str(size)])
         seconds = time.monotonic() - start
@@ -125,20 +156,18 @@ def progress(checks):
 
 
 def swapping(checks):
-    """A file that is being made loses its name to a link to another file, which stays as it is."""
+    """A file that is being made loses the name under which it is made to a link to another file, which stays as it is."""
     path, other = checks.path("swapped"), checks.path("other")
     pathlib.Path(other).write_bytes(b"x" * PAGE)
     words = ["strace", "-f", "-o", checks.path("trace"), "-e", "trace=fsync", "-e", "inject=fsync:delay_enter=500000:when=1", checks.program]
     made = subprocess.Popen([*words, "format", path, SMALLEST], stdout=subprocess.PIPE, stderr=subprocess.PIPE)
-    deadline = time.monotonic() + 30
-    while not os.path.exists(path):
-        if time.monotonic() > deadline:
-            raise RuntimeError("the file is not made")
-        time.sleep(0.01)
-    os.rename(path, path + ".away")
-    os.symlink(other, path)
-    made.communicate(timeout=60)
+    await_file(path + ".new")
+    os.rename(path + ".new", path + ".away")
+    os.symlink(other, path + ".new")
+    _, errors = made.communicate(timeout=60)
+    checks.same("a link in a new file's place", (made.returncode, errors.decode()), (1, FOREIGN.replace("FILE", path)))
     checks.same("a link in a new file's place: what it leads to", pathlib.Path(other).read_bytes() == b"x" * PAGE, True)
+    checks.same("a link in a new file's place: it stays", (os.path.islink(path + ".new"), os.path.lexists(path)), (True, False))
 
 
 def limiting(checks):
@@ -202,13 +231,19 @@ def locking(checks):
 
 
 def opening(checks):
-    """Recovery writes the header back and syncs, writes the snapshot and syncs, and writes the selector and syncs."""
+    """Recovery writes some of the header back and syncs, writes the snapshot and syncs, and writes the selector and syncs."""
     for call, numbers in (("fdatasync", (1, 2, 3)), ("pwrite64", (1, 2, 3))):
         for number in numbers:
             what, path = f"serve without {call} {number}", make(checks, f"opened-{call}-{number}")
             words = checks.words(call, number, "serve", path, str(free_port()))
-            checks.same(what, run(words), (1, "", DEVICE_FAILED))
+            checks.same(what, run(words), (1, "", INPUT_OUTPUT))
             checks.was_injected(what)
+    for error, text in (("ENOSPC", "no space left"), ("EDQUOT", "no space left"), ("EROFS", "the system refused a call")):
+        what, path = f"serve with {error} at a sync", make(checks, f"opened-{error}")
+        fault = f"inject=fdatasync:error={error}:when=2"
+        words = ["strace", "-f", "-o", checks.path("trace"), "-e", "trace=fdatasync", "-e", fault, checks.program]
+        checks.same(what, run([*words, "serve", path, str(free_port())]), (1, "", f"stompd: J3 device failed: {text}\n"))
+        checks.was_injected(what)
 
 
 def slow_opening(checks):
@@ -259,7 +294,7 @@ def asleep(checks):
         checks.same(f"{what}: what a client with a full window hears", client.to_the_end(), ([], 1001))
         client.close()
         output, errors = server.communicate(timeout=60)
-        checks.same(what, (server.returncode, output.decode(), last_line(errors)), (1, "", DEVICE_FAILED))
+        checks.same(what, (server.returncode, output.decode(), last_line(errors)), (1, "", INPUT_OUTPUT))
         checks.was_injected(what)
 
 
@@ -275,7 +310,7 @@ def storing(checks):
             checks.same(f"{what}: what the client hears", frames_to_the_end(client), [])
             client.close()
             output, errors = server.communicate(timeout=60)
-            checks.same(what, (server.returncode, output.decode(), last_line(errors)), (1, "", DEVICE_FAILED))
+            checks.same(what, (server.returncode, output.decode(), last_line(errors)), (1, "", INPUT_OUTPUT))
             checks.was_injected(what)
         status, shown, _ = run([checks.program, "show", path])
         checks.same(f"{what}: what is held", (status, shown.splitlines()[3:]), (0, [f"count {count}", f"held {count - 1}"]))
@@ -300,7 +335,9 @@ def cut(path):
 
 def losing(checks):
     """The file is removed, replaced by another or cut while the server runs: what is sent then has no receipt, and the server ends."""
-    for lose, link in ((os.remove, None), (os.remove, os.symlink), (replaced, None), (removed_beside_others, None), (cut, None)):
+    losses = [(os.remove, None, "removed"), (os.remove, os.symlink, "removed"), (replaced, None, "replaced")]
+    losses += [(removed_beside_others, None, "removed"), (cut, None, "cut")]
+    for lose, link, cause in losses:
         what = f"a file{' behind a link' if link else ''} that is lost by {lose.__name__}"
         path, port = make(checks, what.replace(" ", "-")), free_port()
         shutil.copy(path, path + ".new")
@@ -317,7 +354,8 @@ def losing(checks):
             checks.same(f"{what}: what the client hears", frames_to_the_end(client), [])
             client.close()
             output, errors = server.communicate(timeout=60)
-            checks.same(what, (server.returncode, output.decode(), last_line(errors)), (1, "", DEVICE_FAILED))
+            line = f"stompd: J3 device failed: the file was {cause}\n"
+            checks.same(what, (server.returncode, output.decode(), last_line(errors)), (1, "", line))
 
 
 def main():
@@ -327,7 +365,7 @@ def main():
         return 2
     with tempfile.TemporaryDirectory() as name:
         checks = Checks(str(program), pathlib.Path(name).resolve())
-        for part in (formatting, filling, progress, swapping, limiting, what_is_no_file, showing, locking, opening, slow_opening, storing, asleep, losing):
+        for part in (formatting, linking, filling, progress, swapping, limiting, what_is_no_file, showing, locking, opening, slow_opening, storing, asleep, losing):
             part(checks)
     return checks.status()
 

@@ -1,11 +1,16 @@
 #!/usr/bin/env python3
-"""A journal that is full: the broker ends and says why, its clients are told, and all that was receipted is there when it is
-started again.
+"""A journal that is full: the server logs it, its clients are disconnected, and the program opens the journal again after a pause that
+grows, at the same port. All that was receipted is there then.
 
     python3 tests/program/full_journal.py [PROGRAM]
 """
 
+import os
+import select
+import subprocess
 import sys
+import tempfile
+import time
 
 from lib import scenario
 from lib.stomp_client import Client, Closed
@@ -13,8 +18,11 @@ from lib.stomp_client import Client, Closed
 # Two areas of 64 KiB.
 JOURNAL_BYTES = 131_104
 BODY = "x" * 1_000
-# What a server tells before its end.
-TOLD = (b" started: ", b" compacted: ", b" journal small: ", b" journal nearly full: ")
+# What a server logs before its end.
+LOGGED = (b" started: ", b" compacted: ", b" journal small: ", b" journal nearly full: ")
+FULL = b"stompd: J4 journal full\n"
+# An opened journal of this size is ready at once; a busy machine gets a minute.
+PATIENCE = 60
 
 # More than an area has room for, and many more than a worker's window of 16 lets in at a time.
 UNASKED = 64
@@ -35,52 +43,120 @@ def send_until_closed(client):
         receipted.append(body)
 
 
+def next_line(stream, seconds=PATIENCE):
+    """The next line of a pipe that is not buffered; nothing if none comes in that time."""
+    line, end = b"", time.monotonic() + seconds
+    while not line.endswith(b"\n") and select.select([stream], [], [], max(0, end - time.monotonic()))[0]:
+        one = os.read(stream.fileno(), 1)
+        if not one:
+            break
+        line += one
+    return line
+
+
+def lines_until(stream, last):
+    lines = []
+    while not lines or (lines[-1] != last and lines[-1]):
+        lines.append(next_line(stream))
+    return lines
+
+
+class Full:
+    """A server over a small journal, whose two streams are read by hand."""
+
+    def __init__(self, program, folder):
+        self.journal = os.path.join(folder, "journal")
+        subprocess.run([program, "format", self.journal, str(JOURNAL_BYTES)], check=True)
+        self.port = scenario.free_port()
+        pipes = {"stdin": subprocess.PIPE, "stdout": subprocess.PIPE, "stderr": subprocess.PIPE, "bufsize": 0}
+        self.process = subprocess.Popen([program, "serve", self.journal, str(self.port), "--until-eof"], **pipes)
+
+    def listens(self):
+        return next_line(self.process.stdout) == f"listening {self.port}\n".encode()
+
+    def __enter__(self):
+        return self
+
+    def __exit__(self, *_):
+        self.process.kill()
+        self.process.wait()
+        for pipe in (self.process.stdin, self.process.stdout, self.process.stderr):
+            pipe.close()
+
+
 def one_at_a_time(program, checks):
     """a client that waits for each receipt, and one that says nothing"""
-    with scenario.serving(program, JOURNAL_BYTES) as broker:
-        sender, idle = Client(broker.port).connect(), Client(broker.port).connect()
+    with tempfile.TemporaryDirectory(prefix="stompd-") as folder, Full(program, folder) as server:
+        checks.check("it serves", server.listens())
+        sender, idle = Client(server.port).connect(), Client(server.port).connect()
         receipted, code = send_until_closed(sender)
-        status = broker.process.wait(timeout=10)
-        checks.same("the broker ends with status 1", status, 1)
-        # It may have made room before, and then says that first.
-        told = broker.process.stderr.read().splitlines()
-        checks.same("and says why", told[-1:], [b"stompd: J4 journal full"])
-        checks.check("and nothing else but its start and what compactions won", all(any(word in line for word in TOLD) for line in told[:-1]), told)
+        # It may have made room before, and logs that first.
+        logged = lines_until(server.process.stderr, FULL)
+        checks.same("it logs why it serves no more", logged[-1], FULL)
+        checks.check("and nothing else but its start and what compactions won", all(any(word in line for word in LOGGED) for line in logged[:-1]), logged)
+        checks.same("and when it opens the journal again", next_line(server.process.stderr), b"stompd: opening the journal again in 1 s, which makes room\n")
         checks.check("messages were receipted before", len(receipted) >= 20, len(receipted))
-        checks.same("who sends hears 1001", code, 1001)
-        checks.same("who is silent hears 1001", idle.to_the_end(), ([], 1001))
+        checks.same("who sends is closed with 1001", code, 1001)
+        checks.same("who is silent is closed with 1001", idle.to_the_end(), ([], 1001))
         checks.tell(f"{len(receipted)} messages of some 1,000 bytes were receipted, in an area of 65,536 bytes")
-        broker.again()
-        reader = Client(broker.port).connect()
+        checks.check("it listens again, at the same port", server.listens())
+        reader = Client(server.port).connect()
         found = [frame.body for frame in reader.subscribe("r", "/queue/full")]
-        checks.check("started again, it has each of them once, in order", found[: len(receipted)] == receipted, len(found))
+        checks.check("and has each of them once, in order", found[: len(receipted)] == receipted, len(found))
         checks.check("and at most the one without a receipt after them", len(found) <= len(receipted) + 1, len(found))
         reader.close()
+        again, code = send_until_closed(Client(server.port).connect())
+        checks.same("the next sender is closed with 1001", code, 1001)
+        lines_until(server.process.stderr, FULL)
+        checks.same("and the next pause is twice as long", next_line(server.process.stderr), b"stompd: opening the journal again in 2 s, which makes room\n")
+        server.process.stdin.close()
+        checks.same("the end of its input breaks the pause off, with status 0", server.process.wait(timeout=PATIENCE), 0)
 
 
 def all_at_once(program, checks):
     """a client that waits for no receipt"""
-    with scenario.serving(program, JOURNAL_BYTES) as broker:
-        eager = Client(broker.port).connect()
+    with tempfile.TemporaryDirectory(prefix="stompd-") as folder, Full(program, folder) as server:
+        checks.check("it serves", server.listens())
+        eager = Client(server.port).connect()
         for number in range(UNASKED):
             eager.send("SEND", [("destination", "/queue/full"), ("receipt", f"{number}")], f"{number} {LONG_BODY}")
         heard, code = eager.to_the_end()
         receipted = [frame.headers["receipt-id"] for frame in heard]
-        checks.same("who sends without waiting for receipts hears 1001", code, 1001)
+        checks.same("who sends without waiting for receipts is closed with 1001", code, 1001)
         checks.same("after the receipts of its first messages", receipted, [f"{number}" for number in range(len(receipted))])
         checks.check("of some and not of all", 0 < len(receipted) < UNASKED, len(receipted))
-        checks.same("the broker ends with status 1", broker.process.wait(timeout=10), 1)
-        broker.again()
-        reader = Client(broker.port).connect()
+        checks.check("it listens again", server.listens())
+        reader = Client(server.port).connect()
         found = [frame.body.split(" ")[0] for frame in reader.subscribe("r", "/queue/full")]
-        checks.same("started again, it has each that was receipted, in order", found[: len(receipted)], receipted)
+        checks.same("and has each that was receipted, in order", found[: len(receipted)], receipted)
         reader.close()
+
+
+def nobody_reads(program, checks):
+    """standard error is full and unread while the journal becomes full"""
+    with tempfile.TemporaryDirectory(prefix="stompd-") as folder, Full(program, folder) as server:
+        checks.check("it serves", server.listens())
+        # What is left of the pipe's room is taken, so that no line fits any more.
+        with open(f"/proc/{server.process.pid}/fd/2", "wb", buffering=0) as pipe:
+            os.set_blocking(pipe.fileno(), False)
+            for size in (4_096, 64, 1):
+                while pipe.write(b"x" * size):
+                    pass
+        receipted, _ = send_until_closed(Client(server.port).connect())
+        checks.check("messages were receipted", len(receipted) >= 20, len(receipted))
+        checks.check("it listens again all the same", server.listens())
+        reader = Client(server.port).connect()
+        found = [frame.body for frame in reader.subscribe("r", "/queue/full")]
+        checks.check("and has each of them", found[: len(receipted)] == receipted, len(found))
+        reader.close()
+        server.process.stdin.close()
+        checks.same("and ends in good order", server.process.wait(timeout=PATIENCE), 0)
 
 
 def main():
     program = scenario.words_of(__doc__).parse_args().program
     checks = scenario.Checks()
-    for part in (one_at_a_time, all_at_once):
+    for part in (one_at_a_time, all_at_once, nobody_reads):
         scenario.try_one(part, program, checks)
     return checks.status()
 

@@ -6,8 +6,9 @@ what was written, and the device doesn't have it. Needs strace and Python 3 alon
 
 A server stores messages and compacts its journal, and each of its syncs fails in turn. The next one starts over what the file reads as. The device
 is played here, page by page, from a trace of both: a sync that fails leaves it as it was, and one that succeeds gives it the pages that were written since
-the last one. At each call of that one the power fails, with none, the first half or the second half of these pages on the device. What the
-device holds then is a journal with all that had its receipt.
+the last one. At each call of the start the power fails, with none, the first half or the second half of these pages on the device; and what the
+start has written since its last sync is there, or holds any bytes in its place. What the device holds then is a journal with all that had its
+receipt.
 """
 
 import os
@@ -29,6 +30,8 @@ PAGE = 4_096
 # How many messages are kept before, and in the life in which a sync fails; and how many more pass.
 QUEUE, BEFORE, KEPT, PASSING, BODY = "/queue/kept", 1, 2, 14, "x" * 4_000
 MOST_SYNCS = 200
+# What may stand in the place of bytes that were written and not synced.
+FILLS = (b"\0", b"\xff", b"\1", bytes(range(2, 251)))
 
 WRITE = re.compile(r'pwrite64\(\d+, "((?:\\x[0-9a-f]{2})*)", \d+, (\d+)\)')
 SYNC = re.compile(r"fdatasync\(\d+\) += (0|-1)")
@@ -39,6 +42,8 @@ class Device:
 
     def __init__(self, content):
         self.cache, self.stable, self.dirty = bytearray(content), bytearray(content), []
+        # The ranges that were written since the last sync.
+        self.ranges = []
 
     def do(self, call):
         kind, *rest = call
@@ -47,10 +52,11 @@ class Device:
             self.cache[at : at + len(data)] = data
             pages = range(at // PAGE, (at + len(data) - 1) // PAGE + 1)
             self.dirty += [page for page in pages if page not in self.dirty]
+            self.ranges.append((at, len(data)))
         else:
             if rest[0]:
                 self.give(self.stable, self.dirty)
-            self.dirty = []
+            self.dirty, self.ranges = [], []
 
     def give(self, content, pages):
         for page in pages:
@@ -63,6 +69,16 @@ class Device:
             content = bytearray(self.stable)
             self.give(content, pages)
             yield bytes(content)
+
+    def torn(self):
+        """What it may hold if what was written since the last sync is there, or in its place are any bytes."""
+        for content in self.losses():
+            yield content
+            for fill in FILLS if self.ranges else ():
+                torn = bytearray(content)
+                for at, count in self.ranges:
+                    torn[at : at + count] = (fill * (count // len(fill) + 1))[:count]
+                yield bytes(torn)
 
 
 def calls_of(trace):
@@ -137,10 +153,11 @@ def fail_once(program, folder, failing, checks):
         return False
     second = Life(program, folder)
     seen = set()
+    device.ranges = []
     for call in [None, *second.end()]:
         if call:
             device.do(call)
-        for content in device.losses():
+        for content in device.torn():
             pathlib.Path(lost).write_bytes(content)
             there = held(program, lost)
             seen.add(there if isinstance(there, str) or there < receipted else "all")

@@ -41,10 +41,11 @@ EACH, REST = 262_144, 134_217_728
 LIMIT = BUDGET + STALLED * EACH + REST
 # Of heads that don't end: how many, of how many bytes, the least budget that a server takes, and what else they may take.
 HEADS, HEAD_BYTES, LEAST_BUDGET, HEADS_REST = 4_000, 16_000, 16_777_216, 67_108_864
-# How many come and go, how much of their memory may stay, and what has the C library keep nothing of what is given back: its caches of small pieces would
-# pin the rest.
+# How many come and go, and how much of their memory may stay, if the C library is told to keep nothing (docs/RUNNING.md, "Memory").
 COMERS, STAYS = 3_000, 12_582_912
-KEEPS_NOTHING = "glibc.malloc.mxfast=0:glibc.malloc.tcache_count=0:glibc.malloc.trim_threshold=131072"
+KEEPS_NOTHING = ":glibc.malloc.mxfast=0:glibc.malloc.tcache_count=0"
+# As it ships, the same crowd may come so often, and then takes at most so many times what it took first.
+RETURNS, GROWTH = 6, 4
 # Of frames that wait: how many clients, with one message each of so many SENDs, so many at a time; how long a sync takes, in microseconds; what they
 # may take beside the budget.
 SENDERS, SENDS, WAVE, SYNC, WAITING_REST = 1_500, 600, 100, 100_000, 67_108_864
@@ -216,22 +217,57 @@ def unfinished_heads(broker, checks):
         one.close()
 
 
-class Returning(scenario.Broker):
-    """The program over a C library that keeps nothing of what is given back."""
+@contextlib.contextmanager
+def as_shipped(more=""):
+    """The environment with what `bin/serve` asks of the C library, and more."""
+    asked = re.search(r"^tunables=(.*)$", (scenario.TOP / "bin" / "serve").read_text(encoding="utf-8"), re.M)[1]
+    before = os.environ.get("GLIBC_TUNABLES")
+    os.environ["GLIBC_TUNABLES"] = asked + more
+    try:
+        yield
+    finally:
+        os.environ.pop("GLIBC_TUNABLES")
+        if before is not None:
+            os.environ["GLIBC_TUNABLES"] = before
+
+
+class Shipped(scenario.Broker):
+    """The program as `bin/serve` starts it."""
 
     def serve(self):
-        before = os.environ.get("GLIBC_TUNABLES")
-        os.environ["GLIBC_TUNABLES"] = KEEPS_NOTHING
-        try:
+        with as_shipped():
             super().serve()
-        finally:
-            os.environ.pop("GLIBC_TUNABLES")
-            if before is not None:
-                os.environ["GLIBC_TUNABLES"] = before
+
+
+class Returning(scenario.Broker):
+    """The same with the settings by which the C library keeps nothing, as docs/RUNNING.md has them."""
+
+    def serve(self):
+        with as_shipped(KEEPS_NOTHING):
+            super().serve()
+
+
+def come_and_go(broker, count):
+    """So many clients come and go. Answers what the broker took more with them, in bytes."""
+    before = broker.memory("VmRSS")
+    comers = [Client(broker.port, timeout=20).connect() for _ in range(count)]
+    for number, one in enumerate(comers):
+        one.subscribe("s", f"/topic/{number % 100}")
+    there = broker.memory("VmRSS") - before
+    for one in comers:
+        one.close()
+    return there * 1024
+
+
+def comers_again(broker, checks):
+    """as it ships, what clients took that have left serves the next ones: the same crowd takes less and less more"""
+    first, *later = [come_and_go(broker, COMERS // 6) for _ in range(RETURNS)]
+    checks.check(f"after {RETURNS} times it is at most {GROWTH} times what they took first", first + sum(later) <= GROWTH * first, [it >> 10 for it in (first, *later)])
+    checks.check("and the last time took less than the second", later[-1] <= later[0], [it >> 10 for it in later])
 
 
 def what_is_empty(broker, checks):
-    """what 3,000 clients took is given back once they have gone"""
+    """with the settings of docs/RUNNING.md, what 3,000 clients took is given back once they have gone"""
     before = broker.memory("VmRSS")
     comers = [Client(broker.port, timeout=20).connect() for _ in range(COMERS)]
     for number, one in enumerate(comers):
@@ -321,22 +357,11 @@ def who_holds_most(broker, checks):
         time.sleep(2)
 
 
-class AsServed(scenario.Broker):
-    """The program with the least budget and what `bin/serve` asks of the C library."""
+class AsServed(Shipped):
+    """The same, with the least budget."""
 
     def __init__(self, program, journal):
         super().__init__(program, journal, more=["--memory", str(LEAST_BUDGET)])
-
-    def serve(self):
-        asked = re.search(r"GLIBC_TUNABLES=\$\{GLIBC_TUNABLES:-(.*)\}", (scenario.TOP / "bin" / "serve").read_text(encoding="utf-8"))[1]
-        before = os.environ.get("GLIBC_TUNABLES")
-        os.environ["GLIBC_TUNABLES"] = asked
-        try:
-            super().serve()
-        finally:
-            os.environ.pop("GLIBC_TUNABLES")
-            if before is not None:
-                os.environ["GLIBC_TUNABLES"] = before
 
 
 def send_each(clients, message):
@@ -385,8 +410,11 @@ def main():
         scenario.try_one(reads_nothing, broker, checks)
     with scenario.serving(program, kind=with_least_budget) as broker:
         scenario.try_one(unfinished_heads, broker, checks)
+    with scenario.serving(program, kind=Shipped) as broker:
+        scenario.try_one(comers_again, broker, checks)
     with scenario.serving(program, kind=Returning) as broker:
         scenario.try_one(what_is_empty, broker, checks)
+    checks.check("docs/RUNNING.md has these settings", KEEPS_NOTHING[1:] in (scenario.TOP / "docs" / "RUNNING.md").read_text(encoding="utf-8"))
     with scenario.serving(program, kind=with_least_budget) as broker:
         scenario.try_one(who_holds_most, broker, checks)
     with scenario.serving(program, kind=Slow) as broker:

@@ -78,7 +78,7 @@ def try_package(package, program, root, checks):
     dpkg(root, "-i", package)
     status = (root / "var/lib/dpkg/status").read_text()
     checks.check("it is installed", "Status: install ok installed" in status, status)
-    checks.check("its version has the commit", re.search(r"^Version: \d+\.\d+\.\d+\+git[0-9a-f]{12}(\.changed)?$", status, re.M), status)
+    checks.check("its version has the commit after its moment", re.search(r"^Version: \d+\.\d+\.\d+\+git\d{14}\.[0-9a-f]{12}(\.changed)?$", status, re.M), status)
     user = next((line.split(":") for line in (root / "etc/passwd").read_text().splitlines() if line.startswith("stompd:")), None)
     checks.check("it has a user of its own, who can't log in", user and user[-1].endswith("nologin"), user)
     folder = root / "var/lib/stompd"
@@ -92,6 +92,8 @@ def try_package(package, program, root, checks):
     page = root / "usr/share/man/man1/stompd.1.gz"
     checks.check("the manual page is there", page.exists() and gzip.decompress(page.read_bytes()).startswith(b".TH stompd 1 "))
     checks.check("the recipes are there", (root / "usr/share/doc/stompd/deploy/nginx.conf").exists())
+    with tempfile.TemporaryDirectory(prefix="stompd-service-") as room:
+        try_first_starts(root, pathlib.Path(room), checks)
     journal = folder / "rooms.journal"
     serve_installed(root, journal, checks)
     checks.check("an upgrade says that it restarts nothing", "systemctl restart stompd" in dpkg(root, "-i", package))
@@ -103,6 +105,26 @@ def try_package(package, program, root, checks):
     checks.check("a purge says that it keeps it", "/var/lib/stompd is kept" in told, told)
     held = subprocess.run([program, "held", journal], capture_output=True, text=True).stdout
     checks.check("and does", held.startswith("messages 1 "), held)
+
+
+def try_first_starts(root, folder, checks):
+    """What the service does before it starts: it makes a journal once, and not in the place of one that is missing."""
+    unit = (root / "lib/systemd/system/stompd.service").read_text()
+    line = re.search(r"^ExecStartPre=/bin/sh -c '(.*)'$", unit, re.M)[1]
+    # The paths of this installation, and a small journal.
+    line = line.replace("/usr/lib/stompd/", f"{root}/usr/lib/stompd/").replace("/var/lib/stompd", str(folder)).replace("512M", "8M")
+
+    def start():
+        return subprocess.run(["/bin/sh", "-c", line], stderr=subprocess.DEVNULL, check=False).returncode, (folder / "rooms.journal").exists()
+
+    checks.same("the first start of the service makes a journal", start(), (0, True))
+    inode = (folder / "rooms.journal").stat().st_ino
+    checks.same("the next one leaves it", (start(), (folder / "rooms.journal").stat().st_ino), ((0, True), inode))
+    (folder / "rooms.journal").unlink()
+    checks.same("a journal that is missing then is not made anew", start(), (0, False))
+    (folder / "made").unlink()
+    (folder / "rooms.journal").write_bytes(b"of an older package")
+    checks.same("a journal of an older package is left as it is", (start(), (folder / "rooms.journal").read_bytes()), ((0, True), b"of an older package"))
 
 
 def try_lintian(package, checks):

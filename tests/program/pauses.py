@@ -1,7 +1,7 @@
 #!/usr/bin/env python3
 """Stops a running server for 85 seconds, longer than a silent client is kept, and lets it go on: no client is given up for that, and what waited in the sockets
-meanwhile is heard before anyone is. Then it is stopped nine times for 12 seconds, with a second between, and no silent client is given up either. Needs
-Python 3 alone; the gate does not run it.
+meanwhile is heard before anyone is. Then it is stopped eight times for 9.5 seconds, with a second between, and no silent client is given up either, nor one
+in the midst of its handshake. Needs Python 3 alone; the gate does not run it.
 
     python3 tests/program/pauses.py [PROGRAM]
 
@@ -18,7 +18,7 @@ from lib.wire import handshake, stomp_message
 
 PAUSE = 85
 IDLE = 70
-PAUSES, SHORT_PAUSE = 9, 12
+PAUSES, SHORT_PAUSE = 8, 9.5
 BODY = "x" * 60_000
 
 
@@ -86,12 +86,16 @@ def pause(broker, checks):
 
 
 def several_pauses(broker, checks):
-    """clients that are idle, and answer no ping meanwhile"""
+    """clients that are idle, and answer no ping meanwhile, and one that is greeting"""
     idle = [Client(broker.port, timeout=30).connect() for _ in range(IDLE)]
+    half = socket.create_connection(("127.0.0.1", broker.port), timeout=30)
+    request = handshake(broker.port)
+    half.sendall(request[:40])
     for _ in range(PAUSES):
         with broker.standing_still():
             time.sleep(SHORT_PAUSE)
         time.sleep(1)
+    checks.check("a handshake is gone on with", is_accepted(half, request[40:]))
     checks.same("all are there", sum(is_there(client) for client in idle), IDLE)
 
 

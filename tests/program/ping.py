@@ -29,7 +29,7 @@ from lib.wire import BINARY, CLOSE, PING, TEXT
 # A step may take five seconds. What a busy machine may add to that.
 STEP, BUSY = 5, 4
 # How many places a full server keeps for pings.
-KEPT = 8
+KEPT = 16
 ANSWERED = re.compile(r"receipt after \d+\.\d{3} ms\n")
 NO_ADDRESS = "stompd: '{}': PORT is a number from 1 to 65535, or ws://HOST:PORT/PATH in small letters; there is no TLS\n"
 
@@ -287,7 +287,7 @@ def running(program, checks):
 
 
 def full(program, checks):
-    """A server that takes no more clients answers 503 to all but eight pings, and one whose journal is full has ended."""
+    """A server that takes no more clients answers 503 to all but sixteen pings, and one whose journal is full has ended."""
 
     def few():
         resource.setrlimit(resource.RLIMIT_NOFILE, (300, 300))
@@ -313,6 +313,8 @@ def full(program, checks):
         with contextlib.suppress(Refused, Closed):
             while len(clients) < 300:
                 clients.append(Client(broker.port))
+        # Those that were refused have such a place for two seconds.
+        time.sleep(3)
         clients += [Client(broker.port, path="/stompd-ping") for _ in range(KEPT)]
         checks.same("a server whose places for pings are taken is alive", ping(program, broker.port)[0], untold(NO_HANDSHAKE + "HTTP status 503", 3))
         for client in clients:
@@ -325,11 +327,7 @@ def full(program, checks):
                 taken = True
         checks.check("a server that was full takes another client", taken)
     with serving(program, journal_bytes=8_224) as broker:
-        client = Client(broker.port).connect()
-        with contextlib.suppress(Closed, BrokenPipeError, ConnectionResetError):
-            for _ in range(100):
-                client.send("SEND", [("destination", "/queue/jobs")], "x" * 500)
-            client.to_the_end()
+        os.unlink(broker.journal)
         broker.process.wait(timeout=10)
         checks.same("it has ended by a fault", broker.process.returncode, 1)
         checks.same("a server that has ended by a fault", ping(program, broker.port)[0], untold("no connection: nobody listens there"))

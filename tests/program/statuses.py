@@ -38,7 +38,7 @@ def missing(name):
 
 
 def unserved(name):
-    return unopened(name, "there is no such file; stompd format makes a journal")
+    return unopened(name, "there is no such file; --new BYTES makes one")
 
 
 def bad(word, why):
@@ -196,6 +196,15 @@ def serves(checks, folder):
         checks.check(f"{path.name} is left as it was", path.read_bytes() == data)
     for number in ("0", "65536", "http", "80x", "+80", "", "99999999999999999999"):
         checks.run(["serve", str(folder / "journal"), number], 2, NOTHING, bad(number, PORTS))
+    for size in ("8224x", "+8224", "", "18446744073709551616", "1T"):
+        for new in (["--new", size], [f"--new={size}"]):
+            checks.run(["serve", str(folder / "journal"), port, *new], 2, NOTHING, bad(size, SIZES))
+            checks.run(["serve", none, port, *new], 2, NOTHING, bad(size, SIZES))
+    checks.run(["serve", none, port, "--new", str(SMALLEST - 1)], 1, NOTHING, told("J8 disk too small"))
+    deep = str(folder / "none" / "journal")
+    checks.run(["serve", deep, port, "--new", str(SMALLEST)], 1, NOTHING, unopened(deep, "there is no such folder"))
+    checks.check("refused sizes make no file", not os.path.exists(none) and not os.path.exists(none + ".new"))
+    new_journals(checks, folder, port)
     for origin in ("https://chat.example/", "https://chat.example/room", "chat.example", "http://Chat.example", "http://", "://x", "http//x", ""):
         checks.run(["serve", str(folder / "journal"), port, "--origin", "null", "--origin", origin], 2, NOTHING, bad(origin, ORIGINS))
     for number in ("0", "65", "18446744073709551616", "x", "+3", ""):
@@ -232,6 +241,26 @@ def serves(checks, folder):
         again.wait()
 
 
+def new_journals(checks, folder, port):
+    """A missing journal is made and served; one that is there is served as it is."""
+    made, zeros = folder / "new journal", folder / "zeros"
+    before = zeros.read_bytes()
+    for path, size in ((made, "9K"), (made, "10K"), (zeros, "10K")):
+        serving = subprocess.Popen([checks.program, "serve", str(path), port, "--new", size], stdout=subprocess.PIPE, stderr=subprocess.PIPE)
+        try:
+            ready, _, _ = select.select([serving.stdout], [], [], 20)
+            line = serving.stdout.readline().decode() if ready else ""
+            checks.check(f"serve {path.name} --new {size} says where it listens", line == f"listening {port}\n", line)
+        finally:
+            serving.kill()
+            serving.wait()
+        checks.run(["held", str(path)], 0, EMPTY, NOTHING)
+    checks.check("it has the bytes that were asked for first", made.stat().st_size == 9 * 1_024, made.stat().st_size)
+    checks.check("only its owner may read it", made.stat().st_mode & 0o777 == 0o600, oct(made.stat().st_mode))
+    checks.check("a journal that is there keeps its size", zeros.stat().st_size == SMALLEST)
+    zeros.write_bytes(before)
+
+
 def words(checks, folder):
     file = str(folder / "journal")
     checks.run(["--version"], 0, VERSION, NOTHING)
@@ -243,6 +272,8 @@ def words(checks, folder):
         checks.run(bad, 2, NOTHING, SOME)
     twice = ["serve", file, "80", "--memory", "16777216", "--memory=16777216"]
     for bad in (twice, ["serve", file, "80", "--memory"], ["show", "--memory", "16777216", file]):
+        checks.run(bad, 2, NOTHING, SOME)
+    for bad in (["serve", file, "80", "--new", "1M", "--new=1M"], ["serve", file, "80", "--new"], ["format", "--new", "1M", file, "8224"]):
         checks.run(bad, 2, NOTHING, SOME)
     for bad in (["serve", file, "80", "--origin"], ["show", "--origin", "null", file], ["show", "--sparse", file]):
         checks.run(bad, 2, NOTHING, SOME)

@@ -7,6 +7,7 @@ A server tells its start; what comes often is counted, and told at most once a s
 descriptors takes as many clients as they allow; and lawful clients whose names would fill its journal are closed, and told.
 """
 
+import collections
 import contextlib
 import datetime
 import pathlib
@@ -152,6 +153,50 @@ def names(program, checks):
         checks.check("and nothing is forged", not any("forged" in line for _, line in server.lines), server.lines)
 
 
+class Holder:
+    """A client that sends to a queue, and acknowledges what it gets of it."""
+
+    def __init__(self, port):
+        self.client, self.unacknowledged, self.count = Client(port, timeout=30).connect(), collections.deque(), 0
+        self.client.subscribe("i", "/queue/q", "client-individual")
+
+    def await_receipt(self):
+        frames = self.client.receipt(f"{self.count}")
+        self.unacknowledged += [frame.headers["ack"] for frame in frames if frame.command == "MESSAGE"]
+        self.count += 1
+
+    def fill(self, messages):
+        for _ in range(messages):
+            self.client.send("SEND", [("destination", "/queue/q"), ("receipt", f"{self.count}")], "x")
+            self.await_receipt()
+
+    def acknowledge(self, messages):
+        for _ in range(messages):
+            while not self.unacknowledged:
+                self.unacknowledged.append(self.client.receive().headers["ack"])
+            self.client.send("ACK", [("id", self.unacknowledged.popleft()), ("receipt", f"{self.count}")])
+            self.await_receipt()
+
+
+def around_the_limit(program, checks):
+    """that nearly all is held, once for as long as it stays about that"""
+    with serving(program) as server:
+        holder = Holder(server.port)
+        holder.fill(3_690)
+        end = time.monotonic() + 3
+        # Nine tenths of 4,096 are between these.
+        while time.monotonic() < end:
+            holder.acknowledge(8)
+            holder.fill(8)
+        time.sleep(1)
+        checks.same("once around nine tenths", len(server.told("nearly full")), 1)
+        # Under eight tenths, and over nine again.
+        holder.acknowledge(450)
+        holder.fill(460)
+        time.sleep(1)
+        checks.same("and again once it had fallen under eight tenths", len(server.told("nearly full")), 2)
+
+
 def in_use(client):
     client.connect()
     client.subscribe("twice", "/topic/t")
@@ -234,10 +279,23 @@ def lawful(program, checks):
         Client(server.port).connect().publish("/queue/q", "still there")
 
 
+def small_journal(program, checks):
+    """a client whose names a small journal has no room for, and that keeps its connection"""
+    with serving(program, journal_bytes=16_777_248) as server:
+        client = Client(server.port).connect()
+        with contextlib.suppress(Closed):
+            for place in range(16):
+                client.send("SUBSCRIBE", [("id", f"{place:04}" + "i" * 496), ("destination", "/topic/t"), ("receipt", f"{place}")])
+                client.receipt(f"{place}")
+        # Its close is waited for for ten seconds.
+        checks.same("that is told at once", server.told("names have no room"), ["gave up 1 clients whose names have no room beside the others'"])
+        client.close()
+
+
 def main():
     program = scenario.words_of(__doc__).parse_args().program
     checks = scenario.Checks()
-    for part in (starts, counts, names, errors, slow, descriptors, lawful):
+    for part in (starts, counts, names, around_the_limit, errors, slow, descriptors, lawful, small_journal):
         try:
             part(program, checks)
         except Exception as error:

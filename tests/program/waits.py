@@ -1,7 +1,8 @@
 #!/usr/bin/env python3
-"""Looks for a wake-up that is lost: 640 clients send with random pauses, some to a topic that others hear, and nobody may wait over a second, for a
-receipt or for a message. Some send a burst, of which only the last SEND asks for a receipt: it waits for room in its window, which the mark gives. First
-a client that is alone sends such bursts, so that nothing but the mark wakes its worker. Needs Python 3 alone.
+"""Looks for a wake-up that is lost: 640 clients send with random pauses, some to a topic that others hear, and nobody may wait over three quarters of a
+second, for a receipt or for a message. (The flusher looks by itself each second, which would heal a lost wake-up.) Some send a burst, of which only the
+last SEND asks for a receipt: it waits for room in its window, which the mark gives. First a client that is alone sends such bursts, so that nothing but
+the mark wakes its worker. Needs Python 3 alone.
 
     python3 tests/program/waits.py [PROGRAM] [--minutes N] [--clients N] [--seed N]
 
@@ -22,7 +23,7 @@ from lib.stomp_client import Client
 from lib.wire import TEXT, message_bytes, stomp_bytes
 
 # In seconds: no wait may be longer, and this long a client pauses at most between two SENDs.
-LONGEST_WAIT, LONGEST_PAUSE = 1.0, 4.0
+LONGEST_WAIT, LONGEST_PAUSE = 0.75, 4.0
 # Where a journal in memory is, and what has to be free there, in bytes.
 MEMORY, ROOM_FOR_JOURNAL = pathlib.Path("/dev/shm"), 1 << 30
 # How many SENDs come before one with a receipt. A desk may have 16 under way.
