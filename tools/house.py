@@ -1,5 +1,5 @@
 #!/usr/bin/env python3
-"""Counts what makes the repository heavy to read: words of prose, crates without a page, long contracts, long functions and long files. Needs Python 3 alone.
+"""Counts what makes the repository heavy to read: long pages, crates without a page, long contracts, long functions and long files. Needs Python 3 alone.
 
     python3 tools/house.py [--longest N]
 
@@ -14,7 +14,7 @@ import subprocess
 import sys
 
 TOP = pathlib.Path(__file__).resolve().parent.parent
-MOST_WORDS, CLAUSES, CHARACTERS, FUNCTION_LINES, FILE_LINES = 20_000, 8, 600, 40, 500
+PAGE_WORDS, CLAUSES, CHARACTERS, FUNCTION_LINES, FILE_LINES = 2_000, 8, 600, 40, 500
 
 CLAUSE = re.compile(r"^\s*(requires|ensures)\b[^{]*\{")
 FUNCTION = re.compile(r"^\s*(?:pub(?:\(\w+\))? )?(?:const )?fn (\w+)")
@@ -25,9 +25,10 @@ def files(*patterns):
     return [TOP / it for it in listed if it and (TOP / it).exists()]
 
 
-def words_of_prose():
-    # A bar of a table or a dash of a list is no word.
-    return sum(any(letter.isalnum() for letter in word) for it in files("*.md") for word in it.read_text(encoding="utf-8").split())
+def long_pages():
+    """Pages of more words than one reads at a sitting: how many, and which. They are a warning alone."""
+    counted = [(len(it.read_text(encoding="utf-8").split()), it.relative_to(TOP)) for it in files("*.md")]
+    return [it for it in counted if it[0] > PAGE_WORDS]
 
 
 def crates_without_a_page():
@@ -71,13 +72,13 @@ def main():
     longest = parser.parse_args().longest
     sources = files("crates/*/src/*.rt", "crates/*/src/**/*.rt")
     place = {it: f"{it.relative_to(TOP / 'crates')}" for it in sources}
-    words, bare = words_of_prose(), crates_without_a_page()
+    pages, bare = long_pages(), crates_without_a_page()
     long_bodies = [(size, f"{place[it]} {name}") for it in sources for name, size in bodies(it) if size > FUNCTION_LINES]
     long_files = [(len(it.read_text(encoding="utf-8").splitlines()), place[it]) for it in sources]
     long_files = [it for it in long_files if it[0] > FILE_LINES]
     stated = [(characters, clauses, f"{place[it]} {name}") for it in sources for name, clauses, characters in contracts(it)]
     heavy = [it for it in stated if it[0] > CHARACTERS or it[1] > CLAUSES]
-    print(f"words of prose: {words} of {MOST_WORDS}")
+    print(f"pages of more than {PAGE_WORDS:,} words (a warning): {len(pages)}" + "".join(f"; {it} {count:,}" for count, it in sorted(pages, reverse=True)))
     print(f"crates without a page: {len(bare)} {' '.join(bare)}".rstrip())
     print(f"functions of more than {FUNCTION_LINES} lines: {len(long_bodies)} of {sum(1 for it in sources for _ in bodies(it))}")
     print(f"files of more than {FILE_LINES} lines: {len(long_files)} of {len(sources)}")
@@ -86,7 +87,7 @@ def main():
         print(f"    {size} lines: {what}")
     for characters, clauses, what in sorted(heavy, reverse=True)[:longest]:
         print(f"    {clauses} clauses, {characters} characters: {what}")
-    return 1 if words > MOST_WORDS or bare or long_bodies or long_files or heavy else 0
+    return 1 if bare or long_bodies or long_files or heavy else 0
 
 
 if __name__ == "__main__":

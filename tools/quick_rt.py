@@ -106,7 +106,7 @@ def crates_below(top, names):
 
 
 def finds_statements(words):
-    """Whether the crates below those that these words name have left statements, and not all of them whole libraries."""
+    """Whether some crate below those that these words name has left statements, and not all of them whole libraries."""
     here = pathlib.Path.cwd()
     top = top_above(here)
     if top is None or any(it in VERDICTS for it in words):
@@ -114,8 +114,8 @@ def finds_statements(words):
     listed = [it for it in words if (top / "crates" / it).is_dir()]
     crates = top / "crates"
     below = crates_below(top, listed or [here.name])
-    has = lambda kind: all((crates / it / "out" / kind / f"{it}.rlib").is_dir() for it in below)
-    return bool(below) and not has("rlib") and has("statements")
+    have = lambda kind: [(crates / it / "out" / kind / f"{it}.rlib").is_dir() for it in below]
+    return any(have("statements")) and not all(have("rlib"))
 
 
 def keeps_statements(words):
