@@ -112,8 +112,9 @@ impl Ord for DurableName {
     ghost matches_eq = { λ x y. both_tied _ _ (text_cmp x.0 y.0) (text_cmp x.1 y.1) (texts_ties x.0 y.0) (texts_ties x.1 y.1) };
 
     fn cmp(&self, other: &DurableName) -> Ordering {
-        self.client
-            .cmp(&other.client)
-            .then(self.name.cmp(&other.name))
+        match self.client.cmp(&other.client) {
+            Ordering::Equal => self.name.cmp(&other.name),
+            decided => decided,
+        }
     }
 }
