@@ -1,6 +1,7 @@
 pub mod Behind
 pub mod Directories
 pub mod Keeping
+pub mod LastSlots
 pub mod Listing
 pub mod Members
 pub mod Puts

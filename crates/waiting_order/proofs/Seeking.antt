@@ -12,7 +12,7 @@ use Rattle.waiting_order.specs.declared.places.Place.{Place}
 use Rattle.waiting_order.specs.declared.sought.Sought.{Sought}
 use Rattle.waiting_order.specs.declared.waiter.Waiter.{Waiter}
 use Rattle.waiting_order.specs.Directories.{IsNext, IsSlotted}
-use Rattle.waiting_order.specs.Keys.{key_eq}
+use Rattle.waiting_order.specs.Keys.{key_eq, key_of}
 use Rattle.waiting_order.specs.Soughts.{IsSeen, IsSeenAt, is_sought, is_sought_of, sooner}
 use Rattle.waiting_order.specs.Waiting.{IsFree, IsOrdered, Waiting, subs_of}
 use Rattle.waiting_order.proofs.Rising.{rising_at}
@@ -20,9 +20,6 @@ use Rattle.waiting_order.proofs.Timed.{W, clash, key_itself, key_same, ticket_of
 
 abbrev pub one : Bool → ℕ
 one b = cond b 1 0
-
-abbrev pub key_of : ℕ → ℕ → Key
-key_of session slot = record { session = session; slot = slot }
 
 abbrev at_slot : ℕ → ℕ → W → Bool
 at_slot session slot w = key_eq (key_of session slot) w.0
@@ -84,22 +81,29 @@ ones_over session (suc k) w mine less = by (λ low. ones_over session k w mine l
         let here : (k == w.0.slot) ≡ true = test k w.0.slot (omega (arith, high, less)) in
         omega (arith, ones_under session k w high, ap (λ a. one (a && k == w.0.slot)) mine, ap one here)
 
-ones_all : (session : ℕ) (w : W) → IsSlotted w → ones session 16 w ≡ one (is_of session w.1.sub)
-ones_all session w slotted =
+ones_all : (session k : ℕ) (w : W) → IsSlotted w → (w.0.session ≡ session → w.0.slot < k) → ones session k w ≡ one (is_of session w.1.sub)
+ones_all session k w slotted under =
     by (session == w.0.session) refl ∙ ap (λ n. one (session == n)) slotted.0
   where
-    by : (b : Bool) → (session == w.0.session) ≡ b → ones session 16 w ≡ one (session == w.0.session)
-    by true is = ones_over session 16 w is slotted.1 ∙ sym (ap one is)
-    by false is = ones_other session 16 w is ∙ sym (ap one is)
+    equal : (a b : ℕ) → (a == b) ≡ true → b ≡ a
+    equal a b is = grind (arith, nat_tests)
+
+    by : (b : Bool) → (session == w.0.session) ≡ b → ones session k w ≡ one (session == w.0.session)
+    by true is = ones_over session k w is (under (equal session w.0.session is)) ∙ sym (ap one is)
+    by false is = ones_other session k w is ∙ sym (ap one is)
+
+-- those of a session are all counted, if its slots are under that one
+pub total_under : (session k : ℕ) (ws : List W) → AllByRecursion IsSlotted ws → ((i : ℕ) (w : W) → slice_get ws i ≡ Some w → w.0.session ≡ session → w.0.slot < k) → total session k ws ≡ count_by (is_of session) (subs_of ws)
+total_under session k [] all under = none k
+  where
+    none : (n : ℕ) → total session n [] ≡ 0
+    none zero = refl
+    none (suc n) = omega (arith, none n)
+total_under session k (w ∷ ws) all under =
+    omega (arith, total_cons session k w ws, ones_all session k w all.0 (under 0 w refl), total_under session k ws all.1 (λ i v is. under (suc i) v is), sum_by-cons (λ (y : Subscription). one (is_of session y)) w.1.sub (subs_of ws))
 
 pub total_all : (session : ℕ) (ws : List W) → AllByRecursion IsSlotted ws → total session 16 ws ≡ count_by (is_of session) (subs_of ws)
-total_all session [] all = none 16
-  where
-    none : (k : ℕ) → total session k [] ≡ 0
-    none zero = refl
-    none (suc k) = omega (arith, none k)
-total_all session (w ∷ ws) all =
-    omega (arith, total_cons session 16 w ws, ones_all session w all.0, total_all session ws all.1, sum_by-cons (λ (y : Subscription). one (is_of session y)) w.1.sub (subs_of ws))
+total_all session ws all = total_under session 16 ws all (λ i w is mine. (all_at IsSlotted ws i w is all).1)
 
 -- one or none stands at a key
 pub none_at : (key : Key) (ws : List W) → IsFree ws key → count_by (λ (w : W). key_eq key w.0) ws ≡ 0
@@ -254,14 +258,12 @@ module _ (o : Waiting) (order : IsOrdered o) where
             let best = sooner_right first seen new.0 new.1 in
             (best.0, best.1, omega (arith, best.2, new.2))
 
-    pub soonest_first : (seen : Option Place) → IsSeen sought o.all (key_of session 0) from seen → Soonest o.all session from sought 1 seen
-    soonest_first seen here = soonest_more 0 None seen soonest_begin here
-
-    pub soonest_end : AllByRecursion IsSlotted o.all → (first : Option Place) → Soonest o.all session from sought 16 first → IsNext (λ (s : Waiter). is_sought_of session sought s.sub) o.all from first
-    soonest_end slots None soonest = λ i w is after. unless (is_sought_of session sought w.1.sub) (λ passes.
+    pub soonest_end : AllByRecursion IsSlotted o.all → (k : ℕ) → ((i : ℕ) (w : W) → slice_get o.all i ≡ Some w → w.0.session ≡ session → w.0.slot < k) → (first : Option Place) → Soonest o.all session from sought k first → IsNext (λ (s : Waiter). is_sought_of session sought s.sub) o.all from first
+    soonest_end slots k under None soonest = λ i w is after. unless (is_sought_of session sought w.1.sub) (λ passes.
         let both = and_parts (is_of session w.1.sub) (is_sought sought w.1.sub) passes in
         let slot = all_at IsSlotted o.all i w is slots in
-        let p = soonest.least i w is (slot.0 ∙ sym (equal session w.1.sub.session both.0)) slot.1 after both.1 in
+        let mine = slot.0 ∙ sym (equal session w.1.sub.session both.0) in
+        let p = soonest.least i w is mine (under i w is mine) after both.1 in
         none-some p.0 p.1)
       where
         unless : (b : Bool) → (b ≡ true → ⊥) → b ≡ false
@@ -270,7 +272,7 @@ module _ (o : Waiting) (order : IsOrdered o) where
 
         equal : (a b : ℕ) → (a == b) ≡ true → a ≡ b
         equal a b is = grind (arith, nat_tests)
-    soonest_end slots (Some p) soonest =
+    soonest_end slots k under (Some p) soonest =
         let s = soonest.seen p refl in
         let ticket : s.waiter.ticket ≡ p.ticket = sym (ap (λ (q : Place). q.ticket) s.is) in
         let slot = all_at IsSlotted o.all s.at (p.key, s.waiter) s.there slots in
@@ -285,7 +287,8 @@ module _ (o : Waiting) (order : IsOrdered o) where
           before = λ i w is after less. unless (is_sought_of session sought w.1.sub) (λ passes.
               let both = and_parts (is_of session w.1.sub) (is_sought sought w.1.sub) passes in
               let its = all_at IsSlotted o.all i w is slots in
-              let q = soonest.least i w is (its.0 ∙ sym (equal session w.1.sub.session both.0)) its.1 after both.1 in
+              let own = its.0 ∙ sym (equal session w.1.sub.session both.0) in
+              let q = soonest.least i w is own (under i w is own) after both.1 in
               let low : ticket_of w < s.waiter.ticket = rising_at ticket_of o.all i s.at w (p.key, s.waiter) order.rising is s.there less in
               omega (arith, low, ticket, q.2, ap (λ (x : Place). x.ticket) (same_Some p q.0 q.1)));
         }

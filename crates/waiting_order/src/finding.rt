@@ -1,4 +1,4 @@
-//! A session finds its own subscriptions by a look at each of its 16 keys.
+//! A session finds its own subscriptions by a look at each slot up to its last one.
 
 ghost use Rattle.std.specs.Prelude.{◌≡◌, ◌<◌, ◌≤◌, ℕ, MatchOption, Some, count_by, false, slice_get, true};
 ghost use Rattle.std.specs.List.{AllByRecursion};
@@ -32,8 +32,13 @@ pub fn count_of(waiters: &Waiters, session: u64) -> usize
     ensures { result ≡ count_by (is_of session) (subs_of waiters.now.all) }
 {
     let mut count = 0;
-    for slot in 0..SLOTS {
-        count += count_at(waiters, Key { session, slot });
+    let reach = waiters.reach(session);
+    for slot in 0..reach {
+        let key = Key {
+            session,
+            slot: slot as u8,
+        };
+        count += count_at(waiters, key);
     }
     count
 }
@@ -81,9 +86,14 @@ pub fn first_of(waiters: &Waiters, session: u64, sought: Sought<'_>, from: u64) 
     requires { AllByRecursion IsSlotted waiters.now.all }
     ensures { IsNext (λ (s : Waiter). is_sought_of session sought.entry s.sub) waiters.now.all from result }
 {
-    let mut first = seen_at(waiters, Key { session, slot: 0 }, sought, from);
-    for slot in 1..SLOTS {
-        let seen = seen_at(waiters, Key { session, slot }, sought, from);
+    let mut first = None;
+    let reach = waiters.reach(session);
+    for slot in 0..reach {
+        let key = Key {
+            session,
+            slot: slot as u8,
+        };
+        let seen = seen_at(waiters, key, sought, from);
         first = sooner(first, seen);
     }
     first

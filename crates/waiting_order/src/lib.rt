@@ -7,6 +7,7 @@ mod finding;
 mod group;
 mod groups;
 mod key;
+mod last_slots;
 mod order;
 mod places;
 mod sought;

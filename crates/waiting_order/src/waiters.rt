@@ -1,7 +1,8 @@
 //! What stands at each key.
 
-ghost use Rattle.std.specs.Prelude.{◌≡◌, ◌==◌, ◌+◌, ◌++◌, ◌∷◌, ◌<◌, ◌^◌, [], ℕ, IfNone, IfOk, IfSome, MatchOption, None, OnErr, OnOk, Some, drop, length, map, remove, slice_get, true, if◌then◌else◌};
-ghost use Rattle.std.specs.List.{sum_by};
+ghost use Rattle.std.specs.Prelude.{◌≡◌, ◌==◌, ◌+◌, ◌++◌, ◌∷◌, ◌<◌, ◌≤◌, ◌^◌, [], ℕ, IfNone, IfOk, IfSome, MatchOption, None, OnErr, OnOk, Some, drop, false, length, map, remove, slice_get, true, if◌then◌else◌};
+ghost use Rattle.std.specs.List.{IsDistinct, sum_by};
+ghost use Rattle.std.specs.Map.{keys_of, lookup};
 ghost use Rattle.broker_state.specs.declared.subscription.Subscription.{Subscription};
 ghost use Rattle.waiting_order.specs.declared.key.Key.{Key};
 ghost use Rattle.line_core.specs.Flights.{IsOver, has_delivery, settled};
@@ -9,10 +10,13 @@ ghost use Rattle.line_core.specs.Lines.{first_of, inserted};
 ghost use Rattle.broker_state.specs.Lists.{changed, is_none};
 ghost use Rattle.broker_state.specs.Operations.{settled_by};
 ghost use Rattle.waiting_order.specs.Keeping.{kept_by, put_into, settled_at, taken_from};
+ghost use Rattle.waiting_order.specs.Keys.{key_eq};
+ghost use Rattle.waiting_order.specs.LastSlots.{IsReach};
 ghost use Rattle.waiting_order.specs.Waiting.{IsFree, IsOrdered, Stands, subs_of};
 ghost use Rattle.waiting_order.specs.declared.waiter.Waiter.{Waiter};
 
 use crate::key::Key;
+use crate::last_slots::LastSlots;
 use crate::waiter::Waiter;
 use broker_state::Subscription;
 use indexmap::IndexMap;
@@ -22,21 +26,35 @@ use std::alloc::{AllocError, Global};
 use std::collections::BTreeMap;
 use std::marker::Model;
 
+/// A waiter stands at that key. If memory is refused, nothing changes.
+fn put_at(all: &mut IndexMap<Key, Waiter>, key: Key, waiter: Waiter) -> Result<(), AllocError>
+    ensures there { OnOk result (lookup (key_eq key) all.new.entries ≡ Some waiter) }
+    ensures others { OnOk result ((q : Key) → key_eq key q ≡ false → lookup (key_eq q) all.new.entries ≡ lookup (key_eq q) all.old.entries) }
+    ensures unique { IsDistinct key_eq (keys_of all.new.entries) }
+    ensures same { OnErr result (all.new.entries ≡ all.old.entries) }
+{
+    all.insert(key, waiter)?;
+    Ok(())
+}
+
 /// The subscriptions by their keys, with their tickets. Contracts see them by rising ticket, and the next ticket.
 #[derive(Drop)]
 pub struct Waiters {
     all: IndexMap<Key, Waiter>,
     next: u64,
+    // So that a search ends with a session's last slot.
+    lasts: LastSlots,
 }
 
 impl Model for Waiters {
-    ghost use Rattle.waiting_order.specs.Waiting.{AreTimed, Waiting, by_ticket};
+    ghost use Rattle.waiting_order.specs.LastSlots.{AreSeated};
+    ghost use Rattle.waiting_order.specs.Waiting.{Waiting, by_ticket};
 
     ghost Value = { Waiting };
 
     ghost view = { λ a. record { all = by_ticket a.next a.all.entries; next = a.next } };
 
-    ghost invariant = { λ a. AreTimed a.next a.all.entries };
+    ghost invariant = { λ a. AreSeated a.next a.lasts a.all.entries };
 }
 
 impl Waiters {
@@ -47,6 +65,7 @@ impl Waiters {
         Waiters {
             all: IndexMap::new(alloc),
             next: 0,
+            lasts: LastSlots::new(alloc),
         }
     }
 
@@ -73,6 +92,15 @@ impl Waiters {
         ensures order { IsOrdered self.now }
     {
         self.all.get(&key)
+    }
+
+    /// One more than the greatest slot that a session has; 0 if it has none.
+    pub fn reach(&self, session: u64) -> u16
+        ensures reach { IsReach self.now.all session result }
+        ensures small { result ≤ 256 }
+        ensures order { IsOrdered self.now }
+    {
+        self.lasts.reach(session)
     }
 
     /// The keys by ticket.
@@ -118,7 +146,11 @@ impl Waiters {
         ensures same { OnErr result (self.new ≡ self.old) }
     {
         let ticket = self.next;
-        self.all.insert(key, Waiter { ticket, group, sub })?;
+        self.lasts.raise(key)?;
+        if let Err(refused) = put_at(&mut self.all, key, Waiter { ticket, group, sub }) {
+            self.lasts.lower(&self.all, key);
+            return Err(refused);
+        }
         self.next = ticket + 1;
         Ok(())
     }
@@ -130,7 +162,9 @@ impl Waiters {
         ensures removed { (at : ℕ) (s : Waiter) → slice_get self.old.all at ≡ Some (key, s)
             → (result ≡ s) × (self.new ≡ record self.old { all = remove self.old.all at }) }
     {
-        self.all.swap_remove(&key).unwrap()
+        let waiter = self.all.swap_remove(&key).unwrap();
+        self.lasts.lower(&self.all, key);
+        waiter
     }
 
     /// What stands at that key waits last. Its group and the ticket that it had are given. No memory is taken.

@@ -1,5 +1,5 @@
 use Rattle.std.proofs.Common.{◌≡◌, ◌∙◌, ℕ, ap, arith}
-use Rattle.waiting_order.proofs.Seeking.{total, total_all, total_more}
+use Rattle.waiting_order.proofs.Seeking.{total, total_more, total_under}
 use Rattle.waiting_order.proofs.finding.count_of.Goals as goal
 
 pub loop-slot-preserved : goal.loop-slot-preserved
@@ -10,5 +10,5 @@ loop-slot-preserved c = record {
 
 pub returns : goal.returns
 returns c =
-    let end : c.loop-slot.slot ≡ 16 = omega arith in
-    c.loop-slot.invariant.counted ∙ ap (λ (n : ℕ). total c.args.session n c.args.waiters.now.all) end ∙ total_all c.args.session c.args.waiters.now.all c.requires
+    let end : c.loop-slot.slot ≡ c.reach-reach.result = omega arith in
+    c.loop-slot.invariant.counted ∙ ap (λ (n : ℕ). total c.args.session n c.args.waiters.now.all) end ∙ total_under c.args.session c.reach-reach.result c.args.waiters.now.all c.requires c.reach-reach.ensures.reach.under

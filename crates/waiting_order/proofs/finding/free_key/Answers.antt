@@ -1,5 +1,6 @@
 use Rattle.std.proofs.Common.{◌≡◌, ℕ, ap, arith}
-use Rattle.waiting_order.proofs.Seeking.{key_of, one_there, total, total_all, total_more}
+use Rattle.waiting_order.specs.Keys.{key_of}
+use Rattle.waiting_order.proofs.Seeking.{one_there, total, total_all, total_more}
 use Rattle.waiting_order.proofs.finding.free_key.Goals as goal
 
 pub loop-slot-preserved : goal.loop-slot-preserved

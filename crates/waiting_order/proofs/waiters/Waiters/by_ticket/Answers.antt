@@ -26,4 +26,4 @@ pub returns : goal.returns
 returns c =
     let a = c.self.inside in
     let none : c.loop-left.left ≡ 0 = omega (arith, c.loop-left-test.false) in
-    rw (← c.self.view_is) (all_listed a.next a.all.entries c.self.invariant c.loop-left.keys.entries c.loop-left.invariant.sorted (λ t. c.loop-left.invariant.has t ∙ ap (λ (k : ℕ). key_at t (drop k a.all.entries)) none))
+    rw (← c.self.view_is) (all_listed a.next a.all.entries c.self.invariant.timed c.loop-left.keys.entries c.loop-left.invariant.sorted (λ t. c.loop-left.invariant.has t ∙ ap (λ (k : ℕ). key_at t (drop k a.all.entries)) none))

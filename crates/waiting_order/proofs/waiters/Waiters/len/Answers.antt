@@ -8,4 +8,4 @@ pub returns-clause-len : goal.returns-clause-len
 returns-clause-len c =
     let a = c.self.inside in
     let one : W → ℕ = λ w. 1 in
-    rw (← c.self.view_is) (omega (arith, c.len.ensures.len, ones (by_ticket a.next a.all.entries), ones a.all.entries, sum_in_order one a.next a.all.entries c.self.invariant))
+    rw (← c.self.view_is) (omega (arith, c.len.ensures.len, ones (by_ticket a.next a.all.entries), ones a.all.entries, sum_in_order one a.next a.all.entries c.self.invariant.timed))
