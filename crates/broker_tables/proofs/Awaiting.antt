@@ -1,4 +1,4 @@
-use Rattle.std.proofs.Common.{◌≡◌, ◌==◌, ◌<◌, ◌≤◌, ◌+◌, ◌-◌, ◌^◌, ◌&&◌, ◌||◌, ◌⊎◌, ◌++◌, List, [], ◌∷◌, ℕ, suc, zero, Bool, true, false, Some, inl, inr, cond, nat_le, nat_lt, refl, remove, slice_get, sym, ap, subst, ◌∙◌, arith}
+use Rattle.std.proofs.Common.{◌≡◌, ◌==◌, ◌<◌, ◌≤◌, ◌+◌, ◌-◌, ◌^◌, ◌&&◌, ◌||◌, ◌⊎◌, ◌++◌, List, [], ◌∷◌, ℕ, suc, Bool, true, false, Some, inl, inr, cond, nat_le, nat_lt, refl, remove, slice_get, sym, ap, subst, ◌∙◌, arith}
 use Rattle.std.specs.BinaryHeap.{IsUpperBound}
 use Rattle.std.specs.List.{AllByRecursion, list_any}
 use Rattle.std.specs.List.Sorted.{IsPermutation}
@@ -9,7 +9,7 @@ use Rattle.std.proofs.lemmas.Bool.Decides.{nat_tests}
 use Rattle.std.proofs.lemmas.List.Elements.{All-from_recursion, recursion_from_All}
 use Rattle.std.proofs.lemmas.List.Sorted.{All-permutation, IsPermutation-sym, sum_by-IsPermutation}
 use Rattle.std.proofs.lemmas.List.Sums.{sum_by-cons}
-use Rattle.std.proofs.lemmas.Option.{none-some, same_Some, slice_get_within}
+use Rattle.std.proofs.lemmas.Option.{same_Some, slice_get_within}
 use Rattle.line_core.specs.declared.message.Message.{Message}
 use Rattle.broker_state.specs.declared.subscription.Subscription.{Subscription}
 use Rattle.broker_state.specs.HandOut.{can_take}
@@ -135,6 +135,20 @@ pub nearer : (c : Cursor) (cs ds : List Cursor) (ticket : ℕ) → IsPermutation
 nearer c cs ds ticket same more small =
     let d = record c { from = ticket } in
     omega (arith, more, small, left_alike (d ∷ cs) ds same, sum_by-cons (λ (x : Cursor). 2 ^ 64 - x.from) d cs, sum_by-cons (λ (x : Cursor). 2 ^ 64 - x.from) c cs)
+
+-- One that moves on to a place has no more.
+pub moved_left : (c : Cursor) (cs : List Cursor) (ticket : ℕ) → c.from ≤ ticket → tickets_left (record c { from = ticket } ∷ cs) ≤ tickets_left (c ∷ cs)
+moved_left c cs ticket le =
+    omega (arith, le, sum_by-cons (λ (x : Cursor). 2 ^ 64 - x.from) (record c { from = ticket }) cs, sum_by-cons (λ (x : Cursor). 2 ^ 64 - x.from) c cs)
+
+-- Where another cursor is before a place, the least one is too.
+pub before_place : (c : Cursor) (cs : List Cursor) (ticket : ℕ) → AllByRecursion (λ (d : Cursor). c.from ≤ d.from) cs → (AllByRecursion (λ (d : Cursor). ticket ≤ d.from) cs → ⊥) → c.from < ticket
+before_place c cs ticket least some = by (cases_lt c.from ticket)
+  where
+    by : (c.from < ticket) ⊎ (ticket ≤ c.from) → c.from < ticket
+    by (inl less) = less
+    by (inr over) =
+        absurd (some (each_weaker (λ (d : Cursor). c.from ≤ d.from) (λ (d : Cursor). ticket ≤ d.from) (λ d from. omega (arith, over, from)) cs least))
 
 -- One that goes has some.
 pub nearer_gone : (c : Cursor) (cs : List Cursor) → c.from < 2 ^ 64 → tickets_left cs < tickets_left (c ∷ cs)

@@ -78,7 +78,8 @@ pub struct Cursors {
 }
 
 impl Cursors {
-    ghost use Rattle.std.specs.Prelude.{◌≡◌, ◌∷◌, [], IfNone, IfOk, IfSome, IsPermutation, OnOk};
+    ghost use Rattle.std.specs.Prelude.{◌↔◌, ◌≡◌, ◌≤◌, ◌∷◌, [], IfNone, IfOk, IfSome, IsPermutation, IsTrue, OnOk};
+    ghost use Rattle.std.specs.List.{AllByRecursion};
     ghost use Rattle.broker_tables.specs.Cursors.{AwaitAllDue, IsLeast, cursors_in};
 
     /// None. No memory is taken.
@@ -105,6 +106,16 @@ impl Cursors {
         ensures none { IfNone result ((cursors_in self.old ≡ []) × (cursors_in self.new ≡ [])) }
     {
         self.heap.pop()
+    }
+
+    /// Whether none is before that ticket.
+    fn are_past(&self, ticket: u64) -> bool
+        ensures { IsTrue result ↔ AllByRecursion (λ (d : Cursor). ticket ≤ d.from) (cursors_in self.now) }
+    {
+        match self.heap.peek() {
+            Some(least) => ticket <= least.from,
+            None => true,
+        }
     }
 
     /// A cursor for those of each mark, at the first ticket. No memory is taken if nobody is marked.
@@ -144,7 +155,7 @@ impl Stock {
     }
 
     /// The cursor with the least ticket moves on to the first subscription for which something may wait, or is done if there is none.
-    /// If it stands there already, that one's key is given if it can be served; else the cursor goes by.
+    /// If no other cursor is before that one, its key is given if it can be served; else the cursor goes by.
     fn advance(&self, cursors: &mut Cursors, cursor: Cursor) -> Result<Option<Key>, AllocError>
         requires least { IsLeast cursor cursors.old }
         requires awaited { AreAwaited (cursor ∷ cursors_in cursors.old) self.now }
@@ -157,13 +168,14 @@ impl Stock {
         let Some(place) = next_waiting(&self.order, &self.shared, cursor.scope, cursor.from) else {
             return Ok(None);
         };
-        if cursor.from == place.ticket {
-            return self.serve_or_pass(cursors, cursor, place);
-        }
-        cursors.put(Cursor {
+        let moved = Cursor {
             from: place.ticket,
             scope: cursor.scope,
-        })?;
+        };
+        if cursors.are_past(place.ticket) {
+            return self.serve_or_pass(cursors, moved, place);
+        }
+        cursors.put(moved)?;
         Ok(None)
     }
 
