@@ -1,4 +1,5 @@
 mod Answering
+pub mod AtOnce
 pub mod Awaiting
 pub mod Dues
 pub mod Handing
@@ -10,5 +11,6 @@ pub mod Scopes
 pub mod SettledSums
 pub mod Settling
 pub mod Topics
+pub mod Turning
 pub mod Users
 pub mod Waiters

@@ -1,4 +1,5 @@
 pub mod Answers
+pub mod AtOnce
 pub mod CursorOrder
 pub mod Cursors
 pub mod Dues

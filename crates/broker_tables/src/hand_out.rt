@@ -37,7 +37,7 @@ fn ack_of(sub: &Subscription, delivery: u64) -> Option<u64>
 }
 
 /// Whether a subscription's messages count as received once they are sent.
-fn is_auto(sub: &Subscription) -> bool
+pub fn is_auto(sub: &Subscription) -> bool
     ensures { result ≡ is_auto sub.now.mode }
 {
     match sub.mode {
@@ -47,7 +47,7 @@ fn is_auto(sub: &Subscription) -> bool
 }
 
 /// The MESSAGE that the command of that number hands to a subscription is made, if the outputs are kept.
-fn reply(
+pub fn reply(
     alloc: Global,
     number: u64,
     sub: &Subscription,

@@ -4,6 +4,7 @@
 
 mod acknowledging;
 mod answers;
+mod at_once;
 mod cursors;
 mod due;
 mod durable_names;

@@ -25,7 +25,7 @@ use std::alloc::{AllocError, Global};
 use waiting_order::Order;
 
 /// How many durable names are bound to that topic.
-fn names_of(durables: &DurableNames, to: &Dest) -> u64
+pub fn names_of(durables: &DurableNames, to: &Dest) -> u64
     ensures counted { result ≡ count_by (λ durable. bytes_eq durable.1 to.now) durables.now }
     ensures few { result < 2 ^ 63 }
 {
