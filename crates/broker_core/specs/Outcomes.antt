@@ -1,5 +1,6 @@
-use Rattle.std.specs.Prelude.{◌≡◌, ◌++◌, ℕ, List, Option, true, false, Result, Ok, Err}
+use Rattle.std.specs.Prelude.{◌≡◌, ◌++◌, ℕ, Bool, List, Option, true, false, Result, Ok, Err}
 use Rattle.command_core.specs.declared.command.Op.{Op}
+use Rattle.command_core.specs.declared.command.Op.TheVariants.{Send}
 use Rattle.command_core.specs.Outs.{OutValue}
 use Rattle.broker_state.specs.declared.nack_rule.NackRule.{NackRule}
 use Rattle.broker_state.specs.Executing.{executed}
@@ -28,6 +29,11 @@ IsOutcome old new (Err Broken) = (old.broken ≡ true) × (new ≡ old)
 -- what an operation of an open session leads to with what is then handed out
 abbrev pub led_in_session : NackRule → State → ℕ → Op → Settling
 led_in_session rule s session op = settled (accepted_or_ended s session (executed rule s session op))
+
+-- whether an operation is a SEND
+abbrev pub is_send : Op → Bool
+is_send (Send _) = true
+is_send _ = false
 
 -- what is handed out after an operation, and then what answers it
 abbrev pub outs_of : NackRule → State → ℕ → Option (List ℕ) → Op → List OutValue

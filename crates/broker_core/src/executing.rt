@@ -8,9 +8,10 @@ ghost use Rattle.broker_state.specs.HandOut.{settled};
 ghost use Rattle.broker_state.specs.Executing.{executed};
 ghost use Rattle.broker_state.specs.Operations.{ended, opened};
 ghost use Rattle.broker_state.specs.Parts.{is_end, leaving};
-ghost use Rattle.broker_core.specs.Outcomes.{led_in_session, outs_of};
+ghost use Rattle.broker_core.specs.Outcomes.{is_send, led_in_session, outs_of};
 ghost use Rattle.broker_state.specs.Steps.{is_opening, led_to, outs_by, outs_to, replies, step_by};
 ghost use Rattle.broker_tables.specs.Answers.{with_outs};
+ghost use Rattle.broker_tables.specs.Sendings.{IsCarriedOut};
 
 use crate::answers::{answer_done, answer_end, answer_open, answer_refused};
 use crate::committing::commit;
@@ -139,16 +140,41 @@ fn execute_in_session(
         answer_end(alloc, number, session, end, receipt, answers)?;
         return Ok(());
     }
-    match execute_operation(tables, alloc, rule, session, op)? {
-        Ok(()) => {
-            tables.settle(alloc, answers)?;
-            answer_done(alloc, number, session, receipt, answers)
-        }
+    match execute_and_settle(tables, alloc, rule, session, op, answers)? {
+        Ok(()) => answer_done(alloc, number, session, receipt, answers),
         Err(fault) => {
             end_and_settle(tables, alloc, session, answers)?;
             answer_refused(alloc, number, session, fault, receipt, answers)?;
             Ok(())
         }
+    }
+}
+
+/// An operation of an open session other than its end is carried out, and what waits is handed out. If it is refused, the
+/// tables are as they were.
+fn execute_and_settle(
+    tables: &mut Tables,
+    alloc: Global,
+    rule: NackRule,
+    session: u64,
+    op: Op,
+    answers: &mut Answers,
+) -> Result<Result<(), Fault>, AllocError>
+    requires form { IsOp op }
+    requires other { (is_opening op ≡ false) × (is_end op ≡ false) }
+    requires whole { tables.old.broken ≡ false }
+    ensures executed { IfOk result (λ r. IsCarriedOut (executed rule tables.old.state session op) tables.old answers.old r tables.new answers.new) }
+    ensures whole { OnOk result (tables.new.broken ≡ false) }
+{
+    if let Op::Send(sending) = op {
+        return tables.send_out(alloc, sending, answers);
+    }
+    match execute_operation(tables, alloc, rule, session, op)? {
+        Ok(()) => {
+            tables.settle(alloc, answers)?;
+            Ok(Ok(()))
+        }
+        Err(fault) => Ok(Err(fault)),
     }
 }
 
@@ -169,8 +195,8 @@ fn end_and_settle(
     tables.settle(alloc, answers)
 }
 
-/// An operation of an open session other than its end is carried out, before anything is handed out. If it is refused, the
-/// tables are as they were.
+/// An operation of an open session other than its end or a SEND is carried out, before anything is handed out. If it is
+/// refused, the tables are as they were.
 fn execute_operation(
     tables: &mut Tables,
     alloc: Global,
@@ -179,14 +205,13 @@ fn execute_operation(
     op: Op,
 ) -> Result<Result<(), Fault>, AllocError>
     requires form { IsOp op }
-    requires other { (is_opening op ≡ false) × (is_end op ≡ false) }
+    requires other { (is_opening op ≡ false) × (is_end op ≡ false) × (is_send op ≡ false) }
     requires whole { tables.old.broken ≡ false }
     ensures executed { IfOk result (λ r. executed rule tables.old.state session op ≡ leaving r tables.new.state) }
     ensures same { IfOk result (λ r. IsErr r → tables.new ≡ tables.old) }
     ensures whole { OnOk result (tables.new.broken ≡ false) }
 {
     match op {
-        Op::Send(sending) => tables.send(alloc, 0, sending),
         Op::Ack(delivery) => tables.acknowledge(session, delivery),
         Op::Nack(delivery) => tables.nack(alloc, rule, 0, session, delivery),
         Op::Commit(members) => commit(tables, alloc, rule, session, members),
@@ -197,6 +222,6 @@ fn execute_operation(
             durable,
         } => tables.subscribe(alloc, session, id, destination, mode, durable),
         Op::Unsubscribe { id, durable } => tables.unsubscribe(alloc, session, id, durable),
-        Op::Note | Op::Open { .. } | Op::End(_) => Ok(Ok(())),
+        Op::Note | Op::Open { .. } | Op::End(_) | Op::Send(_) => Ok(Ok(())),
     }
 }
