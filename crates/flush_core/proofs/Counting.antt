@@ -56,9 +56,9 @@ between_both seat low mid high begun rises further =
     ∙ (take_further (mid - low) (high - mid) (from_on seat low) ∙ ap (λ (n : ℕ). take n (from_on seat low)) sum)
 
 -- what is counted of two, and of both
-sum_counted : (a steps bytes outs counted some seen n : ℕ) → counted ≡ min a most_counted → some ≡ min steps most_counted → seen ≡ min bytes most_counted
-    → n ≡ min (counted + cost some seen outs) most_counted → n ≡ min (a + cost steps bytes outs) most_counted
-sum_counted a steps bytes outs counted some seen n first second third both = omega (arith, first, second, third, both)
+sum_counted : (a steps bytes outs counted some seen made n : ℕ) → counted ≡ min a most_counted → some ≡ min steps most_counted → seen ≡ min bytes most_counted → made ≡ min outs most_counted
+    → n ≡ min (counted + cost some seen made) most_counted → n ≡ min (a + cost steps bytes outs) most_counted
+sum_counted a steps bytes outs counted some seen made n first second third fourth both = omega (arith, first, second, third, fourth, both)
 
 -- what is counted is under a bound that can be counted
 below : (cost counted many : ℕ) → counted ≡ min cost most_counted → counted < min (max many 64000000) 500000000 → cost < min (max many 64000000) 500000000
@@ -77,7 +77,7 @@ module _ (opening : State) (seat : FlushSeatValue) where
   -- more is executed
   pub counts_more : (since executed stored counted next steps bytes outs : ℕ) → executed ≤ stored
       → steps ≡ min (sum_by steps_of (between seat executed stored)) most_counted → bytes ≡ min (length (records (between seat executed stored))) most_counted
-      → outs ≡ length (outs_of (state_at opening seat executed) (between seat executed stored))
+      → outs ≡ min (length (outs_of (state_at opening seat executed) (between seat executed stored))) most_counted
       → next ≡ min (counted + cost steps bytes outs) most_counted → IsCounted opening seat since executed counted → IsCounted opening seat since stored next
   counts_more since executed stored counted next steps bytes outs further steps_are bytes_are outs_are next_is was =
       let first = state_at opening seat since in
@@ -89,8 +89,7 @@ module _ (opening : State) (seat : FlushSeatValue) where
       record {
         begun = was.begun;
         rises = omega (arith, was.rises, further);
-        counted_is = sum_counted (cost_of first (between seat since executed)) (sum_by steps_of more) (length (records more)) (length (outs_of (state_at opening seat executed) more)) counted steps bytes next was.counted_is steps_are bytes_are
-            (next_is ∙ (λ i. min (counted + cost steps bytes (outs_are i)) most_counted))
+        counted_is = sum_counted (cost_of first (between seat since executed)) (sum_by steps_of more) (length (records more)) (length (outs_of (state_at opening seat executed) more)) counted steps bytes outs next was.counted_is steps_are bytes_are outs_are next_is
             ∙ ap (λ (n : ℕ). min n most_counted) (sym all);
       }
 

@@ -16,10 +16,10 @@ use Rattle.claim_core.specs.Seats.{FlushSeatValue, next_ticket, when_stopped, wi
 use Rattle.recover_core.specs.Standing.{StandFor, Stands, StandsForEither}
 use Rattle.flush_core.specs.Batches.{IsBatch, between, from_on, state_at, with_more}
 use Rattle.flush_core.specs.Flushed.{AfterSome, AreUnder, Compaction, Flushed, HoldBetween, IsFlusher, IsHeld, unexecuted}
-use Rattle.flush_core.specs.Outcomes.{executing, stored_entries}
+use Rattle.flush_core.specs.Outcomes.{Gives, executing, standing, stored_entries}
 use Rattle.flush_core.specs.Sessions.{boxes_after, ended_of}
 use Rattle.outbox_core.specs.Boxes.{SenderValue}
-use Rattle.outbox_core.specs.Giving.{Kept}
+use Rattle.outbox_core.specs.Giving.{AreGiven, Kept, unboxed}
 use Rattle.std.specs.Prelude.{filter}
 use Rattle.flush_core.proofs.Prefixes.{records_cut}
 use Rattle.flush_core.proofs.Sessions.{commands_both, no_entries}
@@ -152,6 +152,11 @@ under_kept n p (out ∷ outs) under = by (p out) (under_kept n p outs under.1)
     by : (b : Bool) → AreUnder n (filter p outs) → AreUnder n (cond b (out ∷ filter p outs) (filter p outs))
     by true rest = (under.0, rest)
     by false rest = rest
+
+-- and so is what comes after others
+pub under_rest : (n : ℕ) (xs ys : List OutValue) → AreUnder n (xs ++ ys) → AreUnder n ys
+under_rest n [] ys under = under
+under_rest n (x ∷ xs) ys under = under_rest n xs ys under.1
 
 pub nothing : {X : Type 0} (l : List X) → length l ≡ 0 → l ≡ []
 nothing [] none = refl
@@ -360,6 +365,83 @@ module _ {D : Type 0} (honest : D → Type 0) (images : D → List ℕ → Type 
           waiting = subst (λ (l : List OutValue). AreUnder f.stored l) (sym outs) (all_append (λ (out : OutValue). out.number < f.stored) f.waiting (outs_of f.broker.state (unexecuted f)) (under_more f.executed f.stored f.waiting kept.executed run.waiting) new);
         };
       }
+
+  -- The first outputs are published, and the others wait.
+  raises : (f : Flushed D) (seat : FlushSeatValue) (boxes : Kept) (ended past : List ℕ) (given waiting more left : List OutValue) → seat ≡ with_mark f.seat seat.published → f.seat.published ≤ seat.published → seat.published ≤ f.executed
+      → given ++ waiting ≡ f.waiting → left ≡ f.left ++ more → AreUnder seat.published more → f.broken ≡ false
+      → IsFlusher honest images f → IsFlusher honest images (record f { seat = seat; boxes = boxes; ended = ended; past = past; waiting = waiting; left = left })
+  raises f seat boxes ended past given waiting more left is raised few outs left_is under whole kept =
+      subst (λ (s : FlushSeatValue). IsFlusher honest images (record f { seat = s; boxes = boxes; ended = ended; past = past; waiting = waiting; left = left })) (sym is)
+      (let run = kept.running whole in record {
+        begun = omega (arith, kept.begun, raised);
+        marked = few;
+        executed = kept.executed;
+        stored = kept.stored;
+        opened = kept.opened;
+        sound = kept.sound;
+        each = λ h. hold_at (images f.disk) f.opening (with_mark f.seat seat.published) f.stored (omega (arith, few, kept.executed)) kept.stored (run.stands h);
+        under = subst (λ (l : List OutValue). AreUnder seat.published l) (sym left_is) (all_append (λ (out : OutValue). out.number < seat.published) f.left more (under_more f.seat.published seat.published f.left raised kept.under) under);
+        stopped = kept.stopped;
+        running = λ _. record { stands = run.stands; broker = run.broker; brought = run.brought; waiting = under_rest f.executed given waiting (subst (λ (l : List OutValue). AreUnder f.executed l) (sym outs) run.waiting) };
+      })
+
+  -- all that is stored is executed, and the first outputs are published
+  pub gives : (f : Flushed D) (seat : FlushSeatValue) (brought : List (EntryValue SenderValue)) (broker : BrokerValue) (boxes : Kept) (ended past : List ℕ) (given waiting more left : List OutValue) → commands brought ≡ from_on f.seat f.stored
+      → broker ≡ record { state = state_after f.broker.state (unexecuted f); broken = false } → given ++ waiting ≡ f.waiting ++ outs_of f.broker.state (unexecuted f)
+      → seat ≡ with_mark f.seat seat.published → f.seat.published ≤ seat.published → seat.published ≤ f.stored → left ≡ f.left ++ more → AreUnder seat.published more → f.broken ≡ false
+      → IsFlusher honest images f → IsFlusher honest images (record f { seat = seat; executed = f.stored; brought = brought; broker = broker; boxes = boxes; ended = ended; past = past; waiting = waiting; left = left })
+  gives f seat brought broker boxes ended past given waiting more left entries is outs seat_is raised few left_is under whole kept =
+      let all = record f { executed = f.stored; brought = brought; broker = broker; boxes = boxes; ended = ended; past = past; waiting = given ++ waiting; left = f.left } in
+      raises all seat boxes ended past given waiting more left seat_is raised few refl left_is under whole
+      (executes f brought broker boxes ended past (given ++ waiting) f.left entries is outs refl whole kept)
+
+  -- memory was refused by then
+  pub gives_and_falls : (f : Flushed D) (seat : FlushSeatValue) (mark executed : ℕ) (brought : List (EntryValue SenderValue)) (broker : BrokerValue) (boxes : Kept) (ended past : List ℕ) (waiting more left : List OutValue)
+      → seat ≡ when_stopped (with_mark f.seat mark) → f.seat.published ≤ mark → mark ≤ executed → executed ≤ f.stored → left ≡ f.left ++ more → AreUnder mark more → f.broken ≡ false
+      → IsFlusher honest images f → IsFlusher honest images (record f { seat = seat; executed = executed; brought = brought; broker = broker; boxes = boxes; ended = ended; past = past; waiting = waiting; left = left; broken = true })
+  gives_and_falls f seat mark executed brought broker boxes ended past waiting more left is raised few most left_is under whole kept =
+      subst (λ (s : FlushSeatValue). IsFlusher honest images (record f { seat = s; executed = executed; brought = brought; broker = broker; boxes = boxes; ended = ended; past = past; waiting = waiting; left = left; broken = true })) (sym is)
+      (let run = kept.running whole in record {
+        begun = omega (arith, kept.begun, raised);
+        marked = few;
+        executed = most;
+        stored = kept.stored;
+        opened = kept.opened;
+        sound = kept.sound;
+        each = λ h. hold_stopped (images f.disk) f.opening (with_mark f.seat mark) (hold_at (images f.disk) f.opening (with_mark f.seat mark) f.stored (omega (arith, few, most)) kept.stored (run.stands h));
+        under = subst (λ (l : List OutValue). AreUnder mark l) (sym left_is) (all_append (λ (out : OutValue). out.number < mark) f.left more (under_more f.seat.published mark f.left raised kept.under) under);
+        stopped = λ _. refl;
+        running = λ whole. absurd (cc whole);
+      })
+
+  pub gives_is : (f : Flushed D) (seat : FlushSeatValue) (brought : List (EntryValue SenderValue)) (broker : BrokerValue) (boxes base : Kept) (ended past : List ℕ) (given waiting left : List OutValue) → f.broken ≡ false → IsFlusher honest images f
+      → brought ≡ drop (f.stored - f.executed) f.brought → base ≡ standing (executing f) → ended ≡ f.ended ++ ended_of f.broker.state (unexecuted f) → past ≡ []
+      → broker ≡ record { state = state_after f.broker.state (unexecuted f); broken = false } → given ++ waiting ≡ f.waiting ++ outs_of f.broker.state (unexecuted f) → left ≡ f.left ++ unboxed base given
+      → AreGiven given base boxes → seat ≡ with_mark f.seat seat.published → f.seat.published ≤ seat.published → seat.published ≤ f.stored
+      → Gives f (record f { seat = seat; executed = f.stored; brought = brought; broker = broker; boxes = boxes; ended = ended; past = past; waiting = waiting; left = left })
+  gives_is f seat brought broker boxes base ended past given waiting left whole kept entries base_is ends none is outs left_is boxed seat_is raised few =
+      let all : broker ≡ record { state = state_at f.opening f.seat f.stored; broken = false } = is ∙ ap (λ (s : State). record { state = s; broken = false }) (executed_state f whole kept) in
+      let remains : left ≡ f.left ++ unboxed (standing (executing f)) given = left_is ∙ ap (λ (b : Kept). f.left ++ unboxed b given) base_is in
+      record {
+        given = given;
+        is = λ i. record f { seat = seat_is i; executed = f.stored; brought = entries i; broker = all i; boxes = boxes; ended = ends i; past = none i; waiting = waiting; left = remains i };
+        outs = outs;
+        boxed = subst (λ (b : Kept). AreGiven given b boxes) base_is boxed;
+        raised = raised;
+        within = few;
+      }
+
+  -- the broker is one whose commands came in order
+  pub broker_in_order : (f : Flushed D) → f.broken ≡ false → IsFlusher honest images f → IsInOrder f.broker.state
+  broker_in_order f whole kept =
+      let state : f.broker.state ≡ state_at f.opening f.seat f.executed = ap (λ (b : BrokerValue). b.state) (kept.running whole).broker in
+      subst (λ (s : State). IsInOrder s) (sym state) (order_after (take (f.executed - f.seat.base) f.seat.taken) f.opening kept.sound.order)
+
+  -- once what is done is executed, the broker has counted all that is stored
+  pub counts_stored : {B : Type 0} (f : Flushed D) (done : List (EntryValue B)) → f.broken ≡ false → IsFlusher honest images f → commands done ≡ unexecuted f → f.broker.state.count + length done ≡ f.stored
+  counts_stored f done whole kept is =
+      let begun : f.seat.base ≤ f.executed = omega (arith, kept.begun, kept.marked) in
+      omega (arith, broker_count f whole kept, length_commands done, ap (λ (l : List CommandValue). length l) is, length_between f.seat f.executed f.stored begun kept.executed kept.stored, kept.executed)
 
   -- all that is stored is published
   pub publishes : (f : Flushed D) (seat : FlushSeatValue) (boxes : Kept) (ended past : List ℕ) (p : OutValue → Bool) (waiting left : List OutValue) → seat ≡ with_mark f.seat f.stored → waiting ≡ [] → left ≡ f.left ++ filter p f.waiting → f.executed ≡ f.stored → f.broken ≡ false

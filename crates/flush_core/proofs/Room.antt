@@ -19,7 +19,7 @@ use Rattle.flush_core.specs.Batches.{IsBatch, block_bytes, from_on, state_at}
 use Rattle.flush_core.specs.Calls.{RefusesToStore, RefusesTurn}
 use Rattle.flush_core.specs.Flushed.{Compaction, Flushed, IsFlusher, gathered, state_stored}
 use Rattle.claim_core.specs.Seats.{FlushSeatValue, next_ticket}
-use Rattle.flush_core.specs.Outcomes.{IsOutcome, publishing, executing, storing, taking}
+use Rattle.flush_core.specs.Outcomes.{Gives, GivesAndFalls, IsOutcome, publishing, storing, taking}
 use Rattle.recover_core.specs.Compactions.{HasNoRoomFor}
 use Rattle.flush_core.specs.Room.{Fits, HasNoRoom, HasNoRoomForState, HasNoRoomLeft, IsTooLong, StoresAfresh, used_afresh}
 use Rattle.flush_core.proofs.StoreFaults.{same_fault}
@@ -72,27 +72,27 @@ module _ {D : Type 0} (f g h : Flushed D) (entries : List (EntryValue SenderValu
       ap (λ (x : Flushed D). from_on x.seat g.stored) (sym did) ∙ (rest ∙ (ap (λ (x : Flushed D). from_on seat x.stored) took ∙ none))
 
   -- what was gathered is what was taken from there on, also where all is published
-  pub taken_stays : (k l : Flushed D) → k ≡ executing h → l ≡ publishing k l.boxes → gathered g ≡ from_on l.seat f.stored
+  pub taken_stays : (k l : Flushed D) → Gives h k → l ≡ publishing k l.boxes → gathered g ≡ from_on l.seat f.stored
   taken_stays k l executed published =
-      let seat : from_on h.seat g.stored ≡ from_on l.seat g.stored = ap (λ (x : Flushed D). from_on x.seat g.stored) (sym executed) ∙ ap (λ (x : Flushed D). from_on x.seat g.stored) (sym published) in
+      let seat : from_on h.seat g.stored ≡ from_on l.seat g.stored = ap (λ (x : Flushed D). from_on x.seat g.stored) (sym executed.is) ∙ ap (λ (x : Flushed D). from_on x.seat g.stored) (sym published) in
       ap (λ (x : Flushed D). from_on x.seat g.stored) (sym did) ∙ (seat ∙ ap (λ (x : Flushed D). from_on l.seat x.stored) took)
 
   -- what is used and won once the turn went through is what storing left
-  same_used : (k l : Flushed D) → k ≡ executing h → l ≡ publishing k l.boxes → (l.used ≡ h.used) × (l.last ≡ h.last)
+  same_used : (k l : Flushed D) → Gives h k → l ≡ publishing k l.boxes → (l.used ≡ h.used) × (l.last ≡ h.last)
   same_used k l executed published = (
-    ap (λ (x : Flushed D). x.used) published ∙ ap (λ (x : Flushed D). x.used) executed,
-    ap (λ (x : Flushed D). x.last) published ∙ ap (λ (x : Flushed D). x.last) executed,
+    ap (λ (x : Flushed D). x.used) published ∙ ap (λ (x : Flushed D). x.used) executed.is,
+    ap (λ (x : Flushed D). x.last) published ∙ ap (λ (x : Flushed D). x.last) executed.is,
   )
 
   -- nor does the number stored change
-  same_stored : (k l : Flushed D) → k ≡ executing h → l ≡ publishing k l.boxes → l.stored ≡ h.stored
-  same_stored k l executed published = ap (λ (x : Flushed D). x.stored) published ∙ ap (λ (x : Flushed D). x.stored) executed
+  same_stored : (k l : Flushed D) → Gives h k → l ≡ publishing k l.boxes → l.stored ≡ h.stored
+  same_stored k l executed published = ap (λ (x : Flushed D). x.stored) published ∙ ap (λ (x : Flushed D). x.stored) executed.is
 
-  same_end : (k l : Flushed D) → k ≡ executing h → l ≡ publishing k l.boxes → next_ticket g.seat ≡ next_ticket l.seat
+  same_end : (k l : Flushed D) → Gives h k → l ≡ publishing k l.boxes → next_ticket g.seat ≡ next_ticket l.seat
   same_end k l executed published =
-      sym (ap (λ (x : Flushed D). next_ticket x.seat) published ∙ (ap (λ (x : Flushed D). next_ticket x.seat) executed ∙ ap (λ (x : Flushed D). next_ticket x.seat) did))
+      sym (ap (λ (x : Flushed D). next_ticket x.seat) published ∙ (ap (λ (x : Flushed D). next_ticket x.seat) executed.is ∙ ap (λ (x : Flushed D). next_ticket x.seat) did))
 
-  pub came_behind : (k l : Flushed D) → k ≡ executing h → l ≡ publishing k l.boxes
+  pub came_behind : (k l : Flushed D) → Gives h k → l ≡ publishing k l.boxes
       → (Fits g.size g.used (gathered g) → gathered g ≢ [] → (h.stored ≡ next_ticket g.seat) × (h.used ≡ g.used + 9 + length (records (gathered g))) × (h.last ≡ g.last))
       → Fits f.size f.used (from_on l.seat f.stored) → from_on l.seat f.stored ≢ []
       → (l.stored ≡ next_ticket l.seat) × (l.used ≡ f.used + 9 + length (records (from_on l.seat f.stored))) × (l.last ≡ f.last)
@@ -101,7 +101,7 @@ module _ {D : Type 0} (f g h : Flushed D) (entries : List (EntryValue SenderValu
       let all = subst (λ (z : Flushed D × List CommandValue). Fits z.0.size z.0.used z.1 → z.1 ≢ [] → (h.stored ≡ next_ticket g.seat) × (h.used ≡ z.0.used + 9 + length (records z.1)) × (h.last ≡ z.0.last)) (λ i. (took i, taken_stays k l executed published i)) told fits some in
       (same_stored k l executed published ∙ (all.0 ∙ same_end k l executed published), same.0 ∙ all.1, same.1 ∙ all.2)
 
-  pub came_afresh : (k l : Flushed D) → k ≡ executing h → l ≡ publishing k l.boxes → f.stored ≤ next_ticket f.seat
+  pub came_afresh : (k l : Flushed D) → Gives h k → l ≡ publishing k l.boxes → f.stored ≤ next_ticket f.seat
       → (IsTooLong g.size g.used (gathered g) → gathered g ≢ []
       → StoresAfresh g.size g.used g.stored (state_at g.opening g.seat g.stored) (gathered g) (h.stored - g.stored) h.used h.last)
       → IsTooLong f.size f.used (from_on l.seat f.stored) → from_on l.seat f.stored ≢ []
@@ -114,20 +114,20 @@ module _ {D : Type 0} (f g h : Flushed D) (entries : List (EntryValue SenderValu
       (sym (λ i. (same_stored k l executed published i, same.0 i, same.1 i))) all
 
   -- nothing is won where nothing was gathered
-  pub none_won : (k l : Flushed D) → k ≡ executing h → l ≡ publishing k l.boxes → from_on l.seat f.stored ≡ [] → l.last ≡ f.last
+  pub none_won : (k l : Flushed D) → Gives h k → l ≡ publishing k l.boxes → from_on l.seat f.stored ≡ [] → l.last ≡ f.last
   none_won k l executed published none =
-      let seat : from_on h.seat g.stored ≡ from_on l.seat g.stored = ap (λ (x : Flushed D). from_on x.seat g.stored) (sym executed) ∙ ap (λ (x : Flushed D). from_on x.seat g.stored) (sym published) in
+      let seat : from_on h.seat g.stored ≡ from_on l.seat g.stored = ap (λ (x : Flushed D). from_on x.seat g.stored) (sym executed.is) ∙ ap (λ (x : Flushed D). from_on x.seat g.stored) (sym published) in
       (same_used k l executed published).1 ∙ ap (λ (x : Flushed D). x.last) (nothing (gathered_before l.seat seat none) ∙ took)
 
   -- executing failed
-  pub still_unexecuted : (k : Flushed D) (fault : FlushFault) → IsOutcome {X = Unit {0}} h k (Err fault) → k.disk ≡ h.disk → from_on k.seat f.stored ≡ [] → k.disk ≡ f.disk
-  still_unexecuted k fault outcome same none =
-      same ∙ ap (λ (x : Flushed D). x.disk) (nothing (gathered_before k.seat (rest_stays h k g.stored fault outcome) none) ∙ took)
+  pub still_unexecuted : (k : Flushed D) → GivesAndFalls h k → k.disk ≡ h.disk → from_on k.seat f.stored ≡ [] → k.disk ≡ f.disk
+  still_unexecuted k fell same none =
+      same ∙ ap (λ (x : Flushed D). x.disk) (nothing (gathered_before k.seat (sym (ap (λ (s : FlushSeatValue). from_on s g.stored) fell.seat)) none) ∙ took)
 
   -- the turn went through
-  pub still_published : (k l : Flushed D) → k ≡ executing h → k.disk ≡ h.disk → l ≡ publishing k l.boxes → from_on l.seat f.stored ≡ [] → l.disk ≡ f.disk
+  pub still_published : (k l : Flushed D) → Gives h k → k.disk ≡ h.disk → l ≡ publishing k l.boxes → from_on l.seat f.stored ≡ [] → l.disk ≡ f.disk
   still_published k l executed same published none =
-      let seat : from_on h.seat g.stored ≡ from_on l.seat g.stored = ap (λ (x : Flushed D). from_on x.seat g.stored) (sym executed) ∙ ap (λ (x : Flushed D). from_on x.seat g.stored) (sym published) in
+      let seat : from_on h.seat g.stored ≡ from_on l.seat g.stored = ap (λ (x : Flushed D). from_on x.seat g.stored) (sym executed.is) ∙ ap (λ (x : Flushed D). from_on x.seat g.stored) (sym published) in
       ap (λ (x : Flushed D). x.disk) published ∙ (same ∙ ap (λ (x : Flushed D). x.disk) (nothing (gathered_before l.seat seat none) ∙ took))
 
 module _ {D : Type 0} (disk : Ghosts D) (f g h : Flushed D) (entries : List (EntryValue SenderValue)) (fault : FlushFault) (kept : IsFlusher disk.honest disk.images f) (took : g ≡ taking f entries) (outcome : IsOutcome {X = Unit {0}} g h (Err fault)) where

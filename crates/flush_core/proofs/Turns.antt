@@ -15,20 +15,26 @@ use Rattle.flush_core.specs.declared.faults.FlushFault.{FlushFault}
 use Rattle.flush_core.specs.declared.faults.FlushFault.TheVariants.{Device, Full, Broken, Memory}
 use Rattle.flush_core.specs.Batches.{between, from_on, state_at, with_more}
 use Rattle.flush_core.specs.Calls.{FlushBreaks, RefusesTurn, TurnBreaks}
-use Rattle.flush_core.specs.Faults.{IsFlushCaused, NeedsNoDisk}
+use Rattle.flush_core.specs.Faults.{IsFlushCaused, IsMemory, NeedsNoDisk}
 use Rattle.flush_core.specs.Flushed.{Compaction, Flushed, IsFlusher, unexecuted}
-use Rattle.flush_core.specs.Outcomes.{Falls, IsNext, IsOutcome, IsTurn, IsTurned, TurnFalls, publishing, executing, standing, stored_entries, storing, taking, turned_boxes, turned_outs}
+use Rattle.flush_core.specs.Outcomes.{Falls, Gives, GivesAndFalls, IsNext, IsOutcome, IsTurn, IsTurned, IsUnpublished, PublishesNone, TurnFalls, publishing, executing, giving, standing, stored_entries, storing, taking, turned_boxes, turned_outs}
 use Rattle.flush_core.specs.Sessions.{boxes_after, ended_of}
 use Rattle.outbox_core.specs.Giving.{AreGiven, Kept, unboxed, without}
 use Rattle.command_core.specs.Commands.{CommandValue}
 use Rattle.command_core.specs.Outs.{OutValue}
 use Rattle.flush_core.specs.Room.{IsLongest, IsTooLong, used_afresh}
+use Rattle.outbox_core.proofs.Gifts.{are_more}
+use Rattle.flush_core.proofs.Published.{left_both}
 use Rattle.flush_core.proofs.StoreFaults.{caused_as, caused_none, never_full}
 use Rattle.flush_core.proofs.Taken.{at_more}
 
 -- a step that fails keeps what was taken
 fallen : {D : Type 0} (old new : Flushed D) → Falls old new → (new.opening ≡ old.opening) × (new.seat.taken ≡ old.seat.taken) × (new.seat.base ≡ old.seat.base)
 fallen old new fell = (fell.opening, ap (λ (s : FlushSeatValue). s.taken) fell.seat, ap (λ (s : FlushSeatValue). s.base) fell.seat)
+
+-- nor what is executed, as far as that goes
+pub fallen_midway : {D : Type 0} (old new : Flushed D) → GivesAndFalls old new → (new.opening ≡ old.opening) × (new.seat.taken ≡ old.seat.taken) × (new.seat.base ≡ old.seat.base)
+fallen_midway old new fell = (fell.opening, ap (λ (s : FlushSeatValue). s.taken) fell.seat, ap (λ (s : FlushSeatValue). s.base) fell.seat)
 
 pub failed_keeps : {D : Type 0} (X : Type 0) (old new : Flushed D) (fault : FlushFault) → IsOutcome {X = X} old new (Err fault) → (new.opening ≡ old.opening) × (new.seat.taken ≡ old.seat.taken) × (new.seat.base ≡ old.seat.base)
 failed_keeps X old new Device fell = fallen old new fell
@@ -65,13 +71,13 @@ module _ {D : Type 0} (disk : Ghosts D) where
       (here honest whole)))
 
   -- the disk stands for the state after what is stored, once that is executed and published
-  pub stands_so : (g did left new : Flushed D) (n : ℕ) (next : D) (size used : ℕ) (last : Compaction) → did ≡ storing g n next size used last → left ≡ executing did → left.disk ≡ did.disk → new ≡ publishing left new.boxes
+  pub stands_so : (g did left new : Flushed D) (n : ℕ) (next : D) (size used : ℕ) (last : Compaction) → did ≡ storing g n next size used last → Gives did left → left.disk ≡ did.disk → new ≡ publishing left new.boxes
       → StandFor (disk.images did.disk) (state_at g.opening g.seat n) → StandFor (disk.images new.disk) (state_at new.opening new.seat new.stored)
   stands_so g did left new n next size used last did_is left_is same new_is stand =
-      let opened : new.opening ≡ g.opening = ap (λ (f : Flushed D). f.opening) new_is ∙ (ap (λ (f : Flushed D). f.opening) left_is ∙ ap (λ (f : Flushed D). f.opening) did_is) in
-      let taken : new.seat.taken ≡ g.seat.taken = ap (λ (f : Flushed D). f.seat.taken) new_is ∙ (ap (λ (f : Flushed D). f.seat.taken) left_is ∙ ap (λ (f : Flushed D). f.seat.taken) did_is) in
-      let base : new.seat.base ≡ g.seat.base = ap (λ (f : Flushed D). f.seat.base) new_is ∙ (ap (λ (f : Flushed D). f.seat.base) left_is ∙ ap (λ (f : Flushed D). f.seat.base) did_is) in
-      let number : new.stored ≡ n = ap (λ (f : Flushed D). f.stored) new_is ∙ (ap (λ (f : Flushed D). f.stored) left_is ∙ ap (λ (f : Flushed D). f.stored) did_is) in
+      let opened : new.opening ≡ g.opening = ap (λ (f : Flushed D). f.opening) new_is ∙ (ap (λ (f : Flushed D). f.opening) left_is.is ∙ ap (λ (f : Flushed D). f.opening) did_is) in
+      let taken : new.seat.taken ≡ g.seat.taken = ap (λ (f : Flushed D). f.seat.taken) new_is ∙ (ap (λ (f : Flushed D). f.seat.taken) left_is.is ∙ ap (λ (f : Flushed D). f.seat.taken) did_is) in
+      let base : new.seat.base ≡ g.seat.base = ap (λ (f : Flushed D). f.seat.base) new_is ∙ (ap (λ (f : Flushed D). f.seat.base) left_is.is ∙ ap (λ (f : Flushed D). f.seat.base) did_is) in
+      let number : new.stored ≡ n = ap (λ (f : Flushed D). f.stored) new_is ∙ (ap (λ (f : Flushed D). f.stored) left_is.is ∙ ap (λ (f : Flushed D). f.stored) did_is) in
       subst (λ (d : D). StandFor (disk.images d) (state_at new.opening new.seat new.stored)) (sym (ap (λ (f : Flushed D). f.disk) new_is ∙ same))
       (subst (λ (s : State). StandFor (disk.images did.disk) s) (sym (λ i. state_after (opened i) (take (number i - base i) (taken i)))) stand)
 
@@ -106,12 +112,14 @@ module _ {D : Type 0} (disk : Ghosts D) where
 
   -- a turn of the four steps
   pub turned : (old took did left new : Flushed D) (entries : List (EntryValue SenderValue)) (n : ℕ) (next : D) (size used : ℕ) (last : Compaction) → old.executed ≡ old.stored → old.stored ≤ n → n ≤ next_ticket (with_more old.seat (commands entries))
-      → took ≡ taking old entries → did ≡ storing took n next size used last → left ≡ executing did → new ≡ publishing left new.boxes → AreGiven left.waiting (standing left) new.boxes → IsTurned old new entries
+      → took ≡ taking old entries → did ≡ storing took n next size used last → Gives did left → new ≡ publishing left new.boxes → AreGiven left.waiting (standing left) new.boxes → IsTurned old new entries
   turned old took did left new entries n next size used last executed rises few took_is did_is left_is new_is given =
       let stored = storing (taking old entries) n next size used last in
       let all = executing stored in
-      let is : left ≡ all = left_is ∙ ap (λ (f : Flushed D). executing f) (did_is ∙ ap (λ (f : Flushed D). storing f n next size used last) took_is) in
-      let end : new ≡ publishing all new.boxes = new_is ∙ ap (λ (f : Flushed D). publishing f new.boxes) is in
+      let did_all : did ≡ stored = did_is ∙ ap (λ (f : Flushed D). storing f n next size used last) took_is in
+      let first = left_is.given in
+      let is : left ≡ giving stored left.seat.published left.boxes first left.waiting = left_is.is ∙ ap (λ (f : Flushed D). giving f left.seat.published left.boxes first left.waiting) did_all in
+      let end : new ≡ publishing (giving stored left.seat.published left.boxes first left.waiting) new.boxes = new_is ∙ ap (λ (f : Flushed D). publishing f new.boxes) is in
       let more = commands entries in
       let number : new.stored ≡ n = ap (λ (f : Flushed D). f.stored) end in
       let marked : new.seat ≡ with_mark (with_more old.seat more) n = ap (λ (f : Flushed D). f.seat) end in
@@ -122,6 +130,12 @@ module _ {D : Type 0} (disk : Ghosts D) where
       let outs : all.waiting ≡ turned_outs old new = ap (λ (l : List CommandValue). old.waiting ++ outs_of old.broker.state l) cs in
       let stands : standing all ≡ turned_boxes old new entries = ap (λ (l : List (EntryValue SenderValue)). without (boxes_after old.executed old.boxes l) old.past) es in
       let opening : new.opening ≡ old.opening = ap (λ (f : Flushed D). f.opening) end in
+      let split : first ++ left.waiting ≡ all.waiting = left_is.outs ∙ ap (λ (f : Flushed D). (executing f).waiting) did_all in
+      let before : AreGiven first (standing all) left.boxes = subst (λ (f : Flushed D). AreGiven first (standing (executing f)) left.boxes) did_all left_is.boxed in
+      let rest : AreGiven left.waiting left.boxes new.boxes = subst (λ (l : List ℕ). AreGiven left.waiting (without left.boxes l) new.boxes) (ap (λ (f : Flushed D). f.past) is) given in
+      let both : AreGiven all.waiting (standing all) new.boxes = subst (λ (l : List OutValue). AreGiven l (standing all) new.boxes) split (are_more first left.waiting (standing all) left.boxes new.boxes before rest) in
+      let remains : new.left ≡ old.left ++ unboxed (standing all) (first ++ left.waiting) =
+      left_both first left.waiting (standing all) left.boxes old.left (old.left ++ unboxed (standing all) first) new.left before refl (ap (λ (f : Flushed D). f.left) end) in
       record {
         seat = seat;
         within = (omega (arith, number, rises), omega (arith, number, few, ap (λ (s : FlushSeatValue). next_ticket s) marked));
@@ -129,13 +143,11 @@ module _ {D : Type 0} (disk : Ghosts D) where
         brought = ap (λ (f : Flushed D). f.brought) end ∙ (λ i. drop (sym number i - executed i) (old.brought ++ entries));
         opening = opening;
         broker = ap (λ (f : Flushed D). f.broker) end ∙ ap (λ (s : State). record { state = s; broken = false }) (sym (λ i. state_at (opening i) (marked i) (number i)));
-        given = subst (λ (l : List OutValue). AreGiven l (turned_boxes old new entries) new.boxes) outs
-            (subst (λ (b : Kept). AreGiven all.waiting b new.boxes) stands
-            (subst (λ (f : Flushed D). AreGiven f.waiting (standing f) new.boxes) is given));
+        given = subst (λ (l : List OutValue). AreGiven l (turned_boxes old new entries) new.boxes) outs (subst (λ (b : Kept). AreGiven all.waiting b new.boxes) stands both);
         past = ap (λ (f : Flushed D). f.past) end ∙ ap (λ (l : List CommandValue). old.ended ++ ended_of old.broker.state l) cs;
         ended = ap (λ (f : Flushed D). f.ended) end;
         waiting = ap (λ (f : Flushed D). f.waiting) end;
-        left = ap (λ (f : Flushed D). f.left) end ∙ (λ i. old.left ++ unboxed (stands i) (outs i));
+        left = remains ∙ (λ i. old.left ++ unboxed (stands i) ((split ∙ outs) i));
       }
 
 -- a turn whose commands are taken and stored fails where executing them does
@@ -144,9 +156,9 @@ module _ {D : Type 0} (old took did new : Flushed D) (entries : List (EntryValue
   did_all : did ≡ storing (taking old entries) n next size used last
   did_all = did_is ∙ ap (λ (f : Flushed D). storing f n next size used last) took_is
 
-  turn_falls : Falls did new → TurnFalls old new
-  turn_falls fell =
-      let seat : new.seat ≡ when_stopped (with_more old.seat (commands entries)) = fell.seat ∙ ap (λ (f : Flushed D). when_stopped f.seat) did_all in
+  pub midway_falls : GivesAndFalls did new → TurnFalls old new
+  midway_falls fell =
+      let seat : new.seat ≡ when_stopped (with_mark (with_more old.seat (commands entries)) new.seat.published) = fell.seat ∙ ap (λ (f : Flushed D). when_stopped (with_mark f.seat new.seat.published)) did_all in
       record {
         was = whole;
         now = fell.now;
@@ -154,17 +166,41 @@ module _ {D : Type 0} (old took did new : Flushed D) (entries : List (EntryValue
         ring = ap (λ (s : FlushSeatValue). s.ring) seat;
         base = ap (λ (s : FlushSeatValue). s.base) seat;
         seats = ap (λ (s : FlushSeatValue). s.seats) seat;
-        published = ap (λ (s : FlushSeatValue). s.published) seat;
+        published = omega (arith, fell.raised, ap (λ (f : Flushed D). f.seat.published) did_all);
         taken = (commands entries, ap (λ (s : FlushSeatValue). s.taken) seat);
         opening = fell.opening ∙ ap (λ (f : Flushed D). f.opening) did_all;
-        left = fell.left ∙ ap (λ (f : Flushed D). f.left) did_all;
+        left = (fell.left.0, fell.left.1 ∙ ap (λ (f : Flushed D). f.left ++ fell.left.0) did_all);
       }
 
-  pub execute_falls : (X : Type 0) (fault : FlushFault) → did.broken ≡ false → IsOutcome {X = Unit {0}} did new (Err fault) → IsTurn {X = X} old new (Err fault)
-  execute_falls X Device sound outcome = turn_falls outcome
-  execute_falls X Full sound outcome = turn_falls outcome
-  execute_falls X (Memory refused) sound outcome = turn_falls outcome
-  execute_falls X Broken sound outcome = absurd (false≢true (sym sound ∙ outcome.0))
+-- a turn of which nothing is executed fails
+module _ {D : Type 0} (old took new : Flushed D) (entries : List (EntryValue SenderValue)) (whole : old.broken ≡ false) (took_is : took ≡ taking old entries) where
+  turn_falls : Falls took new → TurnFalls old new
+  turn_falls fell =
+      let seat : new.seat ≡ when_stopped (with_more old.seat (commands entries)) = fell.seat ∙ ap (λ (f : Flushed D). when_stopped f.seat) took_is in
+      record {
+        was = whole;
+        now = fell.now;
+        stopped = ap (λ (s : FlushSeatValue). s.stopped) seat;
+        ring = ap (λ (s : FlushSeatValue). s.ring) seat;
+        base = ap (λ (s : FlushSeatValue). s.base) seat;
+        seats = ap (λ (s : FlushSeatValue). s.seats) seat;
+        published = omega (arith, ap (λ (s : FlushSeatValue). s.published) seat);
+        taken = (commands entries, ap (λ (s : FlushSeatValue). s.taken) seat);
+        opening = fell.opening ∙ ap (λ (f : Flushed D). f.opening) took_is;
+        left = ([], fell.left ∙ (ap (λ (f : Flushed D). f.left) took_is ∙ sym (append-nil old.left)));
+      }
+
+  none_published : Falls took new → IsUnpublished old new
+  none_published fell = (
+    ap (λ (s : FlushSeatValue). s.published) fell.seat ∙ ap (λ (f : Flushed D). f.seat.published) took_is,
+    fell.left ∙ ap (λ (f : Flushed D). f.left) took_is,
+  )
+
+  store_falls : (X : Type 0) (fault : FlushFault) → took.broken ≡ false → IsOutcome {X = Unit {0}} took new (Err fault) → IsTurn {X = X} old new (Err fault) × PublishesNone {X = X} old new (Err fault)
+  store_falls X Device sound outcome = (turn_falls outcome, none_published outcome)
+  store_falls X Full sound outcome = (turn_falls outcome, none_published outcome)
+  store_falls X (Memory refused) sound outcome = (turn_falls outcome, tt)
+  store_falls X Broken sound outcome = absurd (false≢true (sym sound ∙ outcome.0))
 
 -- a turn that took nothing
 gather_falls : {D : Type 0} (old new : Flushed D) → Falls old new → TurnFalls old new
@@ -175,23 +211,34 @@ gather_falls old new fell = record {
   ring = ap (λ (s : FlushSeatValue). s.ring) fell.seat;
   base = ap (λ (s : FlushSeatValue). s.base) fell.seat;
   seats = ap (λ (s : FlushSeatValue). s.seats) fell.seat;
-  published = ap (λ (s : FlushSeatValue). s.published) fell.seat;
+  published = omega (arith, ap (λ (s : FlushSeatValue). s.published) fell.seat);
   taken = ([], ap (λ (s : FlushSeatValue). s.taken) fell.seat ∙ sym (append-nil old.seat.taken));
   opening = fell.opening;
-  left = fell.left;
+  left = ([], fell.left ∙ sym (append-nil old.left));
 }
 
-gather_fails : {D : Type 0} (old new : Flushed D) (fault : FlushFault) → IsOutcome {X = ℕ} old new (Err fault) → IsTurn {X = ℕ} old new (Err fault)
-gather_fails old new Device fell = gather_falls old new fell
-gather_fails old new Full fell = gather_falls old new fell
-gather_fails old new Broken was = was
-gather_fails old new (Memory refused) fell = gather_falls old new fell
+gather_shows : {D : Type 0} (old new : Flushed D) → Falls old new → IsUnpublished old new
+gather_shows old new fell = (ap (λ (s : FlushSeatValue). s.published) fell.seat, fell.left)
+
+gather_fails : {D : Type 0} (old new : Flushed D) (fault : FlushFault) → IsOutcome {X = ℕ} old new (Err fault) → IsTurn {X = ℕ} old new (Err fault) × PublishesNone {X = ℕ} old new (Err fault)
+gather_fails old new Device fell = (gather_falls old new fell, gather_shows old new fell)
+gather_fails old new Full fell = (gather_falls old new fell, gather_shows old new fell)
+gather_fails old new Broken was = (was, tt)
+gather_fails old new (Memory refused) fell = (gather_falls old new fell, tt)
+
+-- memory was refused midway
+pub midway_fails : {D : Type 0} (X : Type 0) (old new : Flushed D) (fault : FlushFault) → IsMemory {T = X} (Err fault) → TurnFalls old new → IsTurn {X = ℕ} old new (Err fault) × PublishesNone {X = ℕ} old new (Err fault)
+midway_fails X old new Device memory fell = absurd memory
+midway_fails X old new Full memory fell = absurd memory
+midway_fails X old new Broken memory fell = absurd memory
+midway_fails X old new (Memory refused) memory fell = (fell, tt)
 
 module _ {D : Type 0} (disk : Ghosts D) where
   pub gather_breaks : (old new : Flushed D) (fault : FlushFault) → NeedsNoDisk {T = ℕ} (Err fault) → new.disk ≡ old.disk → IsOutcome {X = ℕ} old new (Err fault) → (new.broken ≡ true) × (new.seat.stopped ≡ true)
       → TurnBreaks {X = ℕ} disk old new (Err fault)
   gather_breaks old new fault none same outcome stops = record {
-    outcome = gather_fails old new fault outcome;
+    outcome = (gather_fails old new fault outcome).0;
+    unpublished = (gather_fails old new fault outcome).1;
     stops = stops;
     cause = caused_none ℕ ℕ fault (disk.failures old.disk) (disk.failures new.disk) none (ap (λ (d : D). disk.failures d) same);
   }
@@ -200,7 +247,8 @@ module _ {D : Type 0} (disk : Ghosts D) where
   pub store_breaks : (old took new : Flushed D) (entries : List (EntryValue SenderValue)) (fault : FlushFault) → old.broken ≡ false → took.broken ≡ false → took ≡ taking old entries
       → FlushBreaks {X = Unit {0}} disk took new (Err fault) → TurnBreaks {X = ℕ} disk old new (Err fault)
   store_breaks old took new entries fault whole sound is breaks = record {
-    outcome = execute_falls old took took new entries took.stored took.disk took.size took.used took.last whole is refl ℕ fault sound breaks.outcome;
+    outcome = (store_falls old took new entries whole is ℕ fault sound breaks.outcome).0;
+    unpublished = (store_falls old took new entries whole is ℕ fault sound breaks.outcome).1;
     stops = breaks.stops;
     cause = subst (λ (f : Flushed D). IsFlushCaused {T = ℕ} (disk.failures f.disk) (disk.failures new.disk) (Err fault)) is (caused_as (Unit {0}) ℕ fault (disk.failures took.disk) (disk.failures new.disk) breaks.cause);
   }

@@ -1,5 +1,5 @@
 -- What a call of a flusher leaves, by its answer.
-use Rattle.std.specs.Prelude.{◌≡◌, ◌≢◌, ◌⊎◌, ◌<◌, ◌≤◌, ◌+◌, ◌-◌, ◌++◌, ℕ, List, [], Result, Vec, vec_capacity, true, false, drop, take, length, IsErrOf, IsOk, OnErr, OnOk}
+use Rattle.std.specs.Prelude.{◌≡◌, ◌≢◌, ◌⊎◌, ◌<◌, ◌≤◌, ◌+◌, ◌-◌, ◌++◌, ℕ, List, [], Result, Vec, vec_capacity, true, false, drop, take, length, min, IsErrOf, IsOk, OnErr, OnOk}
 use Rattle.std.specs.declared.alloc.Global.{Global}
 use Rattle.disk_core.specs.declared.disk.Disk.{Ghosts}
 use Rattle.disk_core.specs.Moments.{LeavesOnly}
@@ -7,7 +7,7 @@ use Rattle.command_core.specs.Commands.{CommandValue}
 use Rattle.command_core.specs.Entries.{EntryValue}
 use Rattle.command_core.specs.Outs.{OutValue}
 use Rattle.outbox_core.specs.Boxes.{SenderValue}
-use Rattle.outbox_core.specs.Giving.{Kept}
+use Rattle.outbox_core.specs.Giving.{AreGiven, Kept, unboxed}
 use Rattle.area_core.specs.declared.faults.AreaFault.{AreaFault}
 use Rattle.area_core.specs.declared.faults.AreaFault.TheVariants as areas
 use Rattle.area_core.specs.Areas.{commands, records}
@@ -15,7 +15,7 @@ use Rattle.area_core.specs.Puts.{Each}
 use Rattle.area_core.specs.Steps.{IsCaused}
 use Rattle.broker_core.specs.States.{BrokerValue}
 use Rattle.broker_core.specs.Steps.{outs_of, state_after}
-use Rattle.claim_core.specs.Seats.{FlushSeatValue, next_ticket}
+use Rattle.claim_core.specs.Seats.{FlushSeatValue, next_ticket, with_mark}
 use Rattle.recover_core.specs.declared.store.Store.{Store}
 use Rattle.recover_core.specs.Calls.{StoreAdds, StoreRefuses}
 use Rattle.recover_core.specs.Compactions.{HasNoRoomFor, HoldsItAlone}
@@ -23,13 +23,13 @@ use Rattle.recover_core.specs.Standing.{StandFor, Stands, StandsForEither}
 use Rattle.recover_core.specs.Stores.{disk_of, is_broken, size_of, used_of}
 use Rattle.flush_core.specs.declared.faults.FlushFault.{FlushFault}
 use Rattle.flush_core.specs.declared.faults.FlushFault.TheVariants.{Full}
-use Rattle.flush_core.specs.Backlogs.{IsLight}
+use Rattle.flush_core.specs.Backlogs.{IsLight, most_counted}
 use Rattle.flush_core.specs.Batches.{IsBatch, block_bytes, from_on, state_at, with_more}
 use Rattle.flush_core.specs.Faults.{IfMemory, IsFlushCaused, NeedsNoDisk}
-use Rattle.flush_core.specs.Flushed.{Flushed, HasStopped, gathered, state_stored}
-use Rattle.flush_core.specs.Outcomes.{IsCompacted, IsLeft, IsNext, IsOutcome, IsTurn, IsTurned, compacted, storing, taking}
+use Rattle.flush_core.specs.Flushed.{AreUnder, Flushed, HasStopped, gathered, state_stored}
+use Rattle.flush_core.specs.Outcomes.{IsCompacted, IsLeft, IsNext, IsOutcome, IsTurn, IsTurned, PublishesNone, compacted, storing, taking}
 use Rattle.flush_core.specs.Room.{Fits, HasNoRoom, HasNoRoomForState, HasNoRoomLeft, IsTooLong, StoresAfresh, used_afresh}
-use Rattle.flush_core.specs.Sessions.{boxes_after, ended_of}
+use Rattle.flush_core.specs.Sessions.{ended_of}
 
 -- Unless the flusher is broken, an honest disk that stops at any moment of the call is left with bytes that have P.
 abbrev pub UnbrokenThroughout : {D : Type 0} → Ghosts D → Flushed D → Flushed D → (List ℕ → Type 0) → Type 0
@@ -56,9 +56,10 @@ pub record BreaksInMemory {D X : Type 0} (old new : Flushed D) (result : Result 
   pub stops : OnErr result (HasStopped new)
   pub fault : NeedsNoDisk result
 
--- The same for a turn, which may have taken and stored commands by then.
+-- The same for a turn, which may have taken and stored commands by then. It has published none of them, unless memory was refused.
 pub record TurnBreaks {D X : Type 0} (disk : Ghosts D) (old new : Flushed D) (result : Result X FlushFault) : Type 0 where
   pub outcome : IsTurn old new result
+  pub unpublished : PublishesNone old new result
   pub stops : OnErr result (HasStopped new)
   pub cause : IsFlushCaused (disk.failures old.disk) (disk.failures new.disk) result
 
@@ -190,13 +191,41 @@ Gathers old new count = (more : List (EntryValue SenderValue)) × (length more �
 abbrev pub GathersNone : {D : Type 0} → Flushed D → Flushed D → Type 0
 GathersNone old new = (new.disk ≡ old.disk) × (new.seat.taken ≡ old.seat.taken)
 
--- The entries are executed, in turn. The broker has the state after them, and their outputs come after those that wait. The boxes that came
--- with Opens are kept, and the sessions that ended are noted.
-pub record Executes (entries : List (EntryValue SenderValue)) (old new : BrokerValue) (kept boxes : Kept) (waited waiting : Vec OutValue Global) (noted ended : Vec ℕ Global) : Type 0 where
-  pub broker : new ≡ record { state = state_after old.state (commands entries); broken = false }
-  pub boxes_are : boxes ≡ boxes_after old.state.count kept entries
-  pub outs : waiting.items ≡ waited.items ++ outs_of old.state (commands entries)
-  pub ended_are : ended.items ≡ noted.items ++ ended_of old.state (commands entries)
+-- The commands are executed, in turn. The broker has the state after them, their outputs come after those that wait, and the sessions that
+-- ended are noted.
+pub record Executes (cs : List CommandValue) (old new : BrokerValue) (waited waiting : Vec OutValue Global) (noted ended : Vec ℕ Global) : Type 0 where
+  pub broker : new ≡ record { state = state_after old.state cs; broken = false }
+  pub outs : waiting.items ≡ waited.items ++ outs_of old.state cs
+  pub ended_are : ended.items ≡ noted.items ++ ended_of old.state cs
+
+-- The commands are executed, in turn. Some of the first outputs were given to these boxes by then, and the mark is over them; the others
+-- wait. The number of outputs that came of the commands is counted, as far as it can be.
+pub record ExecutesInPortions (cs : List CommandValue) (old new : BrokerValue) (waited waiting : List OutValue) (noted ended : List ℕ) (kept boxes : Kept)
+    (could left : List OutValue) (many : ℕ) : Type 0 where
+  pub broker : new ≡ record { state = state_after old.state cs; broken = false }
+  pub ended_are : ended ≡ noted ++ ended_of old.state cs
+  pub given : List OutValue
+  pub outs : given ++ waiting ≡ waited ++ outs_of old.state cs
+  pub boxed : AreGiven given kept boxes
+  pub left_are : left ≡ could ++ unboxed kept given
+  pub counted : many ≡ min (length (outs_of old.state cs)) most_counted
+
+-- The mark is raised, if at all, up to at most that number, and what may be handed out in addition is under it.
+pub record RaisesUpTo (most : ℕ) (old new : FlushSeatValue) (could left : List OutValue) : Type 0 where
+  pub seat : new ≡ with_mark old new.published
+  pub raised : old.published ≤ new.published
+  pub within : new.published ≤ most
+  pub more : List OutValue
+  pub left_are : left ≡ could ++ more
+  pub under : AreUnder new.published more
+
+-- The first of the outputs that wait are given to these boxes, and the mark is over what is given.
+pub record GivesFirst (mark : ℕ) (old new : FlushSeatValue) (waited waiting : List OutValue) (kept boxes : Kept) (could left : List OutValue) : Type 0 where
+  pub given : List OutValue
+  pub outs : given ++ waiting ≡ waited
+  pub boxed : AreGiven given kept boxes
+  pub left_are : left ≡ could ++ unboxed kept given
+  pub raised : RaisesUpTo mark old new could left
 
 -- There is room for the outputs that wait: after those that are left, if any are, and in `spare`, for those that go to no box. `spare` is
 -- empty.

@@ -104,6 +104,41 @@ publishing f boxes = record f {
   left = f.left ++ unboxed (standing f) f.waiting;
 }
 
+-- All that is stored is executed. The first outputs are given by then, and the mark stands there; the others wait. The boxes of sessions that
+-- had got their last outputs are let go.
+abbrev pub giving : {D : Type 0} → Flushed D → ℕ → Kept → List OutValue → List OutValue → Flushed D
+giving f mark boxes given waiting = record f {
+  seat = with_mark f.seat mark;
+  executed = f.stored;
+  brought = drop (f.stored - f.executed) f.brought;
+  broker = record { state = state_at f.opening f.seat f.stored; broken = false };
+  boxes = boxes;
+  ended = f.ended ++ ended_of f.broker.state (unexecuted f);
+  past = [];
+  waiting = waiting;
+  left = f.left ++ unboxed (standing (executing f)) given;
+}
+
+-- What is stored is executed, and the first outputs are published.
+pub record Gives {D : Type 0} (old new : Flushed D) : Type 0 where
+  pub given : List OutValue
+  pub is : new ≡ giving old new.seat.published new.boxes given new.waiting
+  pub outs : given ++ new.waiting ≡ (executing old).waiting
+  pub boxed : AreGiven given (standing (executing old)) new.boxes
+  pub raised : old.seat.published ≤ new.seat.published
+  pub within : new.seat.published ≤ old.stored
+
+-- Memory was refused while what is stored was executed: the flusher is broken and its ring is stopped. The first outputs may be published by
+-- then. What may be handed out stays, and more may come after it.
+pub record GivesAndFalls {D : Type 0} (old new : Flushed D) : Type 0 where
+  pub was : old.broken ≡ false
+  pub now : new.broken ≡ true
+  pub seat : new.seat ≡ when_stopped (with_mark old.seat new.seat.published)
+  pub raised : old.seat.published ≤ new.seat.published
+  pub stored : new.stored ≡ old.stored
+  pub opening : new.opening ≡ old.opening
+  pub left : (more : List OutValue) × (new.left ≡ old.left ++ more)
+
 -- the outputs that a turn publishes
 abbrev pub turned_outs : {D : Type 0} → Flushed D → Flushed D → List OutValue
 turned_outs old new = old.waiting ++ outs_of old.broker.state (between new.seat old.stored new.stored)
@@ -128,8 +163,8 @@ pub record IsTurned {D : Type 0} (old new : Flushed D) (more : List (EntryValue 
   pub waiting : new.waiting ≡ []
   pub left : new.left ≡ old.left ++ unboxed (turned_boxes old new more) (turned_outs old new)
 
--- A turn has failed: the flusher is broken and its ring is stopped. It may have taken and stored commands, but has
--- published none, and what may be handed out stays.
+-- A turn has failed: the flusher is broken and its ring is stopped. It may have taken and stored commands, and published the first of them.
+-- What may be handed out stays, and what was published in addition comes after it.
 pub record TurnFalls {D : Type 0} (old new : Flushed D) : Type 0 where
   pub was : old.broken ≡ false
   pub now : new.broken ≡ true
@@ -137,10 +172,10 @@ pub record TurnFalls {D : Type 0} (old new : Flushed D) : Type 0 where
   pub ring : new.seat.ring ≡ old.seat.ring
   pub base : new.seat.base ≡ old.seat.base
   pub seats : new.seat.seats ≡ old.seat.seats
-  pub published : new.seat.published ≡ old.seat.published
+  pub published : old.seat.published ≤ new.seat.published
   pub taken : (more : List CommandValue) × (new.seat.taken ≡ old.seat.taken ++ more)
   pub opening : new.opening ≡ old.opening
-  pub left : new.left ≡ old.left
+  pub left : (more : List OutValue) × (new.left ≡ old.left ++ more)
 
 -- Whether a flusher is broken before a turn, and after it. A broken flusher stays as it is.
 abbrev pub IsTurn : {D X : Type 0} → Flushed D → Flushed D → Result X FlushFault → Type 0
@@ -149,3 +184,15 @@ IsTurn old new (Err Broken) = (old.broken ≡ true) × (new ≡ old)
 IsTurn old new (Err Device) = TurnFalls old new
 IsTurn old new (Err Full) = TurnFalls old new
 IsTurn old new (Err (Memory _)) = TurnFalls old new
+
+-- the mark and what may be handed out stay
+abbrev pub IsUnpublished : {D : Type 0} → Flushed D → Flushed D → Type 0
+IsUnpublished old new = (new.seat.published ≡ old.seat.published) × (new.left ≡ old.left)
+
+-- A turn that fails for its disk, or for room on it, has published nothing.
+abbrev pub PublishesNone : {D X : Type 0} → Flushed D → Flushed D → Result X FlushFault → Type 0
+PublishesNone old new (Ok _) = Unit {0}
+PublishesNone old new (Err Broken) = Unit {0}
+PublishesNone old new (Err Device) = IsUnpublished old new
+PublishesNone old new (Err Full) = IsUnpublished old new
+PublishesNone old new (Err (Memory _)) = Unit {0}

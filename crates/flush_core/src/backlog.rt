@@ -42,10 +42,10 @@ fn cost(steps: u64, bytes: u64, outs: u64) -> u64
 }
 
 /// What is counted, and what it costs to repeat commands of so many steps more.
-pub(crate) fn count_more(counted: u64, steps: u64, bytes: u64, outs: usize) -> u64
+pub(crate) fn count_more(counted: u64, steps: u64, bytes: u64, outs: u64) -> u64
     ensures { result ≡ min (counted + cost steps bytes outs) most_counted }
 {
-    counted.saturating_add(cost(steps, bytes, outs as u64))
+    counted.saturating_add(cost(steps, bytes, outs))
 }
 
 /// How many steps the commands of these entries take.

@@ -1,12 +1,13 @@
 //! Executing the commands.
 
-ghost use Rattle.std.specs.Prelude.{◌≡◌, ◌<◌, ◌≤◌, ◌+◌, ◌++◌, ◌&&◌, ◌^◌, [], ◌∷◌, OnOk, true, false, not, if◌then◌else◌, length};
+ghost use Rattle.std.specs.Prelude.{◌≡◌, ◌<◌, ◌≤◌, ◌+◌, ◌++◌, ◌&&◌, ◌^◌, [], ◌∷◌, IfOk, OnOk, true, false, not, if◌then◌else◌, length};
+ghost use Rattle.area_core.specs.Areas.{commands};
 ghost use Rattle.broker_state.specs.States.{is_open};
 ghost use Rattle.broker_core.specs.Steps.{outs, step};
 ghost use Rattle.flush_core.specs.Calls.{BreaksInMemory, Executes, HasRoom};
 ghost use Rattle.flush_core.specs.Faults.{IsMemory};
 ghost use Rattle.flush_core.specs.Outcomes.{executing};
-ghost use Rattle.flush_core.specs.Sessions.{ended_by, opened};
+ghost use Rattle.flush_core.specs.Sessions.{boxes_after, ended_by, opened};
 
 use crate::FlushFault;
 use crate::backlog::{bytes_of, count_more, steps_of};
@@ -39,6 +40,31 @@ fn keep_box<B: Bell>(
         Some(sender) => boxes.keep(number, sender),
         None => Ok(()),
     }
+}
+
+// Keeps the boxes that come with commands, the first of which has that number. The commands are what is left of the entries.
+pub(crate) fn keep_boxes<B: Bell>(
+    alloc: Global,
+    boxes: &mut Boxes<B>,
+    first: u64,
+    entries: &mut Vec<Entry<OutSender<B>>>,
+) -> Result<Vec<Command>, AllocError>
+    requires count { first + length entries.old.items ≤ 2 ^ 62 }
+    ensures boxes { OnOk result (boxes.new ≡ boxes_after first boxes.old entries.old.items) }
+    ensures commands { IfOk result (λ cs. cs.items ≡ commands entries.old.items) }
+    ensures none { entries.new.items ≡ [] }
+{
+    let batch = replace(entries, Vec::new(alloc));
+    let mut number = first;
+    let mut kept = Vec::new(alloc);
+    for entry in batch {
+        let (command, outbox) = entry.into_parts();
+        let boxed = keep_box(boxes, number, &command, outbox);
+        kept.push(command)?;
+        boxed?;
+        number += 1;
+    }
+    Ok(kept)
 }
 
 // Notes a session that was open and no longer is.
@@ -76,88 +102,75 @@ fn take_step(
     Ok(())
 }
 
-// Executes one command: its outputs wait after those that wait already, the box that comes with an Open is kept, and the session that it
-// ends is noted.
-fn execute_one<B: Bell>(
+// Executes one command: its outputs wait after those that wait already, and the session that it ends is noted.
+fn execute_one(
     alloc: Global,
     broker: &mut Broker,
-    entry: Entry<OutSender<B>>,
+    command: Command,
     waiting: &mut Vec<Out>,
-    boxes: &mut Boxes<B>,
     ended: &mut Vec<u64>,
 ) -> Result<(), FlushFault>
     requires whole { broker.old.broken ≡ false }
     requires count { broker.old.state.count < 2 ^ 62 }
-    ensures state { OnOk result (broker.new ≡ record { state = step broker.old.state entry.command; broken = false }) }
-    ensures outs { OnOk result (waiting.new.items ≡ waiting.old.items ++ outs broker.old.state entry.command) }
-    ensures boxes { OnOk result (boxes.new ≡ opened boxes.old broker.old.state.count entry) }
-    ensures ended { OnOk result (ended.new.items ≡ ended.old.items ++ ended_by broker.old.state entry.command) }
+    ensures state { OnOk result (broker.new ≡ record { state = step broker.old.state command; broken = false }) }
+    ensures outs { OnOk result (waiting.new.items ≡ waiting.old.items ++ outs broker.old.state command) }
+    ensures ended { OnOk result (ended.new.items ≡ ended.old.items ++ ended_by broker.old.state command) }
     ensures fault { IsMemory result }
 {
-    let number = broker.count();
-    let (command, outbox) = entry.into_parts();
     let session = command.session();
     let was_open = broker.sessions().contains_key(&session);
-    match keep_box(boxes, number, &command, outbox) {
-        Ok(()) => {}
-        Err(refused) => {
-            drop(command);
-            return Err(FlushFault::Memory(refused));
-        }
-    }
     take_step(alloc, broker, command, waiting)?;
     note_end(broker, was_open, session, ended)?;
     Ok(())
 }
 
-// The same, and tells what that shows of a topic's audience.
-fn execute_telling<B: Bell>(
+// The same, and tells what that shows of a topic's audience. It answers how many outputs came of it.
+pub(crate) fn execute_telling(
     alloc: Global,
     broker: &mut Broker,
-    entry: Entry<OutSender<B>>,
+    command: Command,
     waiting: &mut Vec<Out>,
-    boxes: &mut Boxes<B>,
     ended: &mut Vec<u64>,
     audiences: &Option<Arc<Audiences>>,
-) -> Result<(), FlushFault>
+) -> Result<u64, FlushFault>
     requires whole { broker.old.broken ≡ false }
     requires count { broker.old.state.count < 2 ^ 62 }
-    ensures state { OnOk result (broker.new ≡ record { state = step broker.old.state entry.command; broken = false }) }
-    ensures outs { OnOk result (waiting.new.items ≡ waiting.old.items ++ outs broker.old.state entry.command) }
-    ensures boxes { OnOk result (boxes.new ≡ opened boxes.old broker.old.state.count entry) }
-    ensures ended { OnOk result (ended.new.items ≡ ended.old.items ++ ended_by broker.old.state entry.command) }
+    ensures state { OnOk result (broker.new ≡ record { state = step broker.old.state command; broken = false }) }
+    ensures outs { OnOk result (waiting.new.items ≡ waiting.old.items ++ outs broker.old.state command) }
+    ensures many { IfOk result (λ many. many ≡ length (outs broker.old.state command)) }
+    ensures ended { OnOk result (ended.new.items ≡ ended.old.items ++ ended_by broker.old.state command) }
     ensures fault { IsMemory result }
 {
-    let (sample, waited) = (Sample::of(entry.command().op()), waiting.len());
-    execute_one(alloc, broker, entry, waiting, boxes, ended)?;
+    let (sample, waited) = (Sample::of(command.op()), waiting.len());
+    execute_one(alloc, broker, command, waiting, ended)?;
+    let many = waiting.len().saturating_sub(waited) as u64;
     if let Some(audiences) = audiences {
-        audiences.carried_out(sample, waiting.len().saturating_sub(waited) as u64);
+        audiences.carried_out(sample, many);
     }
-    Ok(())
+    Ok(many)
 }
 
 // The same for commands in turn.
-fn execute_each<B: Bell>(
+fn execute_each(
     alloc: Global,
     broker: &mut Broker,
-    batch: Vec<Entry<OutSender<B>>>,
+    commands: Vec<Command>,
     waiting: &mut Vec<Out>,
-    boxes: &mut Boxes<B>,
     ended: &mut Vec<u64>,
     audiences: &Option<Arc<Audiences>>,
 ) -> Result<(), FlushFault>
     requires whole { broker.old.broken ≡ false }
-    requires count { broker.old.state.count + length batch.items ≤ 2 ^ 62 }
-    ensures done { OnOk result (Executes batch.items broker.old broker.new boxes.old boxes.new waiting.old waiting.new ended.old ended.new) }
+    requires count { broker.old.state.count + length commands.items ≤ 2 ^ 62 }
+    ensures done { OnOk result (Executes commands.items broker.old broker.new waiting.old waiting.new ended.old ended.new) }
     ensures fault { IsMemory result }
 {
-    for entry in batch {
-        execute_telling(alloc, broker, entry, waiting, boxes, ended, audiences)?;
+    for command in commands {
+        execute_telling(alloc, broker, command, waiting, ended, audiences)?;
     }
     Ok(())
 }
 
-// The same for all that is stored; then makes the room that publishing needs.
+// The same for all that is stored, whose boxes are kept; then makes the room that publishing needs.
 fn execute_all<B: Bell>(
     alloc: Global,
     broker: &mut Broker,
@@ -167,18 +180,18 @@ fn execute_all<B: Bell>(
     requires whole { broker.old.broken ≡ false }
     requires count { broker.old.state.count + length done.old.items ≤ 2 ^ 62 }
     requires none { length outlet.old.spare.items ≡ 0 }
-    ensures done { OnOk result (Executes done.old.items broker.old broker.new outlet.old.boxes outlet.new.boxes outlet.old.waiting outlet.new.waiting outlet.old.ended outlet.new.ended) }
+    ensures done { OnOk result (Executes (commands done.old.items) broker.old broker.new outlet.old.waiting outlet.new.waiting outlet.old.ended outlet.new.ended) }
+    ensures boxes { OnOk result (outlet.new.boxes ≡ boxes_after broker.old.state.count outlet.old.boxes done.old.items) }
     ensures same { (done.new.items ≡ []) × (outlet.new.past ≡ outlet.old.past) × (outlet.new.left.items ≡ outlet.old.left.items) }
     ensures room { OnOk result (HasRoom outlet.new.waiting outlet.new.left outlet.new.spare) }
     ensures fault { IsMemory result }
 {
-    let batch = replace(done, Vec::new(alloc));
+    let commands = keep_boxes(alloc, &mut outlet.boxes, broker.count(), done)?;
     execute_each(
         alloc,
         broker,
-        batch,
+        commands,
         &mut outlet.waiting,
-        &mut outlet.boxes,
         &mut outlet.ended,
         &outlet.audiences,
     )?;
@@ -221,7 +234,7 @@ impl<D: Disk, B: Bell, W: Width> Flusher<D, B, W> {
         let waited = self.outlet.waiting.len();
         match execute_all(alloc, &mut self.broker, &mut self.done, &mut self.outlet) {
             Ok(()) => {
-                let outs = self.outlet.waiting.len().saturating_sub(waited);
+                let outs = self.outlet.waiting.len().saturating_sub(waited) as u64;
                 self.counted = count_more(self.counted, steps, bytes, outs);
                 self.executed = self.stored;
                 Ok(())

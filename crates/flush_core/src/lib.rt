@@ -12,6 +12,7 @@ mod flusher;
 mod gathering;
 mod marking;
 mod outlet;
+mod portions;
 mod publishing;
 mod sizing;
 mod stopping;

@@ -69,9 +69,6 @@ impl<B: Bell> Outlet<B> {
 
     // Lets go of the boxes of sessions whose last outputs are given, and gives what waits to the boxes of its sessions. What goes to no box
     // may be handed out, after what could be handed out already.
-    //
-    // All that waits is under the mark that the seat has published. A box rings when it is given something, and a taker that then looks
-    // finds that its outputs may leave.
     pub(crate) fn give(&mut self, seat: &FlushSeat<OutSender<B>>)
         requires under { AreUnder seat.now.published self.old.waiting.items }
         requires room { HasRoom self.old.waiting self.old.left self.old.spare }
@@ -80,21 +77,37 @@ impl<B: Bell> Outlet<B> {
         ensures left { self.new.left.items ≡ self.old.left.items ++ unboxed (without self.old.boxes self.old.past.items) self.old.waiting.items }
         ensures none { (self.new.waiting.items ≡ []) × (self.new.spare.items ≡ []) }
     {
-        let_past_go(&mut self.boxes, &mut self.past, &mut self.ended);
+        self.let_past_go();
+        swap(&mut self.past, &mut self.ended);
+        self.give_portion(seat);
+    }
+
+    // Lets go of the boxes of sessions whose last outputs are given.
+    pub(crate) fn let_past_go(&mut self)
+        ensures boxes { self.new.boxes ≡ without self.old.boxes self.old.past.items }
+        ensures past { self.new.past.items ≡ [] }
+        ensures ended { self.new.ended ≡ self.old.ended }
+        ensures outs { (self.new.waiting ≡ self.old.waiting) × (self.new.left ≡ self.old.left) × (self.new.spare ≡ self.old.spare) }
+    {
+        self.boxes.let_go(&self.past);
+        self.past.clear();
+    }
+
+    // Gives what waits to the boxes of its sessions, as they stand.
+    //
+    // All that waits is under the mark that the seat has published. A box rings when it is given something, and a taker that then looks
+    // finds that its outputs may leave.
+    pub(crate) fn give_portion(&mut self, seat: &FlushSeat<OutSender<B>>)
+        requires under { AreUnder seat.now.published self.old.waiting.items }
+        requires room { HasRoom self.old.waiting self.old.left self.old.spare }
+        ensures given { AreGiven self.old.waiting.items self.old.boxes self.new.boxes }
+        ensures ended { (self.new.ended ≡ self.old.ended) × (self.new.past ≡ self.old.past) }
+        ensures left { self.new.left.items ≡ self.old.left.items ++ unboxed self.old.boxes self.old.waiting.items }
+        ensures none { (self.new.waiting.items ≡ []) × (self.new.spare.items ≡ []) }
+    {
         give_waiting(&mut self.boxes, &mut self.waiting, &mut self.spare);
         leave(&mut self.left, &mut self.spare);
     }
-}
-
-// Lets go of the boxes of sessions whose last outputs are given, and notes the sessions whose last outputs are given next.
-fn let_past_go<B: Bell>(boxes: &mut Boxes<B>, past: &mut Vec<u64>, ended: &mut Vec<u64>)
-    ensures boxes { boxes.new ≡ without boxes.old past.old.items }
-    ensures past { past.new.items ≡ ended.old.items }
-    ensures ended { ended.new.items ≡ [] }
-{
-    boxes.let_go(past);
-    past.clear();
-    swap(past, ended);
 }
 
 // Gives what waits to the boxes of its sessions. What goes to no box goes into the room that was made for it.

@@ -40,7 +40,7 @@ impl<D: Disk, B: Bell, W: Width> Flusher<D, B, W> {
         }
         let count = self.take_batch(ring)?;
         self.store_gathered(alloc, ring)?;
-        self.execute_stored(alloc, ring)?;
+        self.execute_in_portions(alloc, ring)?;
         self.publish(ring);
         Ok(count)
     }

@@ -79,7 +79,7 @@ returns-in-Ok-clause-executed g c =
     let entries = executed_entries it.seat it.stored it.executed _ it.batch.items it.done.items _ _ _ _ (omega (arith, kept.begun, kept.marked)) kept.executed kept.stored held in
     executing_is g.D.Disk.honest g.D.Disk.images f (now.done.items ++ it.batch.items) now.broker now.outlet.boxes now.outlet.ended.items now.outlet.past.items now.outlet.waiting.items now.outlet.left.items whole kept
     (ap (λ (l : List (EntryValue SenderValue)). l ++ it.batch.items) did.same.0 ∙ sym entries.1)
-    (did.done.boxes_are ∙ (λ i. boxes_after (broker_count g.D.Disk.honest g.D.Disk.images f whole kept i) it.outlet.boxes ((sym entries.0) i)))
+    (did.boxes ∙ (λ i. boxes_after (broker_count g.D.Disk.honest g.D.Disk.images f whole kept i) it.outlet.boxes ((sym entries.0) i)))
     (did.done.ended_are ∙ ap (λ (l : List CommandValue). it.outlet.ended.items ++ ended_of it.broker.state l) held.done_is)
     (λ i. (c.execute_all.ensures.same.1 i).items)
     (did.done.broker ∙ ap (λ (l : List CommandValue). record { state = state_after it.broker.state l; broken = false }) held.done_is)
