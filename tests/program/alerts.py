@@ -1,0 +1,105 @@
+#!/usr/bin/env python3
+"""Looks whether the pattern that docs/RUNNING.md gives operators finds each line of the log that needs them, and no other. Needs Python 3 alone.
+
+    python3 tests/program/alerts.py
+
+Which lines need somebody is said here, by what docs/RUNNING.md and docs/PROTOCOL.md say of each. The program's sources are read for one thing only: a text
+that this table doesn't have fails, so that a new one is classed. No program is run.
+"""
+
+import pathlib
+import re
+import sys
+
+TOP = pathlib.Path(__file__).resolve().parent.parent.parent
+MOMENT = "2026-11-30T12:00:00Z "
+
+# Faults are the last line, and have no moment.
+FAULTS = (
+    "J1 not a journal", "J2 damaged at 4136", "J3 device failed", "J4 journal full", "J5 count too large", "J6 store broken", "J7 unknown version",
+    "J8 disk too small",
+    *(f"J3 device failed: {cause}" for cause in ("the file was removed", "the file was replaced", "the file was cut", "the file was overwritten", "no space left",
+                                                 "input/output error", "the system refused a call")),
+    "no memory", "cannot start a thread", "input or output failed", "cannot open: /dev/null: it is no file", "cannot open: PORT: another program listens there",
+    "cannot open: FILE: there is no such file; --new BYTES makes one",
+    "opening the journal again in 4 s, which makes room",
+    "what the journal holds does not fit into half of it; docs/RUNNING.md says what helps",
+)
+
+URGENT = (
+    "compacted slowly: 1000 bytes won in 250 ms",
+    "journal nearly full: 900 of 1000 bytes are used after a compaction (J4 is near)",
+    "nearly full: 3700 of 4096 messages held, 1 of 16777216 bytes, 3700 of them in queue /queue/x (E12 is near)",
+    "refused 3 clients over the most that are taken (503)",
+    "gave up 3 clients that took nothing for 60 s", "gave up 3 clients that took the most memory", "gave up 3 clients whose names have no room beside the others'",
+    "gave up 3 clients whose outbox was full", "failed to accept 3 clients: out of descriptors or memory", "sent 3 ERRORs (E12)", "sent 3 ERRORs (E18)",
+)
+
+CALM = (
+    "started: journal of version 2, areas of 1000 bytes, 4 messages held, 9500 clients allowed, 1073741824 bytes of memory for them",
+    "journal small: areas of 1000 bytes, 2000 are wanted (J4 is possible)",
+    "compacted: 1000 bytes won in 3 ms",
+    "doing: 3 connections, 500 bytes of memory for them, 12 commands, 12 frames out, 0 ERRORs, 4 messages held, 10 bytes held, 0 dead letters, "
+    "10 bytes used, 12 commands to repeat",
+    "refused 3 malformed requests (400)", "refused 3 requests without subprotocol v12.stomp (400)", "refused 3 pages of other origins (403)",
+    "refused 3 requests by another method than GET (405)", "refused 3 requests for no WebSocket (426)", "refused 3 requests for another version of WebSocket (426)",
+    "refused 3 requests with too large a head (431)", "gave up 3 clients that answered no ping or close", "gave up 3 clients that opened no session in time",
+    "left out 3 lines that nobody read in time", "sent 3 ERRORs (E5)", "sent 3 ERRORs (E1)", "sent 3 ERRORs (E8)", "ending: asked to",
+)
+
+# They come before a server serves, and say how far its start is.
+STARTING = ("opening the journal, 3 s so far", "made the journal /var/lib/stompd/rooms.journal")
+
+# Where the program has these texts: by the names of the files below crates/.
+SOURCES = ("event_log/src/event.rt", "event_log/src/fault.rt", "event_log/src/kind.rt", "event_log/src/device.rt", "area_core/src/faults.rt",
+           "recover_core/src/faults.rt", "flush_core/src/faults.rt", "stompd/src/reporting.rt", "stompd/src/serving.rt")
+
+
+def pattern():
+    text = (TOP / "docs" / "RUNNING.md").read_text(encoding="utf-8")
+    found = re.findall(r"`journalctl -u stompd -g '([^']+)'`", text)
+    if len(found) != 1:
+        sys.exit(f"alerts: docs/RUNNING.md gives {len(found)} patterns")
+    return re.compile(found[0])
+
+
+def lines():
+    """Each line with whether it needs somebody."""
+    for text in FAULTS:
+        yield f"stompd: {text}", True
+    for text in URGENT:
+        yield f"stompd: {MOMENT}{text}", True
+    for text in CALM:
+        yield f"stompd: {MOMENT}{text}", False
+    for text in STARTING:
+        yield f"stompd: {text}", False
+
+
+def texts_of_the_program():
+    """The literals of the program's texts, as expressions of what they print; those that only join others have no word of their own."""
+    for name in SOURCES:
+        source = (TOP / "crates" / name).read_text(encoding="utf-8")
+        source = re.sub(r"(?m)^\s*//.*$|ghost [^;]*;", "", source)
+        for literal in re.findall(r'"((?:[^"\\]|\\.)*)"', source):
+            said = literal.removeprefix("stompd: ").strip()
+            if re.search(r"[a-z]{2}", re.sub(r"\{[^}]*\}", "", said)):
+                yield name, literal, re.compile(".*?".join(re.escape(part) for part in re.split(r"\{[^}]*\}", said)))
+
+
+def main():
+    wanted, faults = pattern(), []
+    all_lines = list(lines())
+    for line, needs in all_lines:
+        if bool(wanted.search(line)) != needs:
+            faults.append(f"{'missed' if needs else 'found in vain'}: {line}")
+    for name, literal, said in texts_of_the_program():
+        if not any(said.search(line) for line, _ in all_lines):
+            faults.append(f"no class for a text of crates/{name}: {literal}")
+    for fault in faults:
+        print(f"alerts: {fault}")
+    print(f"alerts: {len(all_lines)} lines, {len(faults)} faults")
+    return 1 if faults else 0
+
+
+if __name__ == "__main__":
+    sys.exit(main())
