@@ -26,8 +26,38 @@ The words ask for nothing that it does, or for help.
 .TP
 3
 The server has all the clients that it takes.
+.SH FILES
+.TP
+.I FILE
+a journal, of mode 0600; it holds all that was acknowledged.
+.TP
+.IR FILE .new
+a journal that is being made. One that a killed command left is made anew by the next one.
+.TP
+.I /var/lib/stompd/rooms.journal
+the journal of the package's service.
+.SH EXAMPLES
+A server with a journal of 512 MiB, made if there is none, until its input ends:
+.PP
+.nf
+stompd serve rooms.journal 8080 \\-\\-new 536870944 \\-\\-until\\-eof
+.fi
+.PP
+A message, whose sender knows that it is stored once this ends with 0, and one who listens:
+.PP
+.nf
+stompd send 8080 /queue/jobs 'resize 17.png'
+stompd listen 8080 /queue/jobs \\-\\-settle \\-\\-count 1
+.fi
+.PP
+A backup during service, and what it holds:
+.PP
+.nf
+stompd copy rooms.journal backup.journal 536870944
+stompd held backup.journal
+.fi
 .SH SEE ALSO
-README.md and docs/RUNNING.md, in the archive or in /usr/share/doc/stompd
+README.md, docs/CLI.md and docs/RUNNING.md, in the archive or in /usr/share/doc/stompd
 """
 
 

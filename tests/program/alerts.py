@@ -3,7 +3,7 @@
 
     python3 tests/program/alerts.py
 
-Which lines need somebody is said here, by what docs/RUNNING.md and docs/PROTOCOL.md say of each. The program's sources are read for one thing only: a text
+Which lines need somebody is said here, by what docs/RUNNING.md and docs/CLI.md say of each. The program's sources are read for one thing only: a text
 that this table doesn't have fails, so that a new one is classed. No program is run.
 """
 

@@ -1,6 +1,6 @@
 #!/usr/bin/env python3
 """Tries the program's own client: `send`, `listen` and `forget` against a server, and against peers that answer wrong, late or not at all. Compares statuses,
-what is printed and told, and which frames are said, with docs/PROTOCOL.md ("The client") and STOMP 1.2. Needs Python 3 alone; the gate does not run it.
+what is printed and told, and which frames are said, with docs/CLI.md ("The client") and STOMP 1.2. Needs Python 3 alone; the gate does not run it.
 
     python3 tests/program/client.py [PROGRAM]
 
@@ -21,7 +21,7 @@ from lib.stomp_client import Client
 
 UNKNOWN = "; the server may have taken it, or not"
 NOBODY = "no connection: nobody listens there"
-# What each command is called with, and its options (docs/PROTOCOL.md).
+# What each command is called with, and its options (docs/CLI.md).
 COMMANDS = {
     "format": ("<FILE> <BYTES>", ["--sparse"]),
     "show": ("<FILE>", []),

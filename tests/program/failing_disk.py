@@ -1,6 +1,6 @@
 #!/usr/bin/env python3
 """Has single calls of the system fail under the built program, and compares what it tells and leaves then with what
-docs/PROTOCOL.md and docs/JOURNAL.md say. No contract can know what the system answers of a real file. Needs strace and
+docs/CLI.md and docs/JOURNAL.md say. No contract can know what the system answers of a real file. Needs strace and
 Python 3 alone; the gate does not run it.
 
     python3 tests/program/failing_disk.py [PROGRAM]

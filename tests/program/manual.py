@@ -48,6 +48,15 @@ def try_command(program, name, parts, checks):
     checks.same("and no other option", set(OPTION.findall(part)), set(OPTION.findall("\n".join(lines))))
 
 
+def try_examples(program, commands, part, checks):
+    """Each example calls a command of the program, with options that this command has."""
+    calls = re.findall(r"stompd ([a-z]+)((?: (?!stompd|A )\S+)*)", part)
+    checks.check("the page has examples", len(calls) > 3, part)
+    checks.same("each calls a command", [name for name, _ in calls if name not in commands], [])
+    for name, words in calls:
+        checks.same(f"{name} has the options of its example", [it for it in OPTION.findall(words) if it not in OPTION.findall(help_of(program, name))], [])
+
+
 def main():
     words = scenario.words_of(__doc__, scenario.BUILT).parse_args()
     if shutil.which("groff") is None:
@@ -66,6 +75,7 @@ def main():
     for name in commands:
         try_command(program, name, parts, checks)
     checks.same("the page has no other command", sum(bool(re.match("stompd [a-z]", it)) for it in parts), len(commands))
+    try_examples(program, commands, parts.get("EXAMPLES", ""), checks)
     return checks.status()
 
 

@@ -1,6 +1,6 @@
 #!/usr/bin/env python3
 """Pings servers that answer, and others that do not or do it wrong, and compares the status and the one line that is told with what
-docs/PROTOCOL.md says ("Pings"). The others are servers that are stopped, full or at their end, and sockets that speak HTTP, half of a WebSocket, or another STOMP.
+docs/CLI.md says ("Pings"). The others are servers that are stopped, full or at their end, and sockets that speak HTTP, half of a WebSocket, or another STOMP.
 Needs Python 3 alone; the gate does not run it.
 
     python3 tests/program/ping.py [PROGRAM]
@@ -214,7 +214,7 @@ def peers(program, checks):
 
 
 def what_is_said(program, checks):
-    """What a ping asks for and says (docs/PROTOCOL.md, STOMP 1.2)."""
+    """What a ping asks for and says (docs/CLI.md, STOMP 1.2)."""
     head = []
 
     def act(peer):

@@ -1,6 +1,6 @@
 #!/usr/bin/env python3
 """Runs the built program on good and bad words, files and ports, and compares its status and what it writes to standard
-output and standard error with what docs/PROTOCOL.md says. Needs Python 3 alone; the gate does not run it.
+output and standard error with what docs/CLI.md says. Needs Python 3 alone; the gate does not run it.
 
     python3 tests/program/statuses.py [PROGRAM]
 

@@ -1,6 +1,6 @@
 #!/bin/sh
 # Traces the system calls of `stompd format` over a new file, here and in another folder, and compares them with what
-# docs/JOURNAL.md and docs/PROTOCOL.md say: FILE.new is made new, locked and sized, and its zeros are written, unless it is to be
+# docs/JOURNAL.md and docs/CLI.md say: FILE.new is made new, locked and sized, and its zeros are written, unless it is to be
 # sparse. Then the header behind the name, the front of the first area and the name are written, each synced. It is linked to FILE,
 # the other name is removed, and the folder is synced. The first sync writes the header back, as each first one of an opened file.
 # A sync of a disk is `fdatasync`. No contract can know this. Needs strace; the gate does not run it.
