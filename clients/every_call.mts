@@ -59,9 +59,11 @@ const paper: Subscription = client.subscribe("/topic/news", () => {}, { durable:
 await paper.ready;
 await paper.giveUp();
 const told: boolean = client.tell("/topic/room", "told", headers), open: State = client.state, session: string | null = client.session;
-const kind: Kind = await client.send("nowhere").then(() => "unsent" as const, error => error instanceof StompdError ? error.kind : "unknown");
+const error: unknown = await client.send("nowhere").catch(it => it);
+if (!(error instanceof StompdError)) throw error;
+const kind: Kind = error.kind, code: string | undefined = error.code;
 await client.close();
-console.log([told, open, session !== null, kind, client.state, states[0], new StompdError("refused", "mine").message, typeof Stompd.connect].join(" "));
+console.log([told, open, session !== null, kind, code, client.state, states[0], new StompdError("refused", "mine").message, typeof Stompd.connect].join(" "));
 
 /* What the types refuse. Nobody calls it. */
 export function refused(): void {

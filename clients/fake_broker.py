@@ -128,6 +128,8 @@ class Relay:
     def __init__(self, port):
         self.target, self.listener, self.pairs = port, socket.create_server(("127.0.0.1", 0)), []
         self.port = self.listener.getsockname()[1]
+        # How many bytes clients have sent.
+        self.asked = 0
         threading.Thread(target=self.accept_all, daemon=True).start()
 
     def accept_all(self):
@@ -138,13 +140,14 @@ class Relay:
                 return
             pair = (client, socket.create_connection(("127.0.0.1", self.target)), threading.Event())
             self.pairs.append(pair)
-            for source, sink in ((pair[0], pair[1]), (pair[1], pair[0])):
-                threading.Thread(target=self.carry, args=(source, sink, pair[2]), daemon=True).start()
+            for source, sink, is_client in ((pair[0], pair[1], True), (pair[1], pair[0], False)):
+                threading.Thread(target=self.carry, args=(source, sink, pair[2], is_client), daemon=True).start()
 
-    @staticmethod
-    def carry(source, sink, is_cut):
+    def carry(self, source, sink, is_cut, is_client):
         try:
             while data := source.recv(65_536):
+                if is_client:
+                    self.asked += len(data)
                 if not is_cut.is_set():
                     sink.sendall(data)
             if not is_cut.is_set():

@@ -23,6 +23,7 @@ import time
 import traceback
 
 import module_faults
+import module_limits
 from chromium import BROWSERS, Browser
 from fake_broker import Relay
 from lib import scenario
@@ -130,8 +131,8 @@ def what_promises_say(engine, broker, checks):
     text = "ö\\0\\n\\nx: \\\\"
     checks.same("a SEND resolves", run(f"return outcome(one.send('/topic/room', '{text}', {{ 'said:by': 'a\\\\b\\nc' }}))"), "resolved")
     checks.check("and is heard, body and headers", run(f"return await soon(() => heard.length == 1) && heard[0].body == '{text}' && heard[0].headers['said:by'] == 'a\\\\b\\nc'"))
-    checks.same("one that the broker refuses is rejected as refused", run("return outcome(one.send('nowhere', 'x'))"), "refused")
-    checks.check("the client comes back by itself, and its subscription too", run("await one.send('/topic/room', 'again'); return await soon(() => heard.length == 2)"))
+    checks.same("one that the broker would refuse is rejected as refused", run("return outcome(one.send('nowhere', 'x'))"), "refused")
+    checks.check("the next one is heard", run("await one.send('/topic/room', 'again'); return await soon(() => heard.length == 2)"))
     order = "const ends = [1, 2, 3].map(it => outcome(one.send('/topic/room', it))); ends.push(outcome(one.send('/topic/room', 'x', { long: 'x'.repeat(9000) }))); return Promise.all(ends)"
     checks.same("one with too long a header too, and those before it resolve", run(order), ["resolved", "resolved", "resolved", "refused"])
     checks.same("a subscription that is refused is told so", run("return outcome(one.subscribe('/topic/room', () => {}, { durable: 'd' }).ready)"), "refused")
@@ -146,17 +147,20 @@ def what_promises_say(engine, broker, checks):
 def around_refusals(engine, broker, checks):
     """what is asked after something that is refused is carried out once, in order"""
     run = engine.value
-    run("globalThis.ear = open(); globalThis.words = []; await ear.subscribe('/topic/order', it => words.push(it.body)).ready")
-    run("globalThis.many = open({ longestPause: 500 }); await many.send('/topic/order', 'begin'); globalThis.asked = []; globalThis.number = 0")
-    run("globalThis.send = count => { for (; count > 0; count--) asked.push(outcome(many.send('/topic/order', ++number))); }")
-    run("send(30); globalThis.bad = many.subscribe('/topic/order', () => {}, { durable: 'd' }); send(30); globalThis.worse = many.send('nowhere', 'x'); send(30)")
-    run("globalThis.ended = many.subscribe('/topic/other', () => {}); ended.end(); send(30); globalThis.job = many.transaction(tx => { tx.send('/topic/order', 'never'); tx.send('nowhere', 'x'); }); send(30)")
-    run("await outcome(job); await soon(() => many.session); many.tell('nowhere', 'x'); send(30)")
+    module_limits.fill(engine, "/queue/full")
+    run("globalThis.ear = open({ clientId: 'order' }); globalThis.words = []; await ear.subscribe('/topic/order', it => words.push(it.body), { durable: 'd' }).ready")
+    run("globalThis.many = open({ clientId: 'order', longestPause: 500 }); await many.send('/topic/order', 'begin'); globalThis.asked = []; globalThis.number = 0")
+    run("globalThis.send = count => { for (; count > 0; count--) asked.push(outcome(many.send('/topic/order', ++number))); }; globalThis.large = ['/queue/full', 'x'.repeat(65536)]")
+    # The name is in use, and there is no room for what is large.
+    run("send(30); globalThis.bad = many.subscribe('/topic/order', () => {}, { durable: 'd' }); send(30); globalThis.worse = many.send(...large); send(30)")
+    run("globalThis.ended = many.subscribe('/topic/other', () => {}); ended.end(); send(30); globalThis.job = many.transaction(tx => { tx.send('/topic/order', 'never'); tx.send(...large); }); send(30)")
+    run("await outcome(job); await soon(() => many.session); many.tell(...large); send(30)")
     checks.same("each SEND resolves", run("return [...new Set(await Promise.all(asked))]"), ["resolved"])
     checks.same("what was refused is told so", run("return [await outcome(bad.ready), await outcome(worse), await outcome(job)]"), ["refused"] * 3)
     checks.same("and each is heard, once", run("await soon(() => words.length > 180); return words"), ["begin", *map(str, range(1, 181))])
-    checks.same("by code", run("return many.errors.map(([error, it]) => [error.message.split(' ')[0], it === bad])"), [["E13", True], ["E8", False]])
-    run("many.close(); ear.close()")
+    checks.same("by code", run("return many.errors.map(([error, it]) => [error.code, it === bad])"), [["E14", True], ["E12", False]])
+    run("await many.close(); await ear.close()")
+    module_limits.drain(engine, "/queue/full")
 
 
 def silences(engine, broker, checks):
@@ -297,7 +301,7 @@ def kills_under_load(engine, broker, kills, checks):
     checks.check("and each that has resolved", {text for text, end in ends["pair"].items() if end == "resolved"} <= whole)
 
 
-TRIALS = [what_promises_say, around_refusals, silences, work_is_done, durable_ones, a_lost_one_is_unknown, kills_under_load]
+TRIALS = [what_promises_say, *module_limits.TRIALS, around_refusals, silences, work_is_done, durable_ones, a_lost_one_is_unknown, kills_under_load]
 
 
 def run_trial(trial, engine, *more):

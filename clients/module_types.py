@@ -18,7 +18,7 @@ from module import HERE, node_words
 
 STRICT = ["--strict", "--noUnusedLocals", "--exactOptionalPropertyTypes", "--noUncheckedIndexedAccess", "--target", "es2022", "--module", "node16", "--moduleResolution", "node16", "--lib", "es2022,dom"]
 # What the last line of every_call.mts prints.
-LAST = "true open true refused closed connecting mine function"
+LAST = "true open true refused E8 closed connecting mine function"
 
 
 def run(*words):

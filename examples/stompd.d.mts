@@ -1,15 +1,19 @@
 /** The types of stompd.mjs: a client of STOMP 1.2 over WebSocket for stompd, which reconnects by itself. */
 
-/** `refused`: the broker answered with an ERROR, so it is not in the journal. `unknown`: the connection was lost before the receipt, so it may be in
- *  the journal or not. `unsent`: it was never sent or not carried out, so it is not there. */
+/** `refused`: the broker answered with an ERROR, or would have, so it is not in the journal. What passes a limit of the broker, or has a bad
+ *  destination, is refused at once and not sent. `unknown`: the connection was lost before the receipt, so it may be in the journal or not. `unsent`: it
+ *  was never sent or not carried out, so it is not there. */
 export type Kind = "refused" | "unknown" | "unsent";
 
 export class StompdError extends Error {
-  constructor(kind: Kind, message: string);
+  constructor(kind: Kind, message: string, code?: string);
   readonly kind: Kind;
+  /** That of a refusal, as `E12` (docs/PROTOCOL.md, "Codes"). */
+  readonly code: string | undefined;
 }
 
-/** `lost` and `refused` are followed by `connecting`, after a pause; `closed` is the end. */
+/** `lost` and `refused` are followed by `connecting`, after a pause; `closed` is the end. `refused`: the broker's ERROR has ended the session. The first
+ *  has no pause after it, unless its cause remains. */
 export type State = "connecting" | "open" | "lost" | "refused" | "closed";
 
 export interface StateDetail {
@@ -25,7 +29,8 @@ export interface StateDetail {
 export interface ConnectOptions {
   /** Names the client's durable subscriptions; one client at a time has it. It has no line end and no NUL. */
   clientId?: string;
-  /** The first pause (500). It doubles with each loss, and returns to this after a session as long as the longest pause. */
+  /** The first pause (500). It doubles with each loss, and with each refusal just after another. It returns to this after a session as long as the
+   *  longest pause. */
   shortestPause?: number;
   /** The longest pause (8,000). Each is up to a quarter shorter or longer. */
   longestPause?: number;
@@ -46,10 +51,11 @@ export interface ConnectOptions {
   WebSocket?: new (url: string, protocol: string) => any;
 }
 
-/** The module omits those with null or undefined, and sets `content-length`, `receipt` and `transaction` itself. */
+/** The module omits those with null or undefined, and sets `content-length`, `receipt` and `transaction` itself. With these and the destination a frame
+ *  has at most 64, and with the command 8,192 bytes of them, escapes included. */
 export type Headers = Record<string, string | number | boolean | null | undefined>;
 
-/** Bytes are sent as such. Numbers are written as text; null and undefined are an empty body. */
+/** At most 65,536 bytes. Bytes are sent as such. Numbers are written as text; null and undefined are an empty body. */
 export type Body = string | number | boolean | bigint | ArrayBuffer | ArrayBufferView | null | undefined;
 
 export interface Message {
@@ -85,6 +91,7 @@ export interface Subscription {
   giveUp(): Promise<void>;
 }
 
+/** At most 64 members of 262,144 bytes together. Each call throws if the broker would refuse the member; uncaught, that rejects the transaction. */
 export interface Transaction {
   send(destination: string, body?: Body, headers?: Headers): void;
   ack(message: Message): void;
@@ -99,10 +106,10 @@ export interface Client {
   /** Resolves at the receipt: the message is in the journal. Without a connection it waits for one. It is never carried out twice: it is sent again
    *  only if the broker refused something before it, and so dropped it. */
   send(destination: string, body?: Body, headers?: Headers): Promise<void>;
-  /** Sends without a receipt, for messages that are worthless later. Without a connection, or if 1 MiB waits to be sent, it does nothing. Returns
-   *  whether it sent. */
+  /** Sends without a receipt, for messages that are worthless later. Without a connection, if 1 MiB waits to be sent, or if the broker would refuse it,
+   *  it does nothing. Returns whether it sent. */
   tell(destination: string, body?: Body, headers?: Headers): boolean;
-  /** Throws if a subscription has this id. */
+  /** Throws if a subscription has this id. There are at most 16. */
   subscribe(destination: string, heard: (message: Message) => unknown, options?: SubscribeOptions): Subscription;
   /** Carries out all that `work` puts into the transaction, or nothing. Resolves at the receipt of its COMMIT. */
   transaction(work: (tx: Transaction) => unknown): Promise<void>;

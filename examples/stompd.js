@@ -8,23 +8,26 @@ const NOTHING = () => {};
 const TIMES = { shortestPause: 500, longestPause: 8_000, answerTimeout: 15_000, waitTimeout: 60_000, closeTimeout: 5_000 };
 const DEFAULTS = { ...TIMES, mostWaiting: 10_000, onstate: NOTHING, onerror: error => console.error(error) };
 const NO_WEBSOCKET = "there is no WebSocket: use Node 22, start Node 20 with --experimental-websocket, or give connect that of the package ws";
+const NAMELESS = "E13 durable subscription without a clientId";
 /* Bytes that may wait in a socket before what is only told is left out. */
 const MOST_BUFFERED = 1 << 20;
 /* Headers that only the module sets. */
 const OWN_HEADERS = ["content-length", "receipt", "transaction"];
+/* The broker's limits (docs/PROTOCOL.md, "Limits"). It answers what passes one with an ERROR, which ends the session, so that is not sent. */
+const MOST_HEADERS = 64, MOST_HEAD = 8_192, MOST_BODY = 65_536, MOST_SUBSCRIPTIONS = 16, MOST_MEMBERS = 64, MOST_OPERATIONS = 262_144;
+const DESTINATION = /^\/(topic|queue)\/[A-Za-z0-9._\/-]{1,200}$/, MODES = ["auto", "client", "client-individual"];
+/* Headers that a message does not keep, so they count for no operation. */
+const UNKEPT = [...OWN_HEADERS, "destination", "subscription", "message-id", "ack"];
 
-/* Why a promise was rejected, by its kind. */
+/* Why a promise was rejected, by its kind. A refusal has the broker's code. */
 class StompdError extends Error {
-  constructor(kind, message) { Object.assign(super(message), { name: "StompdError", kind }); }
+  constructor(kind, message, code) { Object.assign(super(message), { name: "StompdError", kind, code }); }
 }
 const unsent = message => new StompdError("unsent", message);
+const refused = message => new StompdError("refused", message, /^E\d+/.exec(message)?.[0]);
 
 /* A promise that nobody has to await: its rejection reaches those who do, and ends no program. */
-function leavable(promise) {
-  promise.catch(NOTHING);
-  return promise;
-}
-
+const leavable = promise => { promise.catch(NOTHING); return promise; };
 /* A timer. One of more than 24 days, such as `Infinity`, never fires. */
 const after = (milliseconds, act) => milliseconds < 2 ** 31 ? setTimeout(act, milliseconds) : undefined;
 
@@ -32,6 +35,9 @@ const ESCAPES = { "\\": "\\\\", "\r": "\\r", "\n": "\\n", ":": "\\c" }, MEANINGS
 const escaped = text => String(text).replace(/[\\\r\n:]/g, letter => ESCAPES[letter]);
 const unescaped = text => text.replace(/\\(.)/g, (_, letter) => MEANINGS[letter]);
 const encoder = new TextEncoder(), decoder = new TextDecoder("utf-8", { fatal: true, ignoreBOM: true });
+const sizeOf = it => typeof it == "string" ? encoder.encode(it).length : it.length;
+/* Receipts and names of transactions, all as long as each other: a frame that is at a limit stays there. */
+const numbered = number => String(number).padStart(12, "0"), NUMBER = numbered(0);
 
 /* A body is text or bytes. Bytes are copied, since the frame may have to wait. */
 function bodyOf(body) {
@@ -45,16 +51,45 @@ function bodyOf(body) {
 /* Headers of the caller, of which those without a value are left out. */
 const given = headers => Object.fromEntries(Object.entries(headers).filter(([name, value]) => value != null && !OWN_HEADERS.includes(name)));
 
-const sendFrame = (destination, body, headers) => ["SEND", { ...given(headers), destination }, bodyOf(body)];
+/* A SEND, if the broker can take it. `added` are as long as the headers that it gets once it is sent. */
+function sendFrame(destination, body, headers, added) {
+  const content = bodyOf(body), size = sizeOf(content), counted = size ? { "content-length": size } : {};
+  if (size > MOST_BODY) throw refused(`E2 frame too large: a body of ${size} bytes, and ${MOST_BODY} are the most`);
+  const frame = ["SEND", { ...given(headers), destination: String(destination), ...counted }, content];
+  check(frame, added);
+  return frame;
+}
 
-/* A frame as it stands on the wire: text if its body is one, else bytes. CONNECT has no escapes. */
-function written([command, headers, body = ""]) {
-  const spell = command == "CONNECT" ? String : escaped, isText = typeof body == "string";
-  const lines = Object.entries(headers).map(([name, value]) => `${spell(name)}:${spell(value)}\n`);
-  if (body.length) lines.push(`content-length:${isText ? encoder.encode(body).length : body.length}\n`);
-  const head = `${command}\n${lines.join("")}\n`;
+/* Throws if the broker would refuse such a head. */
+function check([command, headers], added) {
+  const all = { ...headers, ...added }, count = Object.keys(all).length, size = sizeOf(headOf([command, all]));
+  if ("" in all) throw refused("E1 malformed frame: a header has no name");
+  if (count > MOST_HEADERS) throw refused(`E2 frame too large: ${count} headers, and ${MOST_HEADERS} are the most`);
+  if (size > MOST_HEAD) throw refused(`E2 frame too large: ${size} bytes of command and headers, and ${MOST_HEAD} are the most`);
+  if (command == "CONNECT" || DESTINATION.test(all.destination)) return;
+  throw refused("E8 bad destination: it is /topic/ or /queue/, and 1 to 200 letters, digits, points, dashes, underscores and slashes");
+}
+
+/* How many bytes a SEND takes as a member of a transaction (docs/JOURNAL.md, "The record of a command"). */
+function operationSize([, headers]) {
+  const kept = Object.entries(headers).filter(([name]) => !UNKEPT.includes(name)), own = 11 + headers.destination.length;
+  return kept.reduce((sum, [name, value]) => sum + 8 + sizeOf(name) + sizeOf(String(value)), own + (headers["content-length"] ?? 0));
+}
+
+const connectFrame = ({ clientId }) => ["CONNECT", { "accept-version": "1.2", ...(clientId ? { "client-id": clientId } : {}) }];
+
+/* The head of a frame, with its empty line. CONNECT has no escapes. */
+function headOf([command, headers]) {
+  const spell = command == "CONNECT" ? String : escaped;
+  const head = `${command}\n${Object.entries(headers).map(([name, value]) => `${spell(name)}:${spell(value)}\n`).join("")}\n`;
   if (head.includes("\0")) throw unsent("a header has a NUL, which no frame can carry");
-  if (isText) return `${head}${body}\0`;
+  return head;
+}
+
+/* A frame as it stands on the wire: text if its body is one, else bytes. */
+function written(frame) {
+  const head = headOf(frame), [, , body = ""] = frame;
+  if (typeof body == "string") return `${head}${body}\0`;
   const start = encoder.encode(head), whole = new Uint8Array(start.length + body.length + 1);
   whole.set(start);
   whole.set(body, start.length);
@@ -85,9 +120,7 @@ class Message {
   #client; #link; #subscription;
   constructor(client, link, subscription, headers, body) {
     Object.assign(this, { headers, body });
-    this.#client = client;
-    this.#link = link;
-    this.#subscription = subscription;
+    [this.#client, this.#link, this.#subscription] = [client, link, subscription];
   }
   get bytes() { return typeof this.body == "string" ? encoder.encode(this.body) : this.body; }
   ack() { return this.#client.ask(() => [this.frame("ACK", this.#client)]); }
@@ -121,6 +154,7 @@ class Subscription {
   giveUp() {
     const name = this.headers["activemq.subscriptionName"];
     if (name === undefined) return leavable(Promise.reject(unsent("only a durable subscription has a name to give up")));
+    if (!this.client.isNamed) return leavable(Promise.reject(refused(NAMELESS)));
     const link = this.client.drop(this);
     return this.client.ask(() => [["UNSUBSCRIBE", { id: this.id, "activemq.subscriptionName": name }]], () => link?.forget(this));
   }
@@ -128,13 +162,20 @@ class Subscription {
 
 /* What a transaction is made of. */
 class Transaction {
+  #size = 0;
   constructor(client) { Object.assign(this, { client, makers: [] }); }
   send(destination, body, headers = {}) {
-    const frame = sendFrame(destination, body, headers);
-    this.makers.push(() => frame);
+    const frame = sendFrame(destination, body, headers, { transaction: NUMBER });
+    this.#add(operationSize(frame), () => frame);
   }
-  ack(message) { this.makers.push(() => message.frame("ACK", this.client)); }
-  nack(message) { this.makers.push(() => message.frame("NACK", this.client)); }
+  ack(message) { this.#add(9, () => message.frame("ACK", this.client)); }
+  nack(message) { this.#add(9, () => message.frame("NACK", this.client)); }
+  #add(size, make) {
+    if (this.makers.length >= MOST_MEMBERS) throw refused(`E17 transaction too large: it has ${MOST_MEMBERS} members, which are the most`);
+    this.#size += size;
+    if (this.#size > MOST_OPERATIONS) throw refused(`E17 transaction too large: ${this.#size} bytes, and ${MOST_OPERATIONS} are the most`);
+    this.makers.push(make);
+  }
 }
 
 /* What is told has no answer unless it is refused. */
@@ -144,20 +185,19 @@ const PROBE = { make: () => [["BEGIN", { transaction: "probe" }], ["ABORT", { tr
 
 /* A connection, with what was asked on it and has no answer yet. Answers come in the order of what they answer. */
 class Link {
-  session = null;
-  isOver = false;
+  session = null; isOver = false;
   /* Subscriptions whose end has no receipt yet. */
   ending = [];
   #socket; #timer; #on; #openedAt; #count = 0; #asked = new Map(); #isToldLast = false;
   /* Whether nothing was heard since the last look, and whether an answer was due then. */
   #isQuiet = true; #wasDue = true;
-
   /* `on` is called with what happens: opened, heard, refused, over. */
-  constructor(url, { WebSocket, clientId, answerTimeout }, on) {
+  constructor(url, options, on) {
+    const { WebSocket, answerTimeout } = options;
     this.#on = on;
     const socket = this.#socket = new WebSocket(url, "v12.stomp");
     socket.binaryType = "arraybuffer";
-    socket.onopen = () => this.write([["CONNECT", { "accept-version": "1.2", ...(clientId ? { "client-id": clientId } : {}) }]]);
+    socket.onopen = () => this.write([connectFrame(options)]);
     socket.onmessage = ({ data }) => this.#hear(data);
     // A close may follow or not, as in Node 20, where nobody listens.
     socket.onerror = () => this.end({ code: 1006 });
@@ -181,7 +221,7 @@ class Link {
   }
   /* Sends the frames of a post, whose last one asks for a receipt. */
   post(post) {
-    const frames = post.make(), [command, headers, body] = frames.at(-1), receipt = `receipt ${++this.#count}`;
+    const frames = post.make(), [command, headers, body] = frames.at(-1), receipt = numbered(++this.#count);
     this.write([...frames.slice(0, -1), [command, { ...headers, receipt }, body]]);
     this.#asked.set(receipt, post);
     this.#isToldLast = false;
@@ -231,7 +271,7 @@ class Link {
     const asked = [...this.#asked], place = receipt === undefined ? 0 : asked.findIndex(([key]) => key == receipt);
     const posts = asked.map(([, post]) => post);
     this.#asked = new Map(place < 0 ? asked : asked.slice(0, place));
-    this.#on.refused(posts[place], place < 0 ? [] : posts.slice(place + 1), new StompdError("refused", message));
+    this.#on.refused(posts[place], place < 0 ? [] : posts.slice(place + 1), refused(message));
   }
   /* A connection that was quiet for a whole period is asked, and one that owed an answer all the while is dead. */
   #watch(period) { this.#timer = after(period, () => this.#look(period)); }
@@ -246,50 +286,53 @@ class Link {
 }
 
 class Client {
-  #url; #options; #link; #timer; #pause; #refusal; #count = 0; #isWanted = true;
+  #url; #options; #link; #timer; #pause; #count = 0; #isWanted = true;
+  /* Why the session was refused, whether by what is not asked again, and when that was so last. */
+  #refusal; #isSettled = false; #settledAt = -Infinity;
   #subscriptions = new Map(); #waiting = new Set(); #closing = [];
   /* connecting, open, lost, refused or closed. */
   state = "connecting";
-
   constructor(url, options) {
     this.#url = url;
     this.#options = { ...DEFAULTS, WebSocket: globalThis.WebSocket, ...options };
     this.#pause = this.#options.shortestPause;
     if (typeof this.#options.WebSocket != "function") throw unsent(NO_WEBSOCKET);
     if (/[\r\n\0]/.test(this.#options.clientId)) throw unsent("a clientId has no end of a line and no NUL");
+    check(connectFrame(this.#options), {});
     this.#start();
   }
 
   /* The session that is open, or null. */
   get session() { return this.#link?.session ?? null; }
-
   send(destination, body, headers = {}) {
     return leavable((async () => {
-      const frame = sendFrame(destination, body, headers);
+      const frame = sendFrame(destination, body, headers, { receipt: NUMBER });
       this.#hasRoom();
       await this.ask(() => [frame]);
     })());
   }
-
   tell(destination, body, headers = {}) {
-    const frame = sendFrame(destination, body, headers);
-    return this.session !== null && this.#link.tell(frame);
+    try {
+      const frame = sendFrame(destination, body, headers, {});
+      return this.session !== null && this.#link.tell(frame);
+    } catch (error) {
+      if (error.kind != "refused") throw error;
+      queueMicrotask(() => this.#complain(error));
+      return false;
+    }
   }
-
   subscribe(destination, heard, { ack = "auto", durable, id = `subscription ${++this.#count}`, headers = {} } = {}) {
     if (this.#subscriptions.has(id)) throw unsent(`there is a subscription ${id}`);
     const name = durable === undefined ? {} : { "activemq.subscriptionName": durable };
-    const subscription = new Subscription(this, id, { ...given(headers), destination, ack, ...name }, heard);
+    const subscription = new Subscription(this, id, { ...given(headers), destination: String(destination), ack, ...name }, heard);
     this.#subscriptions.set(id, subscription);
-    if (!this.#isWanted) this.drop(subscription);
-    else if (this.session) this.#open(subscription);
+    if (this.#isWanted) this.#ask(subscription); else this.drop(subscription);
     return subscription;
   }
-
   /* Nothing is sent before `work` is done, so what it throws leaves nothing. */
   transaction(work) {
     return leavable((async () => {
-      const made = new Transaction(this), transaction = `transaction ${++this.#count}`;
+      const made = new Transaction(this), transaction = numbered(++this.#count);
       await work(made);
       this.#hasRoom();
       await this.ask(() => {
@@ -298,7 +341,6 @@ class Client {
       });
     })());
   }
-
   close() {
     if (this.state == "closed") return Promise.resolve();
     const closed = new Promise(resolve => this.#closing.push(resolve));
@@ -309,8 +351,7 @@ class Client {
     if (this.session) {
       link.write([["DISCONNECT", { receipt: "bye" }]]);
       this.#timer = after(closeTimeout, () => link.end({ reason: `no answer to the DISCONNECT within ${closeTimeout} ms` }));
-    } else if (link.isOver) this.#isClosed({ code: 1000 });
-    else link.end({ code: 1000 });
+    } else if (link.isOver) this.#isClosed({ code: 1000 }); else link.end({ code: 1000 });
     return closed;
   }
 
@@ -324,6 +365,7 @@ class Client {
       this.#wait(post);
     }));
   }
+  get isNamed() { return Boolean(this.#options.clientId); }
   isOpen(link) { return link === this.#link && link.session !== null; }
   /* Forgets a subscription, and answers the connection that has it. */
   drop(subscription) {
@@ -338,6 +380,7 @@ class Client {
 
   #start() {
     this.#refusal = null;
+    this.#isSettled = false;
     this.#tell("connecting");
     if (!this.#isWanted) return;               // `onstate` has closed it
     this.#link = new Link(this.#url, this.#options, {
@@ -348,12 +391,8 @@ class Client {
     });
   }
   /* What users give is called so that what they throw, at once or later, breaks nothing. */
-  #call(work, subscription) {
-    try {
-      Promise.resolve(work()).catch(error => this.#complain(error, subscription));
-    } catch (error) {
-      this.#complain(error, subscription);
-    }
+  async #call(work, subscription) {
+    try { await work(); } catch (error) { this.#complain(error, subscription); }
   }
   #complain(error, subscription) {
     try { this.#options.onerror(error, subscription); } catch (another) { console.error(another); }
@@ -374,8 +413,26 @@ class Client {
       post.reject(unsent(`no connection within ${waitTimeout} ms`));
     });
   }
-  #post(post) {
-    try { this.#link.post(post); } catch (error) { post.reject(error); }
+  #post(post) { try { this.#link.post(post); } catch (error) { post.reject(error); } }
+  /* Opens a new subscription, if the broker can take it and there is a session. */
+  #ask(subscription) {
+    const { id, headers } = subscription, name = headers["activemq.subscriptionName"];
+    try {
+      check(["SUBSCRIBE", { ...headers, id }], { receipt: NUMBER });
+      if (!MODES.includes(headers.ack)) throw refused(`E20 bad header value: ack is ${MODES.join(", ")}`);
+      if (this.#subscriptions.size > MOST_SUBSCRIPTIONS) throw refused(`E18 too many subscriptions: ${MOST_SUBSCRIPTIONS} are the most`);
+      if (name && !this.isNamed && headers.destination.startsWith("/topic/")) throw refused(NAMELESS);
+    } catch (error) {
+      this.#reject(subscription, error);
+      // Whoever hears of it knows the subscription by then.
+      return queueMicrotask(() => this.#complain(error, subscription));
+    }
+    if (this.session) this.#open(subscription);
+  }
+  #reject(subscription, error) {
+    this.#subscriptions.delete(subscription.id);
+    subscription.isEnded = true;
+    subscription.reject(error);
   }
   #open(subscription) {
     const { id, headers } = subscription;
@@ -389,7 +446,7 @@ class Client {
   #isDenied(subscription, error) {
     if (subscription.isEnded) return;
     if (subscription.isReady && error.message.startsWith("E14 ")) subscription.isContested = true;
-    else { subscription.reject(error); this.drop(subscription); }
+    else this.#reject(subscription, error);
     this.#complain(error, subscription);
   }
   #begin() {
@@ -411,17 +468,27 @@ class Client {
     this.#refusal = error.message;
     later.filter(it => it.waits).forEach(it => this.#wait(it));
     if (post && !post.isTold) post.reject(error); else this.#complain(error);
+    this.#isSettled = post !== undefined && ![...this.#subscriptions.values()].some(it => it.isContested);
   }
   #isOver(posts, detail) {
     for (const it of posts) it.reject(new StompdError("unknown", `the connection was lost (${detail.code ?? detail.reason}) before the receipt`));
     if (!this.#isWanted) return this.#isClosed(detail);
-    const { shortestPause, longestPause } = this.#options;
+    const pause = this.#nextPause();
+    this.#timer = setTimeout(() => this.#start(), pause);
+    this.#tell(this.#refusal ? "refused" : "lost", { pause, reason: this.#refusal, ...detail });
+  }
+  #nextPause() {
+    const { shortestPause, longestPause } = this.#options, now = performance.now(), since = now - this.#settledAt;
     if (this.#link.lasted() >= longestPause) this.#pause = shortestPause;
+    if (this.#isSettled) {
+      this.#settledAt = now;
+      // What was refused is out of the way, so this goes on at once, unless that was so just before.
+      if (since > 2 * this.#pause) return 0;
+    }
     // Many clients that were lost together come back one after another.
     const pause = this.#pause * (0.75 + Math.random() / 2);
     this.#pause = Math.min(2 * this.#pause, longestPause);
-    this.#timer = setTimeout(() => this.#start(), pause);
-    this.#tell(this.#refusal ? "refused" : "lost", { pause, reason: this.#refusal, ...detail });
+    return pause;
   }
   #isClosed(detail) {
     clearTimeout(this.#timer);
