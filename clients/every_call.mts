@@ -1,7 +1,7 @@
 /* What clients/module_types.py has tsc check against examples/stompd.d.mts, and Node run over a broker: each call and member that the types name, and
    uses that they must refuse. node [--experimental-websocket] every_call.mjs URL [PATH OF THE PACKAGE ws] */
 import { connect, StompdError } from "../examples/stompd.mjs";
-import type { Body, Client, ConnectOptions, Headers, Kind, Message, State, StateDetail, SubscribeOptions, Subscription, Transaction } from "../examples/stompd.mjs";
+import type { Body, Client, ConnectOptions, Headers, Kind, Message, Renewed, State, StateDetail, SubscribeOptions, Subscription, Transaction } from "../examples/stompd.mjs";
 
 declare const process: { argv: string[]; exitCode: number };
 declare const console: { log(text: string): void };
@@ -23,11 +23,11 @@ function hold<T extends object>(what: string, value: T, kinds: Kinds<T>): void {
 
 const [, , url, package_of_ws] = process.argv, states: State[] = [];
 const options: Required<Omit<ConnectOptions, "WebSocket">> = {
-  clientId: "kiosk", shortestPause: 100, longestPause: 500, answerTimeout: 5_000, waitTimeout: Infinity, closeTimeout: 1_000, mostWaiting: 100,
+  clientId: "kiosk", headers: async () => ({ token: "t", none: null }), protocols: ["token.t"], shortestPause: 100, longestPause: 500, answerTimeout: 5_000, waitTimeout: Infinity, closeTimeout: 1_000, mostWaiting: 100,
   onstate: (state: State, { code, pause, reason }: StateDetail) => { states.push(state); const all: [number | undefined, number | undefined, string | null | undefined] = [code, pause, reason]; void all; },
   onerror: (error: unknown, subscription?: Subscription) => console.log(`${subscription?.id}: ${error}`),
 };
-const client: Client = connect(url!, package_of_ws ? { ...options, WebSocket: (await import(package_of_ws)).default } : options);
+const client: Client = connect(() => url!, package_of_ws ? { ...options, WebSocket: (await import(package_of_ws)).default } : options);
 
 const first = (destination: string, more: SubscribeOptions): Promise<[Message, Subscription]> => new Promise(resolve => {
   const subscription: Subscription = client.subscribe(destination, message => resolve([message, subscription]), more);
@@ -65,10 +65,15 @@ const kind: Kind = error.kind, code: string | undefined = error.code;
 await client.close();
 console.log([told, open, session !== null, kind, code, client.state, states[0], new StompdError("refused", "mine").message, typeof Stompd.connect].join(" "));
 
+const waited: Renewed<string>[] = ["a", () => "a", async () => "a"];
+void waited;
+
 /* What the types refuse. Nobody calls it. */
 export function refused(): void {
   // @ts-expect-error: a URL is a text
   connect(8080);
+  // @ts-expect-error: nor does a function answer another
+  connect(async () => 8080);
   // @ts-expect-error: there is no such option
   connect("ws://a", { pause: 1 });
   // @ts-expect-error: nor such a kind

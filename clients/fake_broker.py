@@ -14,7 +14,7 @@ KEY_SUFFIX = b"258EAFA5-E914-47DA-95CA-C5AB0DC85B11"
 
 
 class Link:
-    """A connection of a client. `head` and `kind` are those of the frame that was taken last."""
+    """A connection of a client, with the request and the CONNECT that began it. `head` and `kind` are those of the frame that was taken last."""
 
     def __init__(self, connected, seconds):
         self.socket, self.buffer = connected, bytearray()
@@ -23,8 +23,8 @@ class Link:
     def shake_hands(self):
         while b"\r\n\r\n" not in self.buffer:
             self.fill()
-        head, self.buffer = self.buffer.split(b"\r\n\r\n", 1)
-        key = re.search(rb"(?i)sec-websocket-key: *(\S+)", head)[1]
+        self.request, self.buffer = self.buffer.split(b"\r\n\r\n", 1)
+        key = re.search(rb"(?i)sec-websocket-key: *(\S+)", self.request)[1]
         accept = base64.b64encode(hashlib.sha1(key + KEY_SUFFIX).digest()).decode()
         lines = ["HTTP/1.1 101 Switching Protocols", "Upgrade: websocket", "Connection: Upgrade", f"Sec-WebSocket-Accept: {accept}"]
         self.socket.sendall(("\r\n".join([*lines, "Sec-WebSocket-Protocol: v12.stomp"]) + "\r\n\r\n").encode())
@@ -63,8 +63,8 @@ class Link:
         self.socket.sendall(message_bytes(BINARY, payload, is_masked=False))
 
     def open(self, session):
-        connect = self.take()
-        assert connect.command == "CONNECT", connect
+        self.connect = self.take()
+        assert self.connect.command == "CONNECT", self.connect
         self.socket.sendall(message_bytes(TEXT, f"CONNECTED\nversion:1.2\nsession:{session}\nheart-beat:0,0\n\n\0".encode(), is_masked=False))
         return self
 

@@ -1,11 +1,11 @@
 #!/usr/bin/env python3
 """examples/stompd.mjs in Node and in headless Chromium, over a broker that is killed and started again under load, and over a fake one.
 
-    python3 clients/module.py [PROGRAM] [--kills N] [--only fake|real] [--engine Node|Chromium] [--module PATH]
+    python3 clients/module.py [PROGRAM] [--kills N] [--only fake|real] [--engine Node|Chromium] [--module PATH] [--ws PATH]
 
 What a promise says is held against what comes: what has resolved is there, what was refused is not, and what is unknown may be. Needs Node 20 with
 Debian's node-ws or Node's own experimental WebSocket, and for the second part Chromium; what is missing is told at the end, with status 2 if there is
-no Node. --module takes another folder for examples/, as one with an error in it that has to be found.
+no Node. --module takes another folder for examples/, as one with an error in it that has to be found, --ws another index.js of node-ws.
 """
 
 import functools
@@ -13,6 +13,7 @@ import http.server
 import json
 import pathlib
 import random
+import re
 import select
 import shutil
 import subprocess
@@ -42,9 +43,9 @@ globalThis.soon = async (holds, seconds = 15) => {
   for (const end = Date.now() + 1000 * seconds; Date.now() < end && !holds();) await new Promise(resolve => setTimeout(resolve, 10));
   return holds();
 };
-globalThis.open = (options = {}) => {
+globalThis.open = (options = {}, url = URL_) => {
   const states = [], errors = [], onstate = (state, { pause, reason }) => states.push([state, pause, reason]);
-  const client = connect(URL_, { onstate, onerror: (...told) => errors.push(told), ...options });
+  const client = connect(url, { onstate, onerror: (...told) => errors.push(told), ...options });
   return Object.assign(client, { states, errors });
 };
 globalThis.unhandled = [];
@@ -53,9 +54,9 @@ globalThis.addEventListener?.("unhandledrejection", event => unhandled.push(Stri
 """
 
 
-def node_words():
+def node_words(ws=WS):
     """How Node is called with a WebSocket: its words, and what a script is told of the package."""
-    return (["node"], [WS]) if WS.exists() else (["node", "--experimental-websocket"], [])
+    return (["node"], [ws]) if ws.exists() else (["node", "--experimental-websocket"], [])
 
 
 class Node:
@@ -63,12 +64,12 @@ class Node:
 
     name = "Node"
 
-    def __init__(self, folder):
+    def __init__(self, folder, ws):
         copy = folder / "node"
         (copy / "clients").mkdir(parents=True)
         shutil.copytree(folder / "examples", copy / "examples")
         shutil.copy(HERE / "module.mjs", copy / "clients")
-        node, package = node_words()
+        node, package = node_words(ws)
         self.process = subprocess.Popen([*node, copy / "clients" / "module.mjs", *package], stdin=subprocess.PIPE, stdout=subprocess.PIPE, text=True)
 
     def value(self, code):
@@ -100,7 +101,7 @@ class Chromium:
 
     name = "Chromium"
 
-    def __init__(self, folder):
+    def __init__(self, folder, _):
         # A page with nothing in it.
         (folder / "examples" / "nothing.html").write_text("<!doctype html><title>nothing</title>")
         self.server = http.server.ThreadingHTTPServer(("127.0.0.1", 0), functools.partial(QuietHandler, directory=folder / "examples"))
@@ -240,6 +241,18 @@ def a_lost_one_is_unknown(engine, broker, checks):
     checks.same("the state says how it went", run("return [...new Set(one.states.map(it => it[0]))].sort()"), ["connecting", "lost", "open"])
 
 
+def page_says_why(engine, broker, checks):
+    """what examples/rooms.html says where it gets no connection"""
+    page = (HERE.parent / "examples" / "rooms.html").read_text(encoding="utf-8")
+    engine.value(re.search(r"^async function whyNot.*?^}$", page, re.M | re.S)[0] + "\nglobalThis.location ??= { origin: 'null' }; globalThis.why = whyNot;")
+    why = lambda port: engine.value(f"return why('ws://127.0.0.1:{port}/')")
+    port = scenario.free_port()
+    checks.check("that no server is there", why(port).startswith(f"No server answers at 127.0.0.1:{port}."), why(port))
+    origin = engine.value("return location.origin")
+    said = why(broker.port)
+    checks.check("or that one is, and which origin it has to serve", "No server" not in said and f"--origin, it has to name {origin}." in said, said)
+
+
 LOAD = """
 globalThis.going = true;
 globalThis.seen = [];
@@ -301,7 +314,24 @@ def kills_under_load(engine, broker, kills, checks):
     checks.check("and each that has resolved", {text for text, end in ends["pair"].items() if end == "resolved"} <= whole)
 
 
-TRIALS = [what_promises_say, *module_limits.TRIALS, around_refusals, silences, work_is_done, durable_ones, a_lost_one_is_unknown, kills_under_load]
+def lines_with_node_ws(program, folder, ws, checks):
+    """The lines of docs/CLIENTS.md that load Debian's package are run in a program of their own."""
+    if not ws.exists():
+        checks.tell("the lines for node-ws were not tried: it is not here")
+        return
+    text = (HERE.parent / "docs" / "CLIENTS.md").read_text(encoding="utf-8")
+    (lines,) = (it.split("```")[0] for it in text.split("```js\n")[1:] if str(WS) in it.split("```")[0])
+    with scenario.serving(program) as broker:
+        ear = Client(broker.port).connect()
+        ear.subscribe("r", "/topic/room")
+        script = folder / "node" / "examples" / "lines.mjs"
+        script.write_text(lines.replace(":8080", f":{broker.port}").replace(str(WS), str(ws)) + "await client.close();\n", encoding="utf-8")
+        ended = subprocess.run(["node", script], capture_output=True, text=True, timeout=60)
+        checks.same("the lines for node-ws run in Node", (ended.returncode, ended.stderr), (0, ""))
+        checks.same("and send what they say", ear.receive().body, "hello")
+
+
+TRIALS = [what_promises_say, *module_limits.TRIALS, around_refusals, silences, work_is_done, durable_ones, a_lost_one_is_unknown, page_says_why, kills_under_load]
 
 
 def run_trial(trial, engine, *more):
@@ -325,7 +355,7 @@ def try_over_the_broker(engine, words, checks):
 
 
 def try_engine(kind, folder, words, checks):
-    engine = kind(folder)
+    engine = kind(folder, words.ws)
     try:
         engine.value(WORDS)
         if words.only != "real":
@@ -333,6 +363,8 @@ def try_engine(kind, folder, words, checks):
                 run_trial(trial, engine, checks)
         if words.only != "fake":
             try_over_the_broker(engine, words, checks)
+            if kind is Node:
+                lines_with_node_ws(words.program, folder, words.ws, checks)
     finally:
         engine.close()
 
@@ -343,6 +375,7 @@ def main():
     parser.add_argument("--only", choices=["fake", "real"], help="the trials over a fake broker, or over the real one")
     parser.add_argument("--engine", choices=["Node", "Chromium"], help="in this one alone")
     parser.add_argument("--module", type=pathlib.Path, default=HERE.parent / "examples")
+    parser.add_argument("--ws", type=pathlib.Path, default=WS)
     words = parser.parse_args()
     engines = [kind for kind, is_there in ((Node, shutil.which("node")), (Chromium, any(map(shutil.which, BROWSERS)))) if is_there and words.engine in (None, kind.name)]
     checks = scenario.Checks()

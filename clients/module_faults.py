@@ -1,6 +1,7 @@
 """What clients/module.py tries over a fake broker: losses, refusals and silences that a real one seldom has at the right moment."""
 
 import contextlib
+import re
 
 from fake_broker import FakeBroker
 from lib.wire import BINARY, TEXT
@@ -231,4 +232,47 @@ def nothing_breaks(engine, checks):
         checks.same("an acknowledgement is of one connection", run("await soon(() => jobs.length); return outcome(two.transaction(tx => tx.ack(jobs[0])))"), "unsent")
 
 
-TRIALS = [a_name_in_use, promises_left_alone, refusals, waits_end, frames_are_right, nothing_breaks]
+def offered(link):
+    """The path and the subprotocols of its request, and the further headers of its CONNECT."""
+    path, protocols = link.request.split()[1].decode(), re.search(rb"(?im)^sec-websocket-protocol: *(.*?)\r?$", link.request)[1].decode()
+    return path, [it.strip() for it in protocols.split(",")], {name: value for name, value in link.connect.headers.items() if name != "accept-version"}
+
+
+def asked_anew(engine, checks):
+    """what connect was given as functions is asked for anew with each connection"""
+    run = engine.value
+    with FakeBroker() as fake:
+        address = f"ws://127.0.0.1:{fake.port}"
+        run(f"globalThis.number = 0; globalThis.options = {{ {QUICK}, clientId: 'kiosk', headers: () => ({{ token: `t${{number}}`, none: null }}), protocols: async () => [`token.${{number}}`] }}")
+        run(f"globalThis.it = open(options, async () => {{ await null; return `{address}/room?token=${{++number}}`; }})")
+        link = fake.take()
+        checks.same("a function may promise its answer", offered(link), ("/room?token=1", ["v12.stomp", "token.0"], {"token": "t0", "client-id": "kiosk"}))
+        link.drop()
+        checks.same("and is asked with each connection", offered(fake.take()), ("/room?token=2", ["v12.stomp", "token.1"], {"token": "t1", "client-id": "kiosk"}))
+        run("await soon(() => it.session); it.close()")
+        run(f"globalThis.it = open({{ {QUICK}, headers: {{ 'accept-version': '1.0', 'client-id': 'b', host: 'a:b' }}, protocols: ['one', 'two'] }}, '{address}/')")
+        checks.same("values are given too, of which the module keeps its own", offered(fake.take()), ("/", ["v12.stomp", "one", "two"], {"host": "a:b"}))
+        run("await soon(() => it.session); it.close()")
+        run(f"globalThis.number = 0; globalThis.ways = [() => {{ throw new Error('thrown'); }}, () => Promise.reject(new Error('rejected')), () => 'no address', () => '{address}/']; globalThis.it = open({{ {QUICK} }}, () => ways[number++]())")
+        link = fake.take()
+        run("await soon(() => it.session)")
+        checks.same("a failure is told, and asked again after a pause", run("return it.states.map(([state]) => state)"), [*["connecting", "lost"] * 3, "connecting", "open"])
+        checks.check("the pauses grow", grows(pauses_of(engine)), pauses_of(engine))
+        told = run("return [it.errors.map(([error]) => error.message), it.states.filter(([state]) => state == 'lost').map(it => it[2])]")
+        checks.same("with the reason", (told[0], told[0][:2], len(told[0])), (told[1], ["thrown", "rejected"], 3))
+        run("it.close()")
+        run(f"globalThis.it = open({{ {QUICK}, answerTimeout: 100 }}, () => new Promise(() => {{}}))")
+        checks.check("one that never answers is given up in time", run("return soon(() => it.states.some(([state, , reason]) => state == 'lost' && /within 100 ms/.test(reason)))"))
+        run("await it.close()")
+        run(f"globalThis.it = open({{ {QUICK} }}, () => new Promise(resolve => globalThis.answer = resolve))")
+        checks.same("a client that asks closes at once", run("return [await outcome(it.close()), it.state]"), ["resolved", "closed"])
+        run(f"answer('{address}/closed'); globalThis.it = open({{ {QUICK} }}, '{address}/next')")
+        checks.same("and connects no more", offered(fake.take())[0], "/next")
+        run("await soon(() => it.session); it.close()")
+        for what, options in (("an end of a line in a header of CONNECT", "{ headers: { a: 'b\\nc:d' } }"), ("one in its name", "{ headers: { 'a\\r': 'b' } }"), ("too long a one", "{ headers: { a: 'b'.repeat(8192) } }")):
+            checks.check(f"{what} is not sent", run(f"try {{ open({options}, '{address}/').close(); }} catch (error) {{ return error.kind; }}") in ("unsent", "refused"))
+        run(f"globalThis.it = open({{ {QUICK}, headers: () => ({{ a: 'b\\nc' }}) }}, '{address}/'); await soon(() => it.errors.length); await it.close()")
+        checks.same("nor one that a function answers", run("return it.errors.map(([error]) => error.kind)"), ["unsent"])
+
+
+TRIALS = [a_name_in_use, promises_left_alone, refusals, waits_end, frames_are_right, nothing_breaks, asked_anew]

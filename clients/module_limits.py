@@ -161,6 +161,9 @@ def at_the_limits(engine, broker, checks):
         checks.same("the session was one", run("return [limited.session == session, limited.states.map(([state]) => state)]"), [True, ["connecting", "open"]])
         run("await limited.close(); globalThis.URL_ = direct")
     checks.same("without a connection too", run(f"globalThis.early = open(); return [await how(early.send('/topic/none', 'x'.repeat({BODY + 1}))), early.state]"), [refused("E2"), "connecting"])
+    run("globalThis.offering = open({ protocols: ['token.1'] })")
+    checks.same("another subprotocol beside the broker's is no hindrance", run("return how(offering.send('/topic/none', 'x'))"), "taken")
+    run("await offering.close()")
     checks.check("a clientId has a limit", "E2" in (run(f"try {{ open({{ clientId: 'x'.repeat({HEAD}) }}).close(); }} catch (error) {{ return error.code; }}") or ""))
     run("await early.close()")
 

@@ -21,14 +21,22 @@ export interface StateDetail {
   code?: number;
   /** Milliseconds until the next try. */
   pause?: number;
-  /** The `message` of the broker's ERROR, or the time-out for which the module abandoned the connection. */
+  /** The `message` of the broker's ERROR, the time-out for which the module abandoned the connection, or why a function gave no answer. */
   reason?: string | null;
 }
+
+/** A value, or a function that is asked for it before each connection, as for a token. A failure goes to `onerror`, and counts as a lost connection. So
+ *  does no answer within `answerTimeout`. */
+export type Renewed<T> = T | (() => T | PromiseLike<T>);
 
 /** Times are in milliseconds; `Infinity` turns a time-out off. */
 export interface ConnectOptions {
   /** Names the client's durable subscriptions; one client at a time has it. It has no line end and no NUL. */
   clientId?: string;
+  /** Headers of CONNECT, without ends of lines, for whatever stands before stompd, which reads none of them. `clientId` sets `client-id`. */
+  headers?: Renewed<Headers>;
+  /** Subprotocols to offer besides `v12.stomp`, which the broker takes. A proxy may find a token among them. */
+  protocols?: Renewed<readonly string[]>;
   /** The first pause (500). It doubles with each loss, and with each refusal just after another. It returns to this after a session as long as the
    *  longest pause. */
   shortestPause?: number;
@@ -48,7 +56,7 @@ export interface ConnectOptions {
    *  By default these go to the console. */
   onerror?: (error: unknown, subscription?: Subscription) => void;
   /** Without a global one, that of the package `ws`. */
-  WebSocket?: new (url: string, protocol: string) => any;
+  WebSocket?: new (url: string, protocols: string[]) => any;
 }
 
 /** The module omits those with null or undefined, and sets `content-length`, `receipt` and `transaction` itself. With these and the destination a frame
@@ -117,8 +125,8 @@ export interface Client {
   close(): Promise<void>;
 }
 
-/** Connects to `ws://` or `wss://`, and retries until `close`. Throws without a WebSocket, or if the URL or `clientId` is wrong. */
-export function connect(url: string, options?: ConnectOptions): Client;
+/** Connects to `ws://` or `wss://`, and retries until `close`. Throws without a WebSocket, or if a value that it is given is wrong. */
+export function connect(url: Renewed<string>, options?: ConnectOptions): Client;
 
 declare global {
   /** Made by stompd.js, also for a page that loads only that. */

@@ -6,7 +6,7 @@
 const NOTHING = () => {};
 /* What each option and call means stands in stompd.d.mts. */
 const TIMES = { shortestPause: 500, longestPause: 8_000, answerTimeout: 15_000, waitTimeout: 60_000, closeTimeout: 5_000 };
-const DEFAULTS = { ...TIMES, mostWaiting: 10_000, onstate: NOTHING, onerror: error => console.error(error) };
+const DEFAULTS = { ...TIMES, mostWaiting: 10_000, headers: {}, protocols: [], onstate: NOTHING, onerror: error => console.error(error) };
 const NO_WEBSOCKET = "there is no WebSocket: use Node 22, start Node 20 with --experimental-websocket, or give connect that of the package ws";
 const NAMELESS = "E13 durable subscription without a clientId";
 /* Bytes that may wait in a socket before what is only told is left out. */
@@ -28,9 +28,9 @@ const refused = message => new StompdError("refused", message, /^E\d+/.exec(mess
 
 /* A promise that nobody has to await: its rejection reaches those who do, and ends no program. */
 const leavable = promise => { promise.catch(NOTHING); return promise; };
+const isFunction = it => typeof it == "function";
 /* A timer. One of more than 24 days, such as `Infinity`, never fires. */
 const after = (milliseconds, act) => milliseconds < 2 ** 31 ? setTimeout(act, milliseconds) : undefined;
-
 const ESCAPES = { "\\": "\\\\", "\r": "\\r", "\n": "\\n", ":": "\\c" }, MEANINGS = { "\\": "\\", r: "\r", n: "\n", c: ":" };
 const escaped = text => String(text).replace(/[\\\r\n:]/g, letter => ESCAPES[letter]);
 const unescaped = text => text.replace(/\\(.)/g, (_, letter) => MEANINGS[letter]);
@@ -38,7 +38,6 @@ const encoder = new TextEncoder(), decoder = new TextDecoder("utf-8", { fatal: t
 const sizeOf = it => typeof it == "string" ? encoder.encode(it).length : it.length;
 /* Receipts and names of transactions, all as long as each other: a frame that is at a limit stays there. */
 const numbered = number => String(number).padStart(12, "0"), NUMBER = numbered(0);
-
 /* A body is text or bytes. Bytes are copied, since the frame may have to wait. */
 function bodyOf(body) {
   if (body === undefined || body === null) return "";
@@ -55,18 +54,16 @@ const given = headers => Object.fromEntries(Object.entries(headers).filter(([nam
 function sendFrame(destination, body, headers, added) {
   const content = bodyOf(body), size = sizeOf(content), counted = size ? { "content-length": size } : {};
   if (size > MOST_BODY) throw refused(`E2 frame too large: a body of ${size} bytes, and ${MOST_BODY} are the most`);
-  const frame = ["SEND", { ...given(headers), destination: String(destination), ...counted }, content];
-  check(frame, added);
-  return frame;
+  return checked(["SEND", { ...given(headers), destination: String(destination), ...counted }, content], added);
 }
 
-/* Throws if the broker would refuse such a head. */
-function check([command, headers], added) {
-  const all = { ...headers, ...added }, count = Object.keys(all).length, size = sizeOf(headOf([command, all]));
+/* A frame, if the broker would not refuse its head with these headers added. */
+function checked(frame, added) {
+  const [command, headers] = frame, all = { ...headers, ...added }, count = Object.keys(all).length, size = sizeOf(headOf([command, all]));
   if ("" in all) throw refused("E1 malformed frame: a header has no name");
   if (count > MOST_HEADERS) throw refused(`E2 frame too large: ${count} headers, and ${MOST_HEADERS} are the most`);
   if (size > MOST_HEAD) throw refused(`E2 frame too large: ${size} bytes of command and headers, and ${MOST_HEAD} are the most`);
-  if (command == "CONNECT" || DESTINATION.test(all.destination)) return;
+  if (command == "CONNECT" || DESTINATION.test(all.destination)) return frame;
   throw refused("E8 bad destination: it is /topic/ or /queue/, and 1 to 200 letters, digits, points, dashes, underscores and slashes");
 }
 
@@ -76,11 +73,15 @@ function operationSize([, headers]) {
   return kept.reduce((sum, [name, value]) => sum + 8 + sizeOf(name) + sizeOf(String(value)), own + (headers["content-length"] ?? 0));
 }
 
-const connectFrame = ({ clientId }) => ["CONNECT", { "accept-version": "1.2", ...(clientId ? { "client-id": clientId } : {}) }];
+/* Only a clientId sets the client-id, so it is known whether there is one. */
+const connectFrame = (clientId, headers) => checked(["CONNECT", given({ ...headers, "accept-version": "1.2", "client-id": clientId || null })], {});
 
-/* The head of a frame, with its empty line. CONNECT has no escapes. */
+/* CONNECT has no escapes. */
+const plain = text => { if (/[\r\n]/.test(text)) throw unsent("a clientId and the headers of CONNECT have no end of a line"); return String(text); };
+
+/* The head of a frame, with its empty line. */
 function headOf([command, headers]) {
-  const spell = command == "CONNECT" ? String : escaped;
+  const spell = command == "CONNECT" ? plain : escaped;
   const head = `${command}\n${Object.entries(headers).map(([name, value]) => `${spell(name)}:${spell(value)}\n`).join("")}\n`;
   if (head.includes("\0")) throw unsent("a header has a NUL, which no frame can carry");
   return head;
@@ -91,8 +92,7 @@ function written(frame) {
   const head = headOf(frame), [, , body = ""] = frame;
   if (typeof body == "string") return `${head}${body}\0`;
   const start = encoder.encode(head), whole = new Uint8Array(start.length + body.length + 1);
-  whole.set(start);
-  whole.set(body, start.length);
+  for (const [part, place] of [[start, 0], [body, start.length]]) whole.set(part, place);
   return whole;
 }
 
@@ -103,8 +103,7 @@ function parted(data) {
   return [textOf(whole.slice(0, end)), textOf(whole.slice(end + 2, -1))];
 }
 function textOf(whole) {
-  if (typeof whole == "string") return whole;
-  try { return decoder.decode(whole); } catch { return whole; }
+  try { return typeof whole == "string" ? whole : decoder.decode(whole); } catch { return whole; }
 }
 
 /* Each message of the broker holds one frame. Of a repeated header the first counts. A header may have any name, as `constructor`. */
@@ -191,26 +190,38 @@ class Link {
   #socket; #timer; #on; #openedAt; #count = 0; #asked = new Map(); #isToldLast = false;
   /* Whether nothing was heard since the last look, and whether an answer was due then. */
   #isQuiet = true; #wasDue = true;
-  /* `on` is called with what happens: opened, heard, refused, over. */
+  /* `on` is called with what happens: failed, opened, heard, refused, over. */
   constructor(url, options, on) {
-    const { WebSocket, answerTimeout } = options;
+    const asked = [url, options.headers, options.protocols];
     this.#on = on;
-    const socket = this.#socket = new WebSocket(url, "v12.stomp");
+    if (asked.some(isFunction)) this.#ask(asked, options); else this.#connect(asked, options);
+    this.#watch(options.answerTimeout);
+  }
+  /* Connects with what functions answer. */
+  async #ask(asked, options) {
+    try {
+      const found = await Promise.all(asked.map(async it => isFunction(it) ? it() : it));
+      if (!this.isOver) this.#connect(found, options);
+    } catch (error) {
+      if (this.isOver) return;
+      this.#on.failed(error);
+      this.end({ reason: String(error?.message ?? error) });
+    }
+  }
+  #connect([url, headers, protocols], { WebSocket, clientId }) {
+    const frame = connectFrame(clientId, headers), socket = this.#socket = new WebSocket(url, ["v12.stomp", ...protocols]);
     socket.binaryType = "arraybuffer";
-    socket.onopen = () => this.write([connectFrame(options)]);
+    socket.onopen = () => this.write([frame]);
     socket.onmessage = ({ data }) => this.#hear(data);
     // A close may follow or not, as in Node 20, where nobody listens.
     socket.onerror = () => this.end({ code: 1006 });
     socket.onclose = ({ code }) => this.end({ code });
-    this.#watch(answerTimeout);
   }
   get count() { return this.#asked.size; }
   lasted() { return this.#openedAt === undefined ? 0 : performance.now() - this.#openedAt; }
   forget(subscription) { this.ending = this.ending.filter(it => it !== subscription); }
-  write(frames) {
-    // If one can't be written, none is sent.
-    for (const text of frames.map(written)) this.#socket.send(text);
-  }
+  /* If one can't be written, none is sent. */
+  write(frames) { for (const text of frames.map(written)) this.#socket.send(text); }
   /* Sends what has no receipt, unless too much waits already. Whether it did. */
   tell(frame) {
     if (this.#socket.bufferedAmount > MOST_BUFFERED) return false;
@@ -229,11 +240,9 @@ class Link {
   /* Is over, by itself or since it is left. An engine may wait long for the end of a dead socket, so nobody waits for it here. */
   end(detail) {
     if (this.isOver) return;
-    this.isOver = true;
-    this.session = null;
+    Object.assign(this, { isOver: true, session: null });
     clearTimeout(this.#timer);
-    Object.assign(this.#socket, { onopen: NOTHING, onmessage: NOTHING, onclose: NOTHING });
-    this.#socket.close();
+    if (this.#socket) Object.assign(this.#socket, { onopen: NOTHING, onmessage: NOTHING, onclose: NOTHING }).close();
     const posts = [...this.#asked.values()];
     this.#asked.clear();
     this.#on.over(posts, detail);
@@ -257,10 +266,7 @@ class Link {
     const post = this.#asked.get(receipt);
     if (!post) return;                         // that of a DISCONNECT
     // What was told before it was accepted too.
-    for (const [key, it] of this.#asked) {
-      if (it === post) break;
-      if (it.isTold) this.#asked.delete(key);
-    }
+    for (const [key, it] of this.#asked) { if (it === post) break; if (it.isTold) this.#asked.delete(key); }
     this.#asked.delete(receipt);
     post.resolve();
   }
@@ -288,7 +294,7 @@ class Link {
 class Client {
   #url; #options; #link; #timer; #pause; #count = 0; #isWanted = true;
   /* Why the session was refused, whether by what is not asked again, and when that was so last. */
-  #refusal; #isSettled = false; #settledAt = -Infinity;
+  #refusal; #isSettled; #settledAt = -Infinity;
   #subscriptions = new Map(); #waiting = new Set(); #closing = [];
   /* connecting, open, lost, refused or closed. */
   state = "connecting";
@@ -296,9 +302,8 @@ class Client {
     this.#url = url;
     this.#options = { ...DEFAULTS, WebSocket: globalThis.WebSocket, ...options };
     this.#pause = this.#options.shortestPause;
-    if (typeof this.#options.WebSocket != "function") throw unsent(NO_WEBSOCKET);
-    if (/[\r\n\0]/.test(this.#options.clientId)) throw unsent("a clientId has no end of a line and no NUL");
-    check(connectFrame(this.#options), {});
+    if (!isFunction(this.#options.WebSocket)) throw unsent(NO_WEBSOCKET);
+    connectFrame(this.#options.clientId, {});
     this.#start();
   }
 
@@ -370,33 +375,26 @@ class Client {
   /* Forgets a subscription, and answers the connection that has it. */
   drop(subscription) {
     if (this.#subscriptions.get(subscription.id) !== subscription) return null;
-    this.#subscriptions.delete(subscription.id);
-    subscription.isEnded = true;
-    subscription.reject(unsent("the subscription was ended before it was ready"));
+    this.#reject(subscription, unsent("the subscription was ended before it was ready"));
     if (!this.session) return null;
     this.#link.ending.push(subscription);
     return this.#link;
   }
 
   #start() {
-    this.#refusal = null;
-    this.#isSettled = false;
+    this.#refusal = this.#isSettled = null;
     this.#tell("connecting");
     if (!this.#isWanted) return;               // `onstate` has closed it
     this.#link = new Link(this.#url, this.#options, {
-      opened: () => this.#begin(),
+      failed: error => this.#complain(error), opened: () => this.#begin(),
       heard: frame => this.#hear(frame),
       refused: (post, later, error) => this.#isRefused(post, later, error),
       over: (posts, detail) => this.#isOver(posts, detail),
     });
   }
   /* What users give is called so that what they throw, at once or later, breaks nothing. */
-  async #call(work, subscription) {
-    try { await work(); } catch (error) { this.#complain(error, subscription); }
-  }
-  #complain(error, subscription) {
-    try { this.#options.onerror(error, subscription); } catch (another) { console.error(another); }
-  }
+  async #call(work, subscription) { try { await work(); } catch (error) { this.#complain(error, subscription); } }
+  #complain(error, subscription) { try { this.#options.onerror(error, subscription); } catch (another) { console.error(another); } }
   #tell(state, detail = {}) {
     this.state = state;
     this.#call(() => this.#options.onstate(state, detail));
@@ -408,17 +406,14 @@ class Client {
   #wait(post) {
     const { waitTimeout } = this.#options;
     this.#waiting.add(post);
-    post.timer = after(waitTimeout, () => {
-      this.#waiting.delete(post);
-      post.reject(unsent(`no connection within ${waitTimeout} ms`));
-    });
+    post.timer = after(waitTimeout, () => { this.#waiting.delete(post); post.reject(unsent(`no connection within ${waitTimeout} ms`)); });
   }
   #post(post) { try { this.#link.post(post); } catch (error) { post.reject(error); } }
   /* Opens a new subscription, if the broker can take it and there is a session. */
   #ask(subscription) {
     const { id, headers } = subscription, name = headers["activemq.subscriptionName"];
     try {
-      check(["SUBSCRIBE", { ...headers, id }], { receipt: NUMBER });
+      checked(["SUBSCRIBE", { ...headers, id }], { receipt: NUMBER });
       if (!MODES.includes(headers.ack)) throw refused(`E20 bad header value: ack is ${MODES.join(", ")}`);
       if (this.#subscriptions.size > MOST_SUBSCRIPTIONS) throw refused(`E18 too many subscriptions: ${MOST_SUBSCRIPTIONS} are the most`);
       if (name && !this.isNamed && headers.destination.startsWith("/topic/")) throw refused(NAMELESS);
@@ -431,8 +426,7 @@ class Client {
   }
   #reject(subscription, error) {
     this.#subscriptions.delete(subscription.id);
-    subscription.isEnded = true;
-    subscription.reject(error);
+    Object.assign(subscription, { isEnded: true }).reject(error);
   }
   #open(subscription) {
     const { id, headers } = subscription;
