@@ -3,7 +3,8 @@
 
     python3 tools/named.py
 
-It looks too whether docs/ARCHITECTURE.md has the groups and crates of crates.txt, in the same order.
+It looks too whether docs/ARCHITECTURE.md has the groups and crates of crates.txt, in the same order, and whether the sources have what CONTRIBUTING.md
+quotes of them.
 
 A file in backquotes is looked for by the end of its path, since a document names `src/turning.rt` beside its crate. A name of four words or more, joined
 by underscores, is a test, a mutant or a definition: it has to stand in some file of the repository that is no document.
@@ -20,6 +21,7 @@ TOP = pathlib.Path(__file__).resolve().parent.parent
 FILE = re.compile(r"`([\w./-]+\.(?:rt|antt|py|sh|md|edit|c|h|rs|conf|mjs|html|script|txt|service))`")
 NAME = re.compile(r"`(?:\w+::)*([a-z0-9]+(?:_[a-z0-9]+){3,})`")
 LINK = re.compile(r"\]\(([^)#\s:]+)(?:#[^)\s]*)?\)")
+QUOTED = re.compile(r"^```(?:rust|antt)\n(.*?)^```$", re.M | re.S)
 # A library that others wrote.
 OTHERS = {"stomp.py"}
 WORD = re.compile(r"[a-z0-9]+(?:_[a-z0-9]+){3,}")
@@ -91,9 +93,21 @@ def undrawn():
                 break
 
 
+def without_indents(text):
+    return "\n".join(line.strip() for line in text.strip().splitlines())
+
+
+def misquoted(files):
+    """The first line of each quotation in CONTRIBUTING.md that no source has."""
+    sources = "\n\n".join(without_indents((TOP / it).read_text(encoding="utf-8")) for it in files if it.endswith((".rt", ".antt")))
+    for quoted in QUOTED.findall((TOP / "CONTRIBUTING.md").read_text(encoding="utf-8")):
+        if without_indents(quoted) not in sources:
+            yield f"CONTRIBUTING.md quotes what no source has: {quoted.splitlines()[0]}"
+
+
 def main():
     files = tracked()
-    found = [*(f"{document} names {name}, which is not there" for document, name in missing(files)), *undrawn()]
+    found = [*(f"{document} names {name}, which is not there" for document, name in missing(files)), *undrawn(), *misquoted(files)]
     for fault in found:
         print(f"named: {fault}", file=sys.stderr)
     print(f"named: {len(found)} faults")
