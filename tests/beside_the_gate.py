@@ -82,6 +82,7 @@ SCRIPTS = [
     Script("tests/program/readiness.py"),
     Script("tests/program/unproved.py"),
     Script("tests/program/packing.py"),
+    Script("tests/program/hardening.py", light=""),
     Script("tests/program/manual.py"),
     Script("tests/program/rooms.py"),
     Script("tests/program/crowd.py", light=""),

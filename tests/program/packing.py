@@ -24,6 +24,14 @@ from lib.scenario import TOP
 from lib.stomp_client import Client
 
 LINK = re.compile(r"\]\(([^)#\s:]+)(?:#[^)\s]*)?\)")
+# tests/program/hardening.py runs the service under these.
+RESTRICTIONS = (
+    *("CapabilityBoundingSet=", "NoNewPrivileges=yes", "RestrictAddressFamilies=AF_INET", "IPAddressDeny=any", "IPAddressAllow=localhost"),
+    *("SystemCallArchitectures=native", "SystemCallFilter=@system-service", "SystemCallFilter=~@privileged @resources", "SystemCallErrorNumber=EPERM"),
+    *("MemoryDenyWriteExecute=yes", "PrivateDevices=yes", "PrivateTmp=yes", "ProtectSystem=strict", "ProtectHome=yes", "UMask=0077", "RemoveIPC=yes"),
+    *("ProtectProc=invisible", "LockPersonality=yes", "RestrictNamespaces=yes", "RestrictRealtime=yes", "RestrictSUIDSGID=yes"),
+    *(f"Protect{it}=yes" for it in ("Clock", "ControlGroups", "Hostname", "KernelLogs", "KernelModules", "KernelTunables")),
+)
 VERSION = re.compile(r"stompd \d+\.\d+\.\d+\+git[0-9a-f]{12}(-changed)?, given, and not known to be proved\n")
 # Scripts run outside of the folder, with its path in DPKG_ROOT, since there is no shell in it.
 DPKG = ["dpkg", "--force-script-chrootless", "--force-depends"]
@@ -88,6 +96,7 @@ def try_package(package, program, root, checks):
     starts = re.search(r"^ExecStart=(\S+) (\S+)", unit, re.M)
     checks.check("its service runs what is installed, over that folder", os.access(f"{root}{starts[1]}", os.X_OK) and starts[2].startswith("/var/lib/stompd/"), starts[0])
     checks.check("as that user", "\nUser=stompd\n" in unit)
+    checks.same("which may do only what it needs", [it for it in RESTRICTIONS if f"\n{it}\n" not in unit], [])
     checks.same("nothing is enabled", [str(it) for it in root.rglob("*.wants/*")], [])
     page = root / "usr/share/man/man1/stompd.1.gz"
     checks.check("the manual page is there", page.exists() and gzip.decompress(page.read_bytes()).startswith(b".TH stompd 1 "))
