@@ -6,7 +6,7 @@ memory, traces of its system calls, and the clients. Its last line counts what p
 
 PROGRAM is the built program; without it, it is what `bin/build --any` makes. Needs Python 3; strace for the traces, `rt` and a C compiler for
 refused memory, Chromium and Debian's python3-stomp and python3-websocket for two of the clients, Node for the module and Debian's node-typescript
-for its types, dpkg and root for the package, groff for the manual page, and nginx, HAProxy, Caddy, Apache and Docker for the recipes of deploy/. It
+for its types, dpkg and root for the package, systemd-analyze for its service, groff for the manual page, and nginx, HAProxy, Caddy, Apache and Docker for the recipes of deploy/. It
 takes some thirty minutes, and ends with status 0 only if nothing failed. With --light it runs the part that needs none of these, with fewer kills, in
 less than ten minutes; those that mostly wait run side by side.
 """
@@ -82,7 +82,7 @@ SCRIPTS = [
     Script("tests/program/readiness.py"),
     Script("tests/program/unproved.py"),
     Script("tests/program/packing.py"),
-    Script("tests/program/hardening.py", light=""),
+    Script("tests/program/hardening.py"),
     Script("tests/program/manual.py"),
     Script("tests/program/rooms.py"),
     Script("tests/program/crowd.py", light=""),
