@@ -212,16 +212,26 @@ def they_watch(broker, checks, anna, ben):
     checks.check("as bars", ben.value(drawn))
 
 
+SAID = "document.getElementById('state').textContent"
+
+
+def says(text):
+    return f"{SAID}.includes({json.dumps(text)})"
+
+
 def the_broker_is_killed(broker, checks, anna, ben):
     start = time.monotonic()
     broker.kill()
     checks.check("both pages see it gone", anna.is_in("lost") and ben.is_in("lost"), (anna.state(), ben.state()))
     anna.write("words", "said while away")
     checks.check("what is said meanwhile waits", anna.rows_come("said while away", ["waits"]), anna.states_of("said while away"))
+    gone = says(f"No server answers at 127.0.0.1:{broker.port}.")
+    checks.check("both say that no server is there", anna.comes(gone) and ben.comes(gone), (anna.value(SAID), ben.value(SAID)))
     time.sleep(2)
     broker.serve()
     served = time.monotonic()
     checks.check("both come back by themselves", anna.is_in("open") and ben.is_in("open"), (anna.state(), ben.state()))
+    checks.check("and say so", anna.value(says("Connected as anna")) and not anna.value(says("No server")), anna.value(SAID))
     checks.tell(f"the broker was away for {served - start:.1f} s, and both were back {time.monotonic() - served:.1f} s later")
     checks.check("what was said meanwhile goes out", anna.rows_come("said while away", ["sent", "received", "receipted"]), anna.states_of("said while away"))
     ben.write("words", "and a further one")
@@ -278,6 +288,20 @@ def an_error_is_shown(broker, checks, anna, ben):
     checks.check("and the page comes back", anna.is_in("open"), anna.state())
 
 
+def its_origin_is_not_served(broker, checks, anna, ben):
+    broker.kill()
+    broker.more = ("--origin", "https://chat.example")
+    broker.serve()
+    # A page from a file has no origin.
+    origins = "null", ben.value("location.origin")
+    for page, origin in zip((anna, ben), origins):
+        checks.check(f"a page is told that {origin} has to be named", page.comes(says(f"--origin, it has to name {origin}."), 20), page.value(SAID))
+    broker.kill()
+    broker.more = [word for origin in origins for word in ("--origin", origin)]
+    broker.serve()
+    checks.check("and comes back once it is", anna.is_in("open") and ben.is_in("open"), (anna.state(), ben.state()))
+
+
 def a_page_leaves(broker, checks, anna, ben):
     ben.value("document.getElementById('leave').click()")
     checks.check("a page that leaves stays away", ben.is_in("left") and not ben.is_in("open", 2), ben.state())
@@ -300,6 +324,7 @@ STEPS = [
     a_job_is_handed_out_again,
     a_keyboard_is_enough,
     an_error_is_shown,
+    its_origin_is_not_served,
     a_page_leaves,
 ]
 

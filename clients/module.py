@@ -244,11 +244,11 @@ def a_lost_one_is_unknown(engine, broker, checks):
 def page_says_why(engine, broker, checks):
     """what examples/rooms.html says where it gets no connection"""
     page = (HERE.parent / "examples" / "rooms.html").read_text(encoding="utf-8")
-    engine.value(re.search(r"^async function whyNot.*?^}$", page, re.M | re.S)[0] + "\nglobalThis.location ??= { origin: 'null' }; globalThis.why = whyNot;")
+    engine.value(re.search(r"^async function whyNot.*?^}$", page, re.M | re.S)[0] + "\nglobalThis.self ??= { origin: 'null' }; globalThis.why = whyNot;")
     why = lambda port: engine.value(f"return why('ws://127.0.0.1:{port}/')")
     port = scenario.free_port()
     checks.check("that no server is there", why(port).startswith(f"No server answers at 127.0.0.1:{port}."), why(port))
-    origin = engine.value("return location.origin")
+    origin = engine.value("return self.origin")
     said = why(broker.port)
     checks.check("or that one is, and which origin it has to serve", "No server" not in said and f"--origin, it has to name {origin}." in said, said)
 

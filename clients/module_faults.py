@@ -253,7 +253,7 @@ def asked_anew(engine, checks):
         run(f"globalThis.it = open({{ {QUICK}, headers: {{ 'accept-version': '1.0', 'client-id': 'b', host: 'a:b' }}, protocols: ['one', 'two'] }}, '{address}/')")
         checks.same("values are given too, of which the module keeps its own", offered(fake.take()), ("/", ["v12.stomp", "one", "two"], {"host": "a:b"}))
         run("await soon(() => it.session); it.close()")
-        run(f"globalThis.number = 0; globalThis.ways = [() => {{ throw new Error('thrown'); }}, () => Promise.reject(new Error('rejected')), () => 'no address', () => '{address}/']; globalThis.it = open({{ {QUICK} }}, () => ways[number++]())")
+        run(f"globalThis.number = 0; globalThis.ways = [() => {{ throw new Error('thrown'); }}, () => Promise.reject(new Error('rejected')), () => 'ws://', () => '{address}/']; globalThis.it = open({{ {QUICK} }}, () => ways[number++]())")
         link = fake.take()
         run("await soon(() => it.session)")
         checks.same("a failure is told, and asked again after a pause", run("return it.states.map(([state]) => state)"), [*["connecting", "lost"] * 3, "connecting", "open"])
