@@ -59,10 +59,11 @@ function sendFrame(destination, body, headers, added) {
 
 /* A frame, if the broker would not refuse its head with these headers added. */
 function checked(frame, added) {
-  const [command, headers] = frame, all = { ...headers, ...added }, count = Object.keys(all).length, size = sizeOf(headOf([command, all]));
+  const [command, headers] = frame, all = { ...headers, ...added }, count = Object.keys(all).length, head = headOf([command, all]);
   if ("" in all) throw refused("E1 malformed frame: a header has no name");
   if (count > MOST_HEADERS) throw refused(`E2 frame too large: ${count} headers, and ${MOST_HEADERS} are the most`);
-  if (size > MOST_HEAD) throw refused(`E2 frame too large: ${size} bytes of command and headers, and ${MOST_HEAD} are the most`);
+  // A letter has at most three bytes for each of its places in the text.
+  if (3 * head.length > MOST_HEAD && sizeOf(head) > MOST_HEAD) throw refused(`E2 frame too large: ${sizeOf(head)} bytes of command and headers, and ${MOST_HEAD} are the most`);
   if (command == "CONNECT" || DESTINATION.test(all.destination)) return frame;
   throw refused("E8 bad destination: it is /topic/ or /queue/, and 1 to 200 letters, digits, points, dashes, underscores and slashes");
 }
