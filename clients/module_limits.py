@@ -60,7 +60,9 @@ class Limits:
 
     def __init__(self, engine, relay, checks):
         self.run, self.relay, self.checks = engine.value, relay, checks
-        self.run(f"globalThis.URL_ = 'ws://127.0.0.1:{relay.port}/'; {HOW} globalThis.limited = open(); await limited.send('/topic/none', 'x')")
+        self.run(f"globalThis.URL_ = 'ws://127.0.0.1:{relay.port}/'; {HOW} globalThis.limited = open()")
+        # A receipt of a later frame may not make it longer.
+        self.run("await Promise.all(Array.from({ length: 100 }, () => limited.send('/topic/none', 'x')))")
         self.run("globalThis.session = limited.session")
 
     def taken(self, what, ask):
