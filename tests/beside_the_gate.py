@@ -54,6 +54,7 @@ SCRIPTS = [
     Script("tests/program/ending.py", light="--few"),
     Script("tests/program/telling.py", light=""),
     Script("tests/program/alerts.py", light=""),
+    Script("tests/program/metrics.py", light=""),
     Script("tests/program/figures.py", light="", waits=True),
     Script("tests/program/copies.py", light=""),
     Script("tests/program/serve_script.py", light="--few"),

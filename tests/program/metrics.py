@@ -1,0 +1,59 @@
+#!/usr/bin/env python3
+"""Feeds deploy/metrics.py with logs of servers that serve, end, fail, are killed and begin again, and looks at what it says of each. Needs Python 3 alone.
+
+    python3 tests/program/metrics.py
+
+The `doing: ` line is that of docs/RUNNING.md ("What it logs"), with a number for each letter; no program is run.
+"""
+
+import pathlib
+import re
+import subprocess
+import sys
+
+from lib import scenario
+from lib.scenario import TOP
+
+STARTED = "stompd: 2026-11-30T12:00:00Z started: journal of version 2, areas of 1000 bytes, 0 messages held, 9500 clients allowed, 99 bytes of memory for them"
+DONE_AT, NOW, AGE = "2026-11-30T12:01:00Z", "2026-11-30T12:03:30Z", 150
+KILLED = "stompd.service: Main process exited, code=killed, status=9/KILL"
+# Promtool's rules: a name, its kind, a number.
+SAMPLE = re.compile(r"[a-z_]+ \d+")
+
+
+def doing():
+    """The line of docs/RUNNING.md with 1, 2, 3 .. in place of its letters, and what stands after each."""
+    told = re.search(r"`(doing: [^`]*)`", (TOP / "docs" / "RUNNING.md").read_text(encoding="utf-8"))[1]
+    numbers = iter(range(1, 100))
+    line = re.sub(r"(?<=[ ])[A-Z](?= )", lambda _: str(next(numbers)), told)
+    return f"stompd: {DONE_AT} {line}", len(re.findall(r"(?<=[ ])[A-Z](?= )", told))
+
+
+def metrics_of(*lines):
+    done = subprocess.run([sys.executable, TOP / "deploy" / "metrics.py", "--now", NOW], input="".join(f"{it}\n" for it in lines), capture_output=True, text=True)
+    if done.returncode or done.stderr:
+        return {"failed": done.stderr}
+    samples = [it for it in done.stdout.splitlines() if not it.startswith("#")]
+    return {name: int(number) if number.isdigit() else number for name, _, number in (it.partition(" ") for it in samples)}
+
+
+def main():
+    checks = scenario.Checks()
+    line, count = doing()
+    served = metrics_of(STARTED, line)
+    checks.same("one that serves is up, and all its figures are there", (served.pop("stompd_up", None), served.pop("stompd_figures_age_seconds", None), sorted(served.values())),
+                (1, AGE, list(range(1, count + 1))))
+    checks.same("one that has told nothing is up, with no figures", metrics_of(STARTED), {"stompd_up": 1})
+    checks.same("other lines leave it up", metrics_of(STARTED, "stompd: 2026-11-30T12:02:00Z compacted: 5 bytes won in 3 ms"), {"stompd_up": 1})
+    for name, last in (("a fault", "stompd: J3 device failed: the file was removed"), ("its end", "stompd: 2026-11-30T12:02:00Z ending: asked to"), ("a kill", KILLED),
+                       ("a full journal", "stompd: opening the journal again in 4 s, which makes room")):
+        told = metrics_of(STARTED, line, last)
+        checks.same(f"after {name} it is down, and its figures age", (told.get("stompd_up"), told.get("stompd_figures_age_seconds")), (0, AGE))
+        checks.same(f"after {name} and a new start it is up, and old figures are gone", metrics_of(STARTED, line, last, STARTED), {"stompd_up": 1})
+    checks.same("no log is no server", metrics_of(), {"stompd_up": 0})
+    checks.same("a foreign line changes nothing", metrics_of(STARTED, "Started stompd.service - stompd."), {"stompd_up": 1})
+    return checks.status()
+
+
+if __name__ == "__main__":
+    sys.exit(main())
