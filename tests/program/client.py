@@ -390,6 +390,8 @@ def farewells(program, checks):
 
 
 def main():
+    # A shell that has this run in the background lets it ignore SIGINT, and so would its children.
+    signal.signal(signal.SIGINT, signal.default_int_handler)
     program = built_program(words_of(__doc__, BUILT).parse_args())
     checks, start = Checks(), time.monotonic()
     for scenario in (helps, bad_words, bodies, receipts, lines, peeks, durables, ends, peers, frames, farewells):
