@@ -1,11 +1,11 @@
 #!/usr/bin/env python3
 """Draws what bench/beside_rabbitmq.py has measured as one picture.
 
-    python3 bench/picture.py JSON OUT.svg [--folder disk|memory]
+    python3 bench/picture.py JSON OUT.svg --build TEXT [--folder disk|memory]
 
-JSON is what that wrote with --json; the best run counts. Each workload has a bar of stompd and one of RabbitMQ, with their figures, and how many
-times RabbitMQ's figure stompd's is. Both bars have the same scale, and each workload its own. The same JSON gives the same bytes. If JSON lacks a
-figure, a line says which, OUT.svg is left as it was, and the status is 2.
+JSON is what that wrote with --json; the best run counts. TEXT says which build of stompd it was, as `a051ec24, unproved`. Each workload has a bar of
+stompd and one of RabbitMQ, with their figures, and how many times as good as RabbitMQ's stompd's is. Both bars have the same scale, and each workload
+its own. The same words give the same bytes. If JSON lacks a figure, a line says which, OUT.svg is left as it was, and the status is 2.
 """
 
 import argparse
@@ -15,7 +15,9 @@ import sys
 from xml.sax.saxutils import escape
 
 # Of each case the figure that is drawn, and what it is of.
+LONE = "latency"
 WORKLOADS = {
+    LONE: ("receipt_median_us", "one SEND after another; here a shorter bar is better"),
     "one": ("receipts_a_second", "one connection, 8 SENDs under way"),
     "many": ("receipts_a_second", "31 connections, 8 SENDs under way on each"),
     "jobs": ("jobs_a_second", "SEND, MESSAGE and ACK, 4 senders, 4 workers"),
@@ -23,13 +25,15 @@ WORKLOADS = {
     "hall": ("messages_a_second", "from one sender to 250 subscribers"),
     "room": ("messages_a_second", "from one sender to 1,000 subscribers"),
 }
+# What is counted, if the figure's name doesn't say it well.
+HEADS = {"receipt_median_us": "Microseconds until a receipt"}
 STOMPD = "stompd"
 # Each with the class of its bars.
 BROKERS = {STOMPD: "stompd", "RabbitMQ": "rabbitmq"}
 PLACES = {"disk": "on the disk", "memory": "in memory"}
 
 WIDTH, MARGIN, BARS, LONGEST, THICK, GAP = 680, 24, 104, 400, 18, 4
-TOP, EACH, FOOT = 80, 80, 56
+TOP, EACH, FOOT = 80, 80, 96
 # There is room for figures under this one.
 MOST = 1_000_000_000
 
@@ -89,11 +93,12 @@ def span(name, words):
 
 def counted(case):
     """What is counted, as a workload's head has it."""
-    return WORKLOADS[case][0].replace("_", " ").capitalize()
+    name = WORKLOADS[case][0]
+    return HEADS.get(name) or name.replace("_", " ").capitalize()
 
 
-def factor_of(pair):
-    return f"{pair[0] / pair[1]:.1f} x"
+def factor_of(case, pair):
+    return f"{pair[1] / pair[0] if case == LONE else pair[0] / pair[1]:.1f} x"
 
 
 def bars(case, pair, top):
@@ -104,7 +109,7 @@ def bars(case, pair, top):
         y, length = top + 22 + place * (THICK + GAP), LONGEST * figure / max(pair)
         yield text("broker", MARGIN, y + 13, broker)
         yield f'<rect class="{BROKERS[broker]}" x="{BARS}" y="{y}" width="{length:.1f}" height="{THICK}"/>'
-        yield text("figure", round(BARS + length + 8, 1), y + 13, f"{figure:,.0f}", span("factor", factor_of(pair)) if broker == STOMPD else "")
+        yield text("figure", round(BARS + length + 8, 1), y + 13, f"{figure:,.0f}", span("factor", factor_of(case, pair)) if broker == STOMPD else "")
     yield "</g>"
 
 
@@ -112,10 +117,10 @@ def described(pairs):
     """The picture in words."""
     for case, pair in pairs.items():
         told = ", ".join(f"{broker} {figure:,.0f}" for broker, figure in zip(BROKERS, pair))
-        yield f"{counted(case)}, {WORKLOADS[case][1]}: {told}, {factor_of(pair)}."
+        yield f"{counted(case)}, {WORKLOADS[case][1]}: {told}, {factor_of(case, pair)}."
 
 
-def drawn(measured, kind):
+def drawn(measured, kind, build):
     """The picture of what was measured."""
     pairs = dict(figures(measured, kind))
     machine, date, rabbitmq, runs, seconds = (part(measured, it, "the file") for it in ("machine", "date", "rabbitmq", "runs", "seconds"))
@@ -127,11 +132,13 @@ def drawn(measured, kind):
     yield f"<style>{STYLE}</style>"
     yield f'<rect class="page" {size}/>'
     yield text("head", MARGIN, 36, title)
-    yield text("more", MARGIN, 58, "Each workload has its own scale; a longer bar is better.")
+    yield text("more", MARGIN, 58, "Each workload has its own scale; a longer bar is better, but for the first.")
     for place, (case, pair) in enumerate(pairs.items()):
         yield from bars(case, pair, TOP + EACH * place)
     yield text("more", MARGIN, foot + 16, escape(f"{rabbitmq}; the best run of {runs}, {seconds} s each; {date}"))
-    yield text("more", MARGIN, foot + 36, escape(str(machine)))
+    yield text("more", MARGIN, foot + 36, escape(f"stompd: {build}"))
+    yield text("more", MARGIN, foot + 56, "RabbitMQ has a topic's messages in memory only; stompd syncs each before its MESSAGE goes out")
+    yield text("more", MARGIN, foot + 76, escape(str(machine)))
     yield "</svg>"
 
 
@@ -139,10 +146,11 @@ def main():
     parser = argparse.ArgumentParser(description=__doc__, formatter_class=argparse.RawDescriptionHelpFormatter)
     parser.add_argument("measured", type=pathlib.Path, metavar="JSON")
     parser.add_argument("out", type=pathlib.Path, metavar="OUT.svg")
+    parser.add_argument("--build", required=True, metavar="TEXT", help="which build of stompd it was, and whether proved")
     parser.add_argument("--folder", choices=PLACES, default="disk", help="what was measured there, in the first folder of that kind (disk)")
     words = parser.parse_args()
     try:
-        picture = "\n".join(drawn(json.loads(words.measured.read_text(encoding="utf-8")), words.folder))
+        picture = "\n".join(drawn(json.loads(words.measured.read_text(encoding="utf-8")), words.folder, words.build))
         words.out.write_text(picture + "\n", encoding="utf-8")
     except OSError as error:
         print(f"picture: {error}", file=sys.stderr)

@@ -25,7 +25,9 @@ from beside_rabbitmq import RATES, Figures  # noqa: E402
 SVG = "{http://www.w3.org/2000/svg}"
 MACHINE = '4 cores, a <Quick> & "Small" Processor, load 0.1'
 # Of each workload stompd's figure and RabbitMQ's, and what stands at their bars.
+BUILD = "a051ec24, <unproved> & quick"
 DISK = {
+    "latency": (40, 82, "40 2.0 x", "82"),
     "one": (40_000, 8_000, "40,000 5.0 x", "8,000"),
     "many": (105_200, 12_400.4, "105,200 8.5 x", "12,400"),
     "jobs": (12_000, 36_000, "12,000 0.3 x", "36,000"),
@@ -46,10 +48,13 @@ def measured(folder):
         figures.begin(folder)
         figures.told["folders"][-1]["kind"] = kind
         for case, (stompd, rabbitmq, *_) in pairs.items():
+            if case == "latency":
+                continue
             name = RATES[case][2]
             for broker, figure in (("stompd", stompd), ("stompd before", 10 * stompd), ("RabbitMQ", rabbitmq)):
                 figures.add(case, RATES[case][0], name, broker, [{name: part * figure} for part in (0.9, 1, 0.5)])
-        figures.add("latency", "a lone receipt", "receipt_median_us", "stompd", [{"receipt_median_us": it} for it in (50, 40, 60)], min)
+        for broker, figure in zip(("stompd", "RabbitMQ"), pairs["latency"]):
+            figures.add("latency", "a lone receipt", "receipt_median_us", broker, [{"receipt_median_us": it * figure} for it in (1.25, 1, 1.5)], min)
     figures.told.update(machine=MACHINE, rabbitmq="RabbitMQ 3.10.8")
     figures.write()
     return json.loads((folder / "kept.json").read_text(encoding="utf-8"))
@@ -57,7 +62,7 @@ def measured(folder):
 
 def draw(kept, out, *words):
     """The status, and what was told."""
-    done = subprocess.run([sys.executable, TOP / "bench" / "picture.py", kept, out, *words], capture_output=True, text=True)
+    done = subprocess.run([sys.executable, TOP / "bench" / "picture.py", kept, out, "--build", BUILD, *words], capture_output=True, text=True)
     return done.returncode, done.stdout + done.stderr
 
 
@@ -98,7 +103,11 @@ def try_picture(checks, kept, out, kind, pairs):
     said = [word for it in pairs.values() for text in it[2:] for word in text.split(" ", 1)]
     checks.same("the description has all figures and factors", [it for it in said if it not in told.text], [])
     checks.check("dark pages have colours of their own", "prefers-color-scheme: dark" in root.find(SVG + "style").text)
-    checks.check("the machine is named", MACHINE in [heard(it) for it in root.iter(SVG + "text")])
+    texts = [heard(it) for it in root.iter(SVG + "text")]
+    checks.check("the machine is named", MACHINE in texts)
+    checks.check("so is the build", f"stompd: {BUILD}" in texts)
+    checks.check("and which of them syncs a topic", any("topic" in it and "sync" in it for it in texts), texts)
+    checks.check("a line says that the first is better if short", any("but for the first" in it for it in texts) and list(pairs)[0] == "latency", texts)
 
 
 def without(told, *path):
