@@ -7,13 +7,16 @@ memory, traces of its system calls, and the clients. Its last line counts what p
 PROGRAM is the built program; without it, it is what `bin/build --any` makes. Needs Python 3; strace for the traces, `rt` and a C compiler for
 refused memory, Chromium and Debian's python3-stomp and python3-websocket for two of the clients, Node for the module and Debian's node-typescript
 for its types, dpkg and root for the package, systemd-analyze for its service, groff for the manual page, and nginx, HAProxy, Caddy, Apache and Docker for the recipes of deploy/. It
-takes some thirty minutes, and ends with status 0 only if nothing failed. With --light it runs the part that needs none of these, with fewer kills, in
-less than ten minutes; those that mostly wait run side by side.
+takes some thirty minutes, and ends with status 0 only if nothing failed. With --light it runs the part that needs none of these, or strace or Node
+where they are there, with fewer kills, in some ten minutes; those that mostly wait run side by side.
 """
 
 import argparse
 import dataclasses
+import functools
+import os
 import pathlib
+import shutil
 import subprocess
 import sys
 import time
@@ -23,14 +26,29 @@ TOP = pathlib.Path(__file__).resolve().parent.parent
 DEBIAN_PYTHON = pathlib.Path("/usr/bin/python3")
 
 
+# How it is tried whether a program does what scripts need it for: strace may trace and inject faults, and Node has a WebSocket.
+TRIES = {
+    "strace": ["strace", "-f", "-qq", "-o", os.devnull, "-e", "inject=fdatasync:error=EIO", "true"],
+    "node": ["node", "--experimental-websocket", "-e", "process.exit(typeof WebSocket === 'function' ? 0 : 1)"],
+}
+
+
+@functools.cache
+def works(name):
+    if shutil.which(name) is None:
+        return False
+    return subprocess.run(TRIES[name], stdin=subprocess.DEVNULL, stdout=subprocess.DEVNULL, stderr=subprocess.DEVNULL).returncode == 0
+
+
 @dataclasses.dataclass(frozen=True)
 class Script:
     """A script with its further words, of which N is the number of kills. `light` are those with which --light runs it: it needs Python 3 alone then,
-    and ends soon. With `None` it is left out."""
+    or the programs that it `needs`, and ends soon. With `None` it is left out; so it is if one of these is missing, which is told."""
 
     path: str
     words: str = ""
     light: str | None = None
+    needs: tuple[str, ...] = ()
     # Whether it mostly waits and looks at the clock: those that do run side by side, and with nothing else.
     waits: bool = False
 
@@ -39,6 +57,10 @@ class Script:
         words = [str(kills) if it == "N" else it for it in words.split()]
         runs = ["sh"] if self.path.endswith(".sh") else [DEBIAN_PYTHON if self.needs_debian() else sys.executable]
         return " ".join([self.path, *words]), [*runs, TOP / self.path, program, *words]
+
+    def lacks(self):
+        """Which of what it needs isn't there, or may not do here what it is needed for."""
+        return [it for it in self.needs if not works(it)]
 
     def needs_debian(self):
         return self.path.endswith("/independent.py") and DEBIAN_PYTHON.exists()
@@ -53,6 +75,7 @@ SCRIPTS = [
     Script("tests/program/closed_streams.py", light=""),
     Script("tests/program/ending.py", light="--few"),
     Script("tests/program/telling.py", light=""),
+    Script("tests/program/kinds.py", light="", waits=True),
     Script("tests/program/alerts.py", light=""),
     Script("tests/program/metrics.py", light=""),
     Script("tests/program/figures.py", light="", waits=True),
@@ -61,9 +84,9 @@ SCRIPTS = [
     Script("tests/program/logins.py", light=""),
     Script("tests/program/picture.py", light=""),
     Script("tests/program/trace_format.sh"),
-    Script("tests/program/trace_serve.py"),
-    Script("tests/program/failing_disk.py"),
-    Script("tests/program/lost_writes.py"),
+    Script("tests/program/trace_serve.py", light="", needs=("strace",)),
+    Script("tests/program/failing_disk.py", light="", needs=("strace",)),
+    Script("tests/program/lost_writes.py", light="", needs=("strace",)),
     Script("tests/program/start_calls.py"),
     Script("tests/program/replaced_journal.py", light=""),
     Script("tests/program/handshakes.py", light=""),
@@ -77,6 +100,7 @@ SCRIPTS = [
     Script("tests/attack/dear_frames.py"),
     Script("tests/attack/joins.py", light="--few"),
     Script("tests/program/memory_budget.py"),
+    Script("tests/program/holders.py", light=""),
     Script("tests/program/long_names.py", light=""),
     Script("tests/attack/soak.py", "--minutes 1"),
     Script("tests/program/waits.py", "--minutes 10", light="--minutes 1"),
@@ -99,7 +123,7 @@ SCRIPTS = [
     Script("tests/program/full_journal.py", light=""),
     Script("tests/program/restarts.py", light=""),
     Script("clients/browser.py"),
-    Script("clients/module.py"),
+    Script("clients/module.py", light="--engine Node --kills 1", needs=("node",)),
     Script("clients/module_types.py"),
     Script("clients/proxies.py"),
     Script("clients/secure_page.py"),
@@ -144,14 +168,16 @@ def run_side_by_side(calls, endings):
 def main():
     parser = argparse.ArgumentParser(description=__doc__, formatter_class=argparse.RawDescriptionHelpFormatter)
     parser.add_argument("program", nargs="?", type=pathlib.Path)
-    parser.add_argument("--light", action="store_true", help="the part that needs Python 3 alone, in less than ten minutes")
+    parser.add_argument("--light", action="store_true", help="the part that needs Python 3 alone, and strace or Node where they are there, in some ten minutes")
     parser.add_argument("--kills", type=int, default=100, help="how often each of those that kill the broker does so (100)")
     parser.add_argument("--only", default="", metavar="WORD", help="only the scripts in whose path or words this stands")
     words = parser.parse_args()
     program = words.program.resolve() if words.program else built_program()
     scripts, endings, start = [it for it in SCRIPTS if words.only in f"{it.path} {it.words}"], [], time.monotonic()
+    unmet = []
     if words.light:
-        light = [it for it in scripts if it.light is not None]
+        light = [it for it in scripts if it.light is not None and not it.lacks()]
+        unmet = [it for it in scripts if it.light is not None and it.lacks()]
         run_alone([it.call(program, it.light) for it in light if not it.waits], endings)
         run_side_by_side([it.call(program, it.light) for it in light if it.waits], endings)
     else:
@@ -165,8 +191,10 @@ def main():
         print(f"{name:46} {how} in {seconds:.0f} s")
     statuses = [status for _, status, _ in endings]
     passed, lacking = statuses.count(0), statuses.count(LACKS)
+    for it in unmet:
+        print(f"{it.path:46} not run: {' and '.join(it.lacks())} is missing, or may not do here what it is needed for")
     left_out = [it for it in SCRIPTS if words.light and it.light is None]
-    print(f"{passed} passed, {len(statuses) - passed - lacking} failed, {lacking} not run for want of a package, {len(left_out)} left out by --light")
+    print(f"{passed} passed, {len(statuses) - passed - lacking} failed, {lacking + len(unmet)} not run for want of a package, {len(left_out)} left out by --light")
     print(f"{time.monotonic() - start:.0f} s")
     return 0 if passed == len(statuses) else 1
 

@@ -7,7 +7,7 @@ line counts those that passed and that failed. It takes seconds, and needs Pytho
 PROGRAM is the built program; without it, the one that bin/stompd leaves in crates/stompd/out. With --only it runs those in whose folder or name the word
 stands. It ends with status 0 only if all passed and at least one ran.
 
-A script is FOLDER/NAME.script, a text for `stompd script` (docs/PROTOCOL.md, "Scripts"). Beside it stand NAME.txt, one line that says the rule that it
+A script is FOLDER/NAME.script, a text for `stompd script` (docs/SCRIPTS.md). Beside it stand NAME.txt, one line that says the rule that it
 shows, and NAME.out, what is printed. NAME.err has what is told on standard error, and NAME.status the status, if these are not empty and 0. Scripts too
 long for a file are made by tests/lib/long_scripts.py. A missing or a further file is a failure.
 

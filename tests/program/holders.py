@@ -1,0 +1,212 @@
+#!/usr/bin/env python3
+"""What clients hold counts for as long as they hold it, and whoever holds most is the one that is given up: a server whose clients may hold 16 MiB
+together, the least that there is. First three clients sit at each desk. One holds most, and three neighbours at another desk hold more than that
+together: only the first is given up. Then each of the ways in which a client may hold something is taken over and over, to many times the budget and
+given back each time: nobody is given up.
+
+    python3 tests/program/holders.py [PROGRAM]
+
+PROGRAM is the built program; without it, bin/stompd. It takes some 20 seconds, and needs Python 3 alone.
+"""
+
+import socket
+import sys
+import time
+
+from lib import scenario
+from lib.stomp_client import Client, Closed
+from lib.wire import TEXT, handshake, message_bytes, stomp_bytes
+
+# The least budget, and the desks of a server. A client comes to the desk that has the fewest, so the one of number N to desk N modulo 64.
+BUDGET, DESKS, A_DESK = 16_777_216, 64, 3
+# Members of transactions: the bytes of a body, and how many a transaction may have of these.
+MEMBER, A_TRANSACTION = 4_000, 64
+# Who holds most, and how many members; three at another desk, and how many each.
+MOST, MOST_MEMBERS, NEIGHBOURS, NEIGHBOUR_MEMBERS = 6 + DESKS, 125, (5, 5 + DESKS, 5 + 2 * DESKS), 80
+# All others get a member more in each round, until one is given up: at most so many rounds.
+ROUNDS = 25
+# How often the budget is passed by what is held and given back.
+OVER = 2
+# A message that fills what a message may have.
+LONGEST = 131_072
+# A head under the limit, with no end.
+HEAD = 16_000
+# A client that is disconnected is told so at once; one that isn't, is looked at for so long.
+QUIET = 0.3
+
+
+class Member:
+    """A client that sends members of transactions, each with a receipt."""
+
+    def __init__(self, port):
+        self.client, self.sent = Client(port, timeout=20).connect(), 0
+
+    def grow(self, members):
+        for number in range(self.sent, self.sent + members):
+            name = f"{number // A_TRANSACTION}"
+            if number % A_TRANSACTION == 0:
+                self.client.send("BEGIN", [("transaction", name)])
+            self.client.send("SEND", [("destination", "/queue/never"), ("transaction", name), ("receipt", f"{number}")], "x" * MEMBER)
+        for number in range(self.sent, self.sent + members):
+            self.client.receipt(f"{number}")
+        self.sent += members
+
+    def is_served(self):
+        return is_served(self.client)
+
+
+def is_served(client):
+    try:
+        client.publish("/topic/none", "x")
+    except (Closed, ConnectionError):
+        return False
+    return True
+
+
+def grow_until_one_is_given_up(clients, others):
+    """One after another of the others gets a member more, until the one that holds most hears something. Answers who ended meanwhile."""
+    for _ in range(ROUNDS):
+        for number in others:
+            try:
+                clients[number].grow(1)
+            except (Closed, ConnectionError):
+                return [number]
+            if clients[MOST].client.hears_within(0):
+                return []
+    return []
+
+
+def most_of_all(broker, checks):
+    """of 192 clients, three a desk, the one that holds most is given up and nobody else, though three at one desk hold more together"""
+    clients = [Member(broker.port) for _ in range(DESKS * A_DESK)]
+    clients[MOST].grow(MOST_MEMBERS)
+    for number in NEIGHBOURS:
+        clients[number].grow(NEIGHBOUR_MEMBERS)
+    others = [number for number in range(len(clients)) if number not in (MOST, *NEIGHBOURS)]
+    gone = grow_until_one_is_given_up(clients, others)
+    time.sleep(QUIET)
+    checks.same("nobody who held less was given up as it grew", gone, [])
+    left = [number for number, one in enumerate(clients) if not one.is_served()]
+    checks.same("the one that holds most is given up, and nobody else", left, [MOST])
+    for one in clients:
+        one.client.close()
+    time.sleep(1)
+
+
+def what_is_taken(broker, checks):
+    """readers of a day: what they took holds nothing more"""
+    readers = [Client(broker.port, timeout=20).connect() for _ in range(20)]
+    for one in readers:
+        one.subscribe("r", "/topic/day")
+    sender = Client(broker.port, timeout=20).connect()
+    # A place of an outbox has some 100 bytes: all of these have more than the budget.
+    messages, window = 5 * BUDGET // 4 // (100 * len(readers)), 200
+    for start in range(0, messages, window):
+        sender.publish_all("/topic/day", ["x"] * window)
+        for one in readers:
+            for _ in range(window):
+                one.receive()
+    checks.check(f"after {start + window} messages each of {len(readers)} readers is served", all(map(is_served, readers)))
+    checks.check("the sender too", is_served(sender))
+    for one in (*readers, sender):
+        one.close()
+
+
+def what_waited(broker, checks):
+    """what waited for a slow reader holds nothing more once it has read it"""
+    sender = Client(broker.port, timeout=20).connect()
+    for number in range(OVER + 1):
+        reader = Client(broker.port, timeout=20).connect()
+        reader.subscribe("r", f"/topic/late/{number}")
+        # Three fifths of the budget, of which the sockets take some.
+        count = 3 * BUDGET // 5 // 60_000
+        sender.publish_all(f"/topic/late/{number}", ["y" * 60_000] * count, window=8)
+        for _ in range(count):
+            reader.receive()
+        checks.check("who read late is served, and all others", is_served(reader) and is_served(sender))
+
+
+def members_that_ended(broker, checks):
+    """members that were committed, aborted or refused hold nothing more"""
+    client = Client(broker.port, timeout=20).connect()
+    for number in range(OVER * BUDGET // (60 * MEMBER)):
+        client.send("BEGIN", [("transaction", "t")])
+        for _ in range(60):
+            client.send("SEND", [("destination", "/topic/none"), ("transaction", "t")], "x" * MEMBER)
+        end = "COMMIT" if number % 2 else "ABORT"
+        client.send(end, [("transaction", "t"), ("receipt", f"{number}")])
+        client.receipt(f"{number}")
+    checks.check("whoever committed and aborted them is served", is_served(client))
+    leaver = [Member(broker.port) for _ in range(8)]
+    for _ in range(OVER):
+        for one in leaver:
+            one.grow(A_TRANSACTION * 4 - 8)
+        for one in leaver:
+            one.client.close()
+        leaver = [Member(broker.port) for _ in range(8)]
+        time.sleep(0.5)
+    checks.check("those who come after others that left theirs are served", all(one.is_served() for one in leaver) and is_served(client))
+    for one in leaver:
+        one.client.close()
+
+
+def messages_that_were_read(broker, checks):
+    """messages as long as may be hold nothing more once they were carried out, whole or in fragments"""
+    client = Client(broker.port, timeout=20).connect()
+    frame = stomp_bytes("SEND", [("destination", "/topic/none")], "z" * 60_000)
+    both = frame + stomp_bytes("SEND", [("destination", "/topic/none"), ("receipt", "both")], "z" * 60_000)
+    checks.check("two of these fit into a message", len(both) <= LONGEST, len(both))
+    for _ in range(OVER * BUDGET // LONGEST):
+        client.write(message_bytes(TEXT, both))
+        client.receipt("both")
+    checks.check("whoever sent them is served", is_served(client))
+    client.close()
+
+
+def heads_that_were_refused(broker, checks):
+    """heads that were refused, or left before their end, hold nothing more"""
+    witness = Client(broker.port, timeout=20).connect()
+    front = handshake(0)[:-2] + b"X-Long: "
+    head = front + b"x" * (HEAD - len(front))
+    for start in range(0, OVER * BUDGET // HEAD, 200):
+        some = [socket.create_connection(("127.0.0.1", broker.port), timeout=20) for _ in range(200)]
+        for one in some:
+            one.sendall(head)
+        for at, one in enumerate(some):
+            # Half of them go on over the limit, and hear that.
+            if at % 2:
+                one.sendall(b"x" * 2_000)
+                checks.check("a head over the limit is answered 431", one.recv(64).startswith(b"HTTP/1.1 431"), start) if at == 1 else one.recv(64)
+            one.close()
+        time.sleep(0.1)
+    checks.check("others are served on", is_served(witness))
+    witness.close()
+
+
+def with_least_budget(program, journal):
+    return scenario.Broker(program, journal, more=["--memory", str(BUDGET)])
+
+
+SCENARIOS = (what_is_taken, what_waited, members_that_ended, messages_that_were_read, heads_that_were_refused)
+
+
+def main():
+    program = scenario.words_of(__doc__).parse_args().program
+    scenario.take_descriptors()
+    checks, start = scenario.Checks(), time.monotonic()
+    with scenario.serving(program, kind=with_least_budget) as broker:
+        scenario.try_one(most_of_all, broker, checks)
+    # One broker for all, so that what an earlier one left counted is found by the next.
+    with scenario.serving(program, kind=with_least_budget) as broker:
+        for one in SCENARIOS:
+            scenario.try_one(one, broker, checks)
+        checks.check("the broker still runs", broker.is_running(), broker.process.poll())
+        broker.process.terminate()
+        log = broker.process.stderr.read().decode()
+        checks.check("nobody was given up", "gave up" not in log, log)
+    checks.tell(f"{time.monotonic() - start:.1f} s")
+    return checks.status()
+
+
+if __name__ == "__main__":
+    sys.exit(main())

@@ -1,0 +1,272 @@
+#!/usr/bin/env python3
+"""Provokes each thing that a server counts and tells its operator, and looks whether it is told, with how often it came. docs/RUNNING.md has the lines.
+
+    python3 tests/program/kinds.py [PROGRAM]
+
+PROGRAM is the built program; without it, bin/stompd. It takes some 65 seconds, in which it mostly waits, and needs Python 3 alone. Those that telling.py
+provokes are left out: clients without the subprotocol, those whose outbox is full, and those whose names have no room.
+"""
+
+import contextlib
+import fcntl
+import os
+import re
+import resource
+import socket
+import subprocess
+import sys
+import tempfile
+import threading
+import time
+
+from lib import scenario
+from lib.stomp_client import Client, Refused, WebSocket
+from lib.wire import handshake
+
+ORIGIN = "https://rooms.example"
+LEAST_BUDGET, FEW = 16_777_216, 300
+# A client that opens no session, and one that takes nothing, is given up after so many seconds; one that doesn't answer a close, after ten.
+GIVEN_UP, UNANSWERED = 60, 10
+# None is given up a second before that; and each was told within so many after it.
+EARLY, LATE = 1, 3
+# So many bytes of a subscriber's messages are more than sockets keep, and less than an outbox does.
+UNREAD, EACH = 200, 60_000
+# So many lines wait to be written at most.
+UNTOLD = 64
+
+
+class Told:
+    """A server, and what it tells on standard error."""
+
+    def __init__(self, program, more=(), limit=None, size=67_108_896):
+        self.folder = tempfile.TemporaryDirectory(prefix="kinds-")
+        journal = f"{self.folder.name}/journal"
+        subprocess.run([program, "format", "--sparse", journal, str(size)], check=True)
+        self.port, self.text = scenario.free_port(), ""
+        ours = (lambda: resource.setrlimit(resource.RLIMIT_NOFILE, (limit, limit))) if limit else None
+        self.reads, writes = os.pipe()
+        self.process = subprocess.Popen([program, "serve", journal, str(self.port), *more], stdout=subprocess.PIPE, stderr=writes, preexec_fn=ours)
+        # The server has it, and the test that fills it.
+        self.writes = writes
+        self.lock, self.reader = threading.Lock(), None
+        assert self.process.stdout.readline() == f"listening {self.port}\n".encode()
+
+    def listen(self):
+        self.reader = threading.Thread(target=self.read, daemon=True)
+        self.reader.start()
+
+    def read(self):
+        while piece := os.read(self.reads, 65_536):
+            with self.lock:
+                self.text += piece.decode()
+
+    def count(self, form):
+        """How many were told by lines of that form, which has a group for the number."""
+        with self.lock:
+            return sum(int(it) for it in re.findall(form, self.text))
+
+    def await_count(self, form, count, seconds):
+        end = time.monotonic() + seconds
+        while self.count(form) < count and time.monotonic() < end:
+            time.sleep(0.1)
+        return self.count(form)
+
+    def end(self):
+        self.process.kill()
+        self.process.wait()
+        self.process.stdout.close()
+        os.close(self.writes)
+        if self.reader:
+            self.reader.join()
+        os.close(self.reads)
+        self.folder.cleanup()
+
+
+@contextlib.contextmanager
+def told(program, listens=True, **options):
+    server = Told(program, **options)
+    if listens:
+        server.listen()
+    try:
+        yield server
+    finally:
+        server.end()
+
+
+def status_of(port, request):
+    with socket.create_connection(("127.0.0.1", port), timeout=5) as one:
+        one.sendall(request)
+        return one.recv(4096).split(b" ")[1].decode()
+
+
+def asked(port, changes=(), headers=()):
+    """A handshake in which lines are changed."""
+    request = handshake(port, headers=headers).decode()
+    for before, after in changes:
+        assert before in request, request
+        request = request.replace(before, after)
+    return request.encode()
+
+
+REQUESTS = (
+    ("refused (\\d+) malformed requests \\(400\\)", "400", lambda port: b"\x00 no request\r\n\r\n"),
+    ("refused (\\d+) pages of other origins \\(403\\)", "403", lambda port: asked(port, headers=[("Origin", "https://other.example")])),
+    ("refused (\\d+) requests by another method than GET \\(405\\)", "405", lambda port: asked(port, [("GET ", "POST ")])),
+    ("refused (\\d+) requests for no WebSocket \\(426\\)", "426", lambda port: b"GET / HTTP/1.1\r\nHost: a\r\n\r\n"),
+    ("refused (\\d+) requests for another version of WebSocket \\(426\\)", "426", lambda port: asked(port, [("Version: 13", "Version: 8")])),
+    ("refused (\\d+) requests with too large a head \\(431\\)", "431", lambda port: asked(port, headers=[("X-Long", "x" * 17_000)])),
+)
+
+
+def refused_requests(program, checks):
+    """handshakes that are refused, each by its status"""
+    with told(program, more=["--origin", ORIGIN]) as server:
+        for number, (form, status, request) in enumerate(REQUESTS, 1):
+            seen = [status_of(server.port, request(server.port)) for _ in range(number)]
+            checks.same(f"{form}: it is answered so", seen, [status] * number)
+        for number, (form, _, _) in enumerate(REQUESTS, 1):
+            checks.same(f"{form}: told, and how many", server.await_count(form, number, 3), number)
+
+
+def full(program, checks):
+    """a server that is full"""
+    with told(program, limit=FEW) as server:
+        server.await_count(r"(\d+) clients allowed", 1, 3)
+        clients = [Client(server.port).connect() for _ in range(server.count(r"(\d+) clients allowed"))]
+        for _ in range(3):
+            with contextlib.suppress(Refused):
+                WebSocket(server.port)
+                checks.check("one more is refused", False)
+        checks.same("three over the most", server.await_count(r"refused (\d+) clients over the most that are taken \(503\)", 3, 3), 3)
+        for one in clients:
+            one.close()
+
+
+def no_descriptors(program, checks):
+    """a server to which the system gives no descriptor any more"""
+    with told(program) as server:
+        here = Client(server.port).connect()
+        used = len(os.listdir(f"/proc/{server.process.pid}/fd"))
+        soft, hard = resource.prlimit(server.process.pid, resource.RLIMIT_NOFILE)
+        resource.prlimit(server.process.pid, resource.RLIMIT_NOFILE, (used, hard))
+        waiting = socket.create_connection(("127.0.0.1", server.port), timeout=5)
+        form = r"failed to accept (\d+) clients: out of descriptors or memory"
+        checks.check("that is told", server.await_count(form, 1, 3) >= 1, server.text)
+        time.sleep(1)
+        # It rests for 20 ms after each.
+        checks.check("and it is not tried more than fifty times a second", server.count(form) <= 150, server.count(form))
+        here.publish("/topic/none", "who was there is served")
+        resource.prlimit(server.process.pid, resource.RLIMIT_NOFILE, (soft, hard))
+        waiting.sendall(handshake(server.port))
+        checks.check("who waited is served once there are some", waiting.recv(64).startswith(b"HTTP/1.1 101"))
+        waiting.close()
+
+
+def most_memory(program, checks):
+    """a client that holds most of all, and more than all may"""
+    with told(program, more=["--memory", str(LEAST_BUDGET)]) as server:
+        sender, readers = Client(server.port).connect(), [Client(server.port, receive_bytes=4_096).connect() for _ in range(2)]
+        for one in readers:
+            one.subscribe("r", "/topic/large")
+        for _ in range(LEAST_BUDGET // EACH):
+            sender.publish("/topic/large", "x" * EACH)
+        checks.check("one or both are given up", 1 <= server.await_count(r"gave up (\d+) clients that took the most memory", 1, 3) <= 2, server.text)
+        checks.check("the sender is not", sender.publish("/topic/none", "served") == [])
+
+
+class Slow:
+    """Clients of one server that are given up after a time, and when that began for each kind: the first and the last of them."""
+
+    def __init__(self, port):
+        self.first, self.last = [], []
+        for kind in (self.answers_nothing, self.opens_nothing, self.takes_nothing):
+            self.first.append(time.monotonic())
+            kind(port)
+            self.last.append(time.monotonic())
+
+    def answers_nothing(self, port):
+        self.silent = Client(port).connect()
+        self.silent.send("DISCONNECT", [("receipt", "end")])
+        self.silent.receipt("end")
+
+    def opens_nothing(self, port):
+        self.unopened = [WebSocket(port) for _ in range(2)]
+
+    def takes_nothing(self, port):
+        self.readers = [Client(port, receive_bytes=4_096).connect() for _ in range(3)]
+        for one in self.readers:
+            one.subscribe("r", "/topic/unread")
+        sender = Client(port, timeout=20).connect()
+        for _ in range(UNREAD):
+            sender.publish("/topic/unread", "x" * EACH)
+        sender.disconnect()
+
+
+# In the order in which they become due.
+SLOW = (
+    ("gave up (\\d+) clients that answered no ping or close", 1, UNANSWERED),
+    ("gave up (\\d+) clients that opened no session in time", 2, GIVEN_UP),
+    ("gave up (\\d+) clients that took nothing for 60 s", 3, GIVEN_UP),
+)
+
+
+def given_up(program, checks):
+    """clients that don't answer a close, open no session, or take nothing: none before its time, and each soon after"""
+    with told(program) as server:
+        slow = Slow(server.port)
+        for (form, _, seconds), first in zip(SLOW, slow.first):
+            time.sleep(max(0, first + seconds - EARLY - time.monotonic()))
+            checks.same(f"{form}: none before its time", server.count(form), 0)
+        for (form, count, seconds), last in zip(SLOW, slow.last):
+            checks.same(f"{form}: told, and how many", server.await_count(form, count, max(0, last + seconds + LATE - time.monotonic())), count)
+        checks.same("and nobody else is given up", server.count(r"gave up (\d+)"), sum(count for _, count, _ in SLOW))
+
+
+def left_out(program, checks):
+    """lines that nobody reads: those over 64 are counted, and what was left out is told once somebody reads again"""
+    # A small journal is compacted often, and each time has a line.
+    with told(program, listens=False, size=1_048_608) as server:
+        # Until it is full.
+        flags = fcntl.fcntl(server.writes, fcntl.F_GETFL)
+        other = os.open(f"/proc/self/fd/{server.writes}", os.O_WRONLY | os.O_NONBLOCK)
+        with contextlib.suppress(BlockingIOError):
+            while True:
+                os.write(other, b"\n" * 4_096)
+        with contextlib.suppress(BlockingIOError):
+            while True:
+                os.write(other, b"\n")
+        os.close(other)
+        checks.same("the server's end is as it was", fcntl.fcntl(server.writes, fcntl.F_GETFL), flags)
+        sender = Client(server.port, timeout=20).connect()
+        # Some eight fill an area.
+        for start in range(8 * 2 * UNTOLD):
+            sender.publish("/topic/none", "x" * EACH)
+        server.listen()
+        left = server.await_count(r"left out (\d+) lines that nobody read in time", 1, 5)
+        lines = len(re.findall(r"^stompd: ", server.text, re.M))
+        checks.check("some were left out", left > 0, server.text[-500:])
+        checks.check(f"and {UNTOLD} at least are told", lines >= UNTOLD, lines)
+        checks.check("the server serves on", sender.publish("/topic/none", "x") == [])
+
+
+def main():
+    program = scenario.words_of(__doc__).parse_args().program
+    scenario.take_descriptors()
+    checks = scenario.Checks()
+    slow = threading.Thread(target=tried, args=(given_up, program, checks))
+    slow.start()
+    for part in (refused_requests, full, no_descriptors, most_memory, left_out):
+        tried(part, program, checks)
+    slow.join()
+    return checks.status()
+
+
+def tried(part, program, checks):
+    try:
+        part(program, checks)
+    except Exception as error:
+        checks.check(f"{part.__doc__} is tried to the end", False, repr(error))
+
+
+if __name__ == "__main__":
+    sys.exit(main())
