@@ -80,6 +80,7 @@ SCRIPTS = [
     Script("tests/program/metrics.py", light=""),
     Script("tests/program/figures.py", light="", waits=True),
     Script("tests/program/copies.py", light=""),
+    Script("tests/program/copies_meanwhile.py", light="", needs=("strace",)),
     Script("tests/program/serve_script.py", light="--few"),
     Script("tests/program/logins.py", light=""),
     Script("tests/program/picture.py", light=""),
