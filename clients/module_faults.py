@@ -6,8 +6,10 @@ import re
 from fake_broker import FakeBroker
 from lib.wire import BINARY, TEXT
 
-# So that a trial is short. The last ones are never met here.
-QUICK = "shortestPause: 20, longestPause: 2000, answerTimeout: 10000, waitTimeout: 10000, closeTimeout: 10000"
+# The shortest pause of a trial in which refusals follow each other, which a slow machine has to keep up with; and times with which others are short, of
+# which the last ones are never met.
+LONGER = 300
+QUICK = "shortestPause: 20, longestPause: 4000, answerTimeout: 10000, waitTimeout: 10000, closeTimeout: 10000"
 
 
 @contextlib.contextmanager
@@ -25,9 +27,9 @@ def pauses_of(engine):
     return [pause for _, pause, _ in engine.value("return it.states") if pause]
 
 
-def grows(pauses):
+def grows(pauses, first=20):
     """Whether each is twice the one before, a quarter shorter or longer."""
-    return all(0.75 * 20 * 2**number <= pause <= 1.25 * 20 * 2**number for number, pause in enumerate(pauses))
+    return all(0.75 * first * 2**number <= pause <= 1.25 * first * 2**number for number, pause in enumerate(pauses))
 
 
 def a_name_in_use(engine, checks):
@@ -80,14 +82,15 @@ def promises_left_alone(engine, checks):
 def refusals(engine, checks):
     """a refusal is of what was refused, and of nothing else"""
     run = engine.value
-    with opened(engine) as (fake, link):
+    # A refusal comes just after another if twice the pause has not passed, however slow this machine is.
+    with opened(engine, f"shortestPause: {LONGER}") as (fake, link):
         for number in range(4):
             run(f"globalThis.full = outcome(it.send('/topic/room', '{number}'))")
             link.refuse("E12 no room for the message", link.take())
             checks.same("a refused SEND is told so", run("return full"), "refused")
             link = fake.take()
         pauses = run("return it.states.filter(([state]) => state == 'refused').map(([, pause]) => pause)")
-        checks.check("the first is followed by no pause, and those just after it by pauses that grow", len(pauses) == 4 and pauses[0] == 0 and grows(pauses[1:]), pauses)
+        checks.check("the first is followed by no pause, and those just after it by pauses that grow", len(pauses) == 4 and pauses[0] == 0 and grows(pauses[1:], LONGER), pauses)
         run("await soon(() => it.state == 'open'); it.tell('/topic/full', 'told'); globalThis.after = outcome(it.send('/topic/room', 'after'))")
         link.take_all(2)
         link.refuse("E12 no room for the message")
@@ -146,6 +149,15 @@ def waits_end(engine, checks):
         run("await soon(() => it.state == 'open'); globalThis.silent = outcome(it.send('/topic/room', 'x'))")
         link.take()
         checks.same("a SEND without an answer is unknown in time", run("return silent"), "unknown")
+    with opened(engine, "waitTimeout: 300") as (fake, link):
+        link.drop()
+        run("await soon(() => !it.session); globalThis.late = outcome(it.send('/topic/room', 'once'))")
+        link = fake.take()
+        frame = link.take()
+        run("await soon(() => false, 0.6)")
+        link.accept(frame)
+        run("globalThis.next = outcome(it.send('/topic/room', 'next'))")
+        checks.same("what waited and was sent then is waited for, and not sent again", (frame.body, link.accept_next().body, run("return [await late, await next]")), (b"once", b"next", ["resolved", "resolved"]))
     with opened(engine, "closeTimeout: 200, answerTimeout: Infinity") as (fake, link):
         run("globalThis.doubt = outcome(it.send('/topic/room', 'x')); globalThis.sub = it.subscribe('/topic/room', () => {})")
         checks.same("a close of a dead link ends, and what had no answer is unknown", run("return [await outcome(it.close()), it.state, await doubt, await outcome(sub.ready)]"), ["resolved", "closed", "unknown", "unsent"])
@@ -181,6 +193,12 @@ def frames_are_right(engine, checks):
         link.message("s", "öx", number=3)
         told = run("await soon(() => heard.length == 3); return heard.map(it => [typeof it.body == 'string' ? it.body : [...it.body], [...it.bytes]])")
         checks.same("bytes come as such, and text as text", told, [[[10, 10, 255, 0]] * 2, ["\ufefföx", [239, 187, 191, 195, 182, 120]], ["öx", [195, 182, 120]]])
+        odd = "a\r\n:\\b"
+        run("globalThis.spelled = outcome(it.send('/topic/room', 'x', { 'k\\r\\n:\\\\': 'a\\r\\n:\\\\b' }))")
+        frame = link.accept_next()
+        checks.same("returns, ends of lines, colons and backslashes are escaped", (frame.headers.get("k\r\n:\\"), link.head.count(b"\r"), run("return spelled")), (odd, 0, "resolved"))
+        link.message("s", "twice", [("key", odd), ("key", "second")], number=4)
+        checks.same("and read again, and of a repeated header the first counts", run("await soon(() => heard.length == 4); return heard[3].headers.key"), odd)
         checks.same("headers have any name", run("return ['constructor', '__proto__', 'toString'].map(it => heard[0].headers[it])"), ["c", "p", "t"])
         checks.same("what is taken by itself isn't acknowledged", run("return outcome(heard[0].ack())"), "unsent")
         checks.same("a plain subscription has no name to give up", run("return outcome(sub.giveUp())"), "unsent")
