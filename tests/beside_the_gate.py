@@ -113,6 +113,7 @@ SCRIPTS = [
     Script("tests/program/rooms.py"),
     Script("tests/program/crowd.py", light=""),
     Script("tests/program/crowd.py", "--many"),
+    Script("tests/program/backpressure.py", light=""),
     Script("tests/program/slow_reader.py", light="--few"),
     Script("tests/program/steady_readers.py", light="", waits=True),
     Script("tests/program/starved_readers.py"),
