@@ -8,6 +8,7 @@ PROGRAM is the built program; without it, bin/stompd. It takes some ten seconds,
 """
 
 import select
+import socket
 import statistics
 import subprocess
 import sys
@@ -55,6 +56,7 @@ def send_until_full(client):
 def sends_and_reads_nothing(broker, checks):
     """a client that sends and reads nothing is read no further, hears all once it reads, and keeps nobody waiting"""
     client, other = Client(broker.port, receive_bytes=65_536).connect(), Client(broker.port).connect()
+    client.socket.setsockopt(socket.SOL_SOCKET, socket.SO_SNDBUF, 65_536)
     begun, left = send_until_full(client)
     checks.check("its socket is full before all are sent", begun < FRAMES, begun)
     checks.tell(f"{begun} frames were begun")

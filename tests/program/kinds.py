@@ -28,7 +28,7 @@ LEAST_BUDGET, FEW = 16_777_216, 300
 # A client that opens no session, and one that takes nothing, is given up after so many seconds; one that doesn't answer a close, after ten.
 GIVEN_UP, UNANSWERED = 60, 10
 # None is given up a second before that; and each was told within so many after it.
-EARLY, LATE = 1, 3
+EARLY, LATE = 1, 6
 # So many bytes of a subscriber's messages are more than sockets keep, and less than an outbox does.
 UNREAD, EACH = 200, 60_000
 # So many lines wait to be written at most.
