@@ -30,7 +30,7 @@ COMMANDS = {
     "copy": ("<FILE> <NEW> <BYTES>", ["--sparse"]),
     "ping": ("<PORT>", []),
     "send": ("<PORT> <DESTINATION> [BODY]", ["--header", "--lines"]),
-    "listen": ("<PORT> <DESTINATION>", ["--count", "--settle", "--durable", "--headers"]),
+    "listen": ("<PORT> <DESTINATION>", ["--count", "--settle", "--durable", "--headers", "--once", "--timeout"]),
     "forget": ("<PORT> <CLIENT> <NAME>", []),
     "serve": ("<FILE> <PORT>", ["--origin", "--threads", "--memory", "--until-eof"]),
     "script": ("", []),
@@ -95,6 +95,9 @@ def bad_words(program, checks):
     for count in ("0", "x", "-1", "18446744073709551616"):
         seen = run(program, "listen", port, "/topic/a", f"--count={count}")
         checks.same(f"a count {count!r}", seen, (2, b"", told(f"'{count}': --count takes a number from 1 on")))
+    for seconds in ("0", "x", "-1", "18446744073709551616"):
+        seen = run(program, "listen", port, "/topic/a", f"--timeout={seconds}")
+        checks.same(f"a timeout {seconds!r}", seen, (2, b"", told(f"'{seconds}': --timeout takes a number of seconds from 1 on")))
     for more in (["/queue/a"], ["/topic/a", "--durable", "c", "n"]):
         seen = run(program, "listen", port, *more, "--count", "17")
         checks.same(f"17 of {more} without --settle", seen, (2, b"", told("'17': without --settle at most 16 are shown of what others may get")))
@@ -254,12 +257,72 @@ def ends(program, checks):
         piped = subprocess.run(["bash", "-c", '"$@" | true; echo "${PIPESTATUS[0]}"', "bash", program, "listen", str(broker.port), "/queue/a", "--settle"], capture_output=True, text=True, timeout=60)
         checks.same("a pipe that is broken", (piped.stdout, piped.stderr), ("1\n", told("input or output failed")))
         checks.same("is not settled", held(program, broker), before)
-        with started(program, "listen", broker.port, "/topic/t") as listener:
+        with started(program, "listen", broker.port, "/topic/t", "--once") as listener:
             time.sleep(1)
             broker.process.send_signal(signal.SIGKILL)
             broker.process.wait()
             seen = listener.wait(10), listener.stdout.read(), listener.stderr.read().decode()
             checks.same("a server that is killed", seen, (1, b"", told("no more messages: the connection has ended")))
+
+
+GONE = "no more messages: the connection has ended; connecting again"
+
+
+def restarts(program, checks):
+    """One who listens connects again, and counts on. A durable name hears what it missed, and what was not settled comes once more."""
+    with serving(program) as broker:
+        durable = ["/topic/t", "--durable", "kiosk", "news", "--settle"]
+        run(program, "listen", broker.port, *durable, "--timeout", 1)
+        run(program, "send", broker.port, "/topic/t", "one")
+        with started(program, "listen", broker.port, *durable, "--count", 4) as listener:
+            checks.same("hears before a restart", listener.stdout.readline(), b"one\n")
+            for body in ("two", "three"):
+                broker.again()
+                run(program, "send", broker.port, "/topic/t", body)
+                checks.same(f"and {body} after one", listener.stdout.readline(), body.encode() + b"\n")
+            broker.kill()
+            time.sleep(3)
+            broker.serve()
+            run(program, "send", broker.port, "/topic/t", "four")
+            seen = listener.wait(20), listener.stdout.read(), listener.stderr.read().decode()
+            checks.same("and ends after four in all", seen, (0, b"four\n", 3 * told(GONE)))
+        checks.same("which it has taken", held(program, broker), ["0 0 durable client-id:kiosk activemq.subscriptionName:news"])
+        with started(program, "listen", broker.port, "/queue/a", "--timeout", 3) as listener:
+            time.sleep(1)
+            broker.kill()
+            seen = listener.wait(15), listener.stdout.read(), listener.stderr.read().decode()
+            checks.same("whose server stays away for so long as it waits", seen, (4, b"", told(GONE) + told(NONE)))
+    checks.same("no server from the first", run(program, "listen", broker.port, "/topic/t", "--timeout", 9), (1, b"", told(NOBODY)))
+    for what, step, text in (("an ERROR", saying(ERROR), "ERROR: E12 no room for the message"), ("a close by 1002", lambda peer, _: close(peer, 1002), "closed with 1002")):
+        peer = Peer(answering(connected, step))
+        seen = run(program, "listen", peer.port, "/queue/a")
+        peer.end()
+        checks.same(f"{what} ends it", seen, (1, b"", told(f"no more messages: {text}")))
+
+
+NONE = "no more messages: none came within --timeout"
+
+
+def timeouts(program, checks):
+    """Once no message has come for so long, the session ends in good order, with a status of its own."""
+    with serving(program) as broker:
+        for body in ("one", "two"):
+            run(program, "send", broker.port, "/queue/a", body)
+        began = time.monotonic()
+        seen = run(program, "listen", broker.port, "/queue/a", "--settle", "--timeout", 2)
+        took = time.monotonic() - began
+        checks.same("drains a queue", (seen, held(program, broker)), ((4, b"one\ntwo\n", told(NONE)), []))
+        checks.check("in two seconds", 2 <= took < 4, took)
+        run(program, "send", broker.port, "/queue/a", "three")
+        checks.same("ends before that after its count", run(program, "listen", broker.port, "/queue/a", "--settle", "--count", 1, "--timeout", 60), (0, b"three\n", ""))
+        with started(program, "listen", broker.port, "/topic/t", "--timeout", 2) as listener:
+            for number in range(4):
+                time.sleep(1)
+                run(program, "send", broker.port, "/topic/t", number)
+            checks.same("each message begins it anew", (listener.wait(10), listener.stdout.read()), (4, b"0\n1\n2\n3\n"))
+    steps = [connected, lambda *_: None, receipted]
+    seen, said = frames_said(program, ["listen", "/queue/a", "--timeout", "1"], *steps)
+    checks.same("it says DISCONNECT", (seen, said[2:]), ((4, b"", told(NONE)), [b"DISCONNECT\nreceipt:left\n\n\0"]))
 
 
 def answering(*steps):
@@ -319,7 +382,83 @@ def peers(program, checks):
     peer = Peer(answering(connected, receipted, ending))
     seen = run(program, "send", peer.port, "/queue/a", "--lines", given=b"one\ntwo\nthree\n")
     peer.end()
-    checks.same("a connection is lost within lines", seen, (1, b"", told("no RECEIPT: the connection has ended" + UNKNOWN) + told("1 lines before it were taken")))
+    lost = told("no RECEIPT: the connection has ended" + UNKNOWN) + told("1 lines before it were taken") + told(unsure(2))
+    checks.same("a connection is lost within lines", seen, (1, b"", lost))
+
+
+def unsure(count):
+    """What is told of lines that were sent, from the first on without a RECEIPT."""
+    return f"{count} lines from it on were sent; the server may have taken each of them, or not"
+
+
+def receipt(number):
+    return b"RECEIPT\nreceipt-id:%d\n\n\0" % number
+
+
+def broken_after(program, sent, payloads, leaves):
+    """What is told of so many lines, of which the peer hears all, says these frames, and leaves."""
+
+    def act(peer):
+        peer.shake()
+        connected(peer, peer.hear())
+        for _ in range(sent):
+            peer.hear()
+        for payload in payloads:
+            peer.say(payload)
+        leaves(peer, b"")
+        peer.wait()
+
+    peer = Peer(act)
+    seen = run(program, "send", peer.port, "/queue/a", "--lines", given=b"x\n" * sent)
+    peer.end()
+    return seen, peer.fault
+
+
+def windows(program, checks):
+    """Sixteen lines are under way at most, in their order. What was surely taken are the first lines, up to one without a RECEIPT."""
+    heard, early = [], []
+
+    def act(peer):
+        peer.shake()
+        connected(peer, peer.hear())
+        heard.extend(peer.hear()[1] for _ in range(16))
+        peer.socket.settimeout(1)
+        try:
+            early.append(peer.hear())
+        except TimeoutError:
+            pass
+        peer.socket.settimeout(30)
+        # In another order, and several in one piece.
+        peer.say(b"".join(receipt(number) for number in range(16, 0, -1)))
+        for number in range(17, 41):
+            heard.append(peer.hear()[1])
+            peer.say(receipt(number))
+        receipted(peer, peer.hear()[1])
+        close(peer)
+        peer.wait()
+
+    peer = Peer(act)
+    seen = run(program, "send", peer.port, "/queue/a", "--lines", given=b"".join(b"%d\n" % number for number in range(1, 41)))
+    peer.end()
+    wanted = [b"SEND\ndestination:/queue/a\nreceipt:%d\ncontent-length:%d\n\n%d\0" % (number, len(str(number)), number) for number in range(1, 41)]
+    checks.same("sixteen SENDs come before the first RECEIPT, and no more", (early, peer.fault), ([], None))
+    checks.same("forty lines in their order", (seen, heard), ((0, b"", ""), wanted))
+    ended = "no RECEIPT: the connection has ended" + UNKNOWN
+    for what, sent, payloads, leaves, text in (
+        ("four RECEIPTs of ten", 10, map(receipt, (1, 2, 3, 4)), ending, told(ended) + told("4 lines before it were taken") + told(unsure(6))),
+        ("four, and that of the sixth", 10, map(receipt, (6, 4, 3, 2, 1)), ending, told(ended) + told("4 lines before it were taken") + told(unsure(6))),
+        ("all but the first", 3, map(receipt, (2, 3)), ending, told(ended) + told("0 lines before it were taken") + told(unsure(3))),
+        ("all but the last", 3, map(receipt, (1, 2)), ending, told(ended) + told("2 lines before it were taken")),
+        ("a RECEIPT twice", 3, map(receipt, (1, 1)), ending, told("no RECEIPT: RECEIPT came" + UNKNOWN) + told("1 lines before it were taken") + told(unsure(2))),
+        ("an ERROR after two", 3, [receipt(1), receipt(2), ERROR], ending, told("no RECEIPT: ERROR: E12 no room for the message") + told("2 lines before it were taken")),
+        ("a close after two", 4, map(receipt, (1, 2)), lambda peer, _: close(peer, 1001), told("no RECEIPT: closed with 1001" + UNKNOWN) + told("2 lines before it were taken") + told(unsure(2))),
+    ):
+        checks.same(f"lines are answered by {what}", broken_after(program, sent, payloads, leaves), ((1, b"", text), None))
+    with serving(program) as broker:
+        seen = run(program, "send", broker.port, "/queue/a", "--lines", given=b"".join(b"%d\n" % number for number in range(500)))
+        checks.same("five hundred lines", seen, (0, b"", ""))
+        seen = run(program, "listen", broker.port, "/queue/a", "--settle", "--count", 500)
+        checks.same("arrive in their order", seen, (0, b"".join(b"%d\n" % number for number in range(500)), ""))
 
 
 def frames_said(program, words, *steps):
@@ -394,7 +533,7 @@ def main():
     signal.signal(signal.SIGINT, signal.default_int_handler)
     program = built_program(words_of(__doc__, BUILT).parse_args())
     checks, start = Checks(), time.monotonic()
-    for scenario in (helps, bad_words, bodies, receipts, lines, peeks, durables, ends, peers, frames, farewells):
+    for scenario in (helps, bad_words, bodies, receipts, lines, peeks, durables, ends, restarts, timeouts, peers, windows, frames, farewells):
         scenario(program, checks)
     print(f"{checks.failed} checks failed, in {time.monotonic() - start:.0f} s")
     sys.exit(1 if checks.failed else 0)

@@ -1,4 +1,6 @@
 mod Doing
 mod Leaving
+mod Rising
+mod Settling
 mod Showing
 pub mod Turns

@@ -1,6 +1,9 @@
 pub mod Answers
+pub mod Courses
 pub mod Deeds
+pub mod Lines
 pub mod Listening
 pub mod Requests
 pub mod Talks
 pub mod Texts
+pub mod Windows

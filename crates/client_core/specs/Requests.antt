@@ -27,13 +27,20 @@ connect_frame host client = record {
 abbrev pub texts : List (Bor (List ℕ) × Bor (List ℕ)) → List (List ℕ × List ℕ)
 texts given = map (λ h. (h.0.now, h.1.now)) given
 
--- STOMP 1.2, "SEND": to its destination, with a receipt, and then the further headers
-abbrev pub send_frame : Outgoing → Frame
-send_frame m = record {
+-- STOMP 1.2, "SEND": to its destination, with that receipt, and then the further headers
+abbrev pub asked_frame : List ℕ → Outgoing → Frame
+asked_frame receipt m = record {
   verb = verbs.Send;
-  headers = (codes "destination", m.destination.now) ∷ (codes "receipt", codes "sent") ∷ (codes "content-length", decimal (length m.body.now)) ∷ texts m.headers.now;
+  headers = (codes "destination", m.destination.now) ∷ (codes "receipt", receipt) ∷ (codes "content-length", decimal (length m.body.now)) ∷ texts m.headers.now;
   body = m.body.now;
 }
+
+abbrev pub send_frame : Outgoing → Frame
+send_frame m = asked_frame (codes "sent") m
+
+-- that of a line, whose receipt is its number
+abbrev pub line_frame : ℕ → Outgoing → Frame
+line_frame number m = asked_frame (decimal number) m
 
 abbrev pub is_unnamed : Option (Bor (List ℕ)) → Bool
 is_unnamed None = true

@@ -1,9 +1,9 @@
 -- What is told of a conversation that was not finished.
-use Rattle.std.specs.Prelude.{Bool, List, [], ℕ, ◌++◌, ◌==◌, codes, cond, false, true}
+use Rattle.std.specs.Prelude.{Bool, List, [], ℕ, ◌++◌, ◌==◌, ◌||◌, codes, cond, false, true}
 use Rattle.std.specs.Fmt.{decimal}
 use Rattle.frame_core.specs.Verbs.{name_of}
 use Rattle.client_core.specs.declared.fault.Cause.{Cause}
-use Rattle.client_core.specs.declared.fault.Cause.TheVariants.{Unserved, NoHost, Late, Silent, Status, NotWebSocket, Closed, Ended, Error, Other, NotStomp, Unwritable, Memory, System}
+use Rattle.client_core.specs.declared.fault.Cause.TheVariants.{Unserved, NoHost, Late, Silent, Status, NotWebSocket, Closed, Ended, Error, Other, NotStomp, Unwritable, Memory, System, Quiet}
 use Rattle.client_core.specs.declared.fault.Cause.TheVariants as causes
 use Rattle.client_core.specs.declared.fault.ClientFault.{ClientFault}
 use Rattle.client_core.specs.declared.fault.Step.{Step}
@@ -37,6 +37,7 @@ cause_text Unwritable = codes "no frame can have such a header"
 cause_text causes.Output = codes "input or output failed"
 cause_text Memory = codes "out of memory"
 cause_text System = codes "the system refuses it"
+cause_text Quiet = codes "none came within --timeout"
 
 abbrev pub client_text : ClientFault → List ℕ
 client_text fault = step_text fault.step ++ cause_text fault.cause
@@ -56,3 +57,39 @@ is_unknown _ _ = false
 -- the status of a ping that was not answered: a server that is full is alive
 abbrev pub ping_status : ClientFault → ℕ
 ping_status fault = cond (is_of_full fault.step fault.cause) 3 1
+
+-- no message came for as long as was allowed
+abbrev pub is_quiet : Cause → Bool
+is_quiet Quiet = true
+is_quiet _ = false
+
+-- the status of a conversation that was not finished: that of a ping, or its own if no message came
+abbrev pub call_status : ClientFault → ℕ
+call_status fault = cond (is_quiet fault.cause) 4 (ping_status fault)
+
+-- The server or the connection is gone, and may be there again: nobody listens or answers in time, the connection has ended, or it was
+-- closed since the server goes away, starts again or has no time (RFC 6455, section 7.4.1, and its registry: 1001, 1012, 1013); or what
+-- stands before the server does not reach it (RFC 9110, 15.6.3 to 15.6.5).
+abbrev pub is_gone : Cause → Bool
+is_gone Unserved = true
+is_gone Late = true
+is_gone Ended = true
+is_gone (Closed code) = code == 1001 || code == 1012 || code == 1013
+is_gone (Status status) = status == 502 || status == 503 || status == 504
+is_gone _ = false
+
+-- the step is of a session that has begun
+abbrev pub is_of_session : Step → Bool
+is_of_session Message = true
+is_of_session Output = true
+is_of_session Farewell = true
+is_of_session Close = true
+is_of_session _ = false
+
+-- the step comes before a message, so nothing is lost if it is done again
+abbrev pub is_before_message : Step → Bool
+is_before_message Connection = true
+is_before_message Handshake = true
+is_before_message Connected = true
+is_before_message Message = true
+is_before_message _ = false

@@ -26,7 +26,27 @@ pub enum Step {
 
 impl Step {
     ghost use Rattle.std.specs.Prelude.{◌≡◌};
-    ghost use Rattle.client_core.specs.Texts.{step_text};
+    ghost use Rattle.client_core.specs.Texts.{is_before_message, is_of_session, step_text};
+
+    /// Whether it is of a session that has begun.
+    pub fn is_of_session(self) -> bool
+        ensures { result ≡ is_of_session self }
+    {
+        matches!(
+            self,
+            Step::Message | Step::Output | Step::Farewell | Step::Close
+        )
+    }
+
+    /// Whether it comes before a message, so that nothing is lost if it is done again.
+    pub fn is_before_message(self) -> bool
+        ensures { result ≡ is_before_message self }
+    {
+        matches!(
+            self,
+            Step::Connection | Step::Handshake | Step::Connected | Step::Message
+        )
+    }
 
     /// What did not come.
     pub fn text(self) -> &'static str
@@ -78,6 +98,8 @@ pub enum Cause {
     Memory,
     /// The system refused a call.
     System,
+    /// No message has come for as long as the plan allows.
+    Quiet,
 }
 
 /// The text for the user.
@@ -104,6 +126,7 @@ impl fmt::Display for Cause {
             Cause::Output => f.write_str("input or output failed"),
             Cause::Memory => f.write_str("out of memory"),
             Cause::System => f.write_str("the system refuses it"),
+            Cause::Quiet => f.write_str("none came within --timeout"),
         }
     }
 }
@@ -141,6 +164,30 @@ impl ClientFault {
         match (self.step, &self.cause) {
             (Step::Receipt, Cause::Error(_) | Cause::Unwritable) => false,
             (Step::Receipt, _) => true,
+            _ => false,
+        }
+    }
+}
+
+impl ClientFault {
+    ghost use Rattle.std.specs.Prelude.{◌≡◌};
+    ghost use Rattle.client_core.specs.Texts.{is_gone, is_quiet};
+
+    /// Whether no message has come for as long as the plan allows.
+    pub fn is_quiet(&self) -> bool
+        ensures { result ≡ is_quiet self.now.cause }
+    {
+        matches!(self.cause, Cause::Quiet)
+    }
+
+    /// Whether the server, or the connection to it, is gone, and may be there again later.
+    pub fn is_of_gone_server(&self) -> bool
+        ensures { result ≡ is_gone self.now.cause }
+    {
+        match &self.cause {
+            Cause::Unserved | Cause::Late | Cause::Ended => true,
+            Cause::Closed(code) => *code == 1001 || *code == 1012 || *code == 1013,
+            Cause::Status(status) => *status == 502 || *status == 503 || *status == 504,
             _ => false,
         }
     }

@@ -60,10 +60,22 @@ fn hear_all<L: Listener>(
 {
     match hear_messages(alloc, plan, reader, peer) {
         Ok(()) => leave_after(alloc, reader, peer),
+        Err(Cause::Quiet) => {
+            leave_after(alloc, reader, peer)?;
+            Err(quiet())
+        }
         Err(cause) => Err(ClientFault {
             step: step_by(&cause),
             cause,
         }),
+    }
+}
+
+// The fault if no message has come for as long as the plan allows.
+fn quiet() -> ClientFault {
+    ClientFault {
+        step: Step::Message,
+        cause: Cause::Quiet,
     }
 }
 

@@ -22,6 +22,10 @@ pub trait Peer {
         ensures told { IfOk result (λ bytes. Adds (Heard bytes.items ∷ []) (talk self.old) (talk self.new)) }
         ensures cause { IfErr result IsOfPeer };
 
+    /// Begins a step in which nothing is said. If the system does not tell the time, the step before goes on.
+    fn renew(&mut self)
+        ensures told { talk self.new ≡ talk self.old };
+
     /// Closes the connection in good order. This begins a step.
     fn close(&mut self) -> Result<(), Cause>
         ensures told { talk self.new ≡ talk self.old }

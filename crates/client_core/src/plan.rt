@@ -24,6 +24,10 @@ pub struct Plan<'a> {
     pub settles: bool,
     /// Whether the headers of a message are shown before its body.
     pub with_headers: bool,
+    /// Whether it ends once its connection does.
+    pub is_once: bool,
+    /// For how many seconds no message may come, if it is not to wait as long as it takes.
+    pub timeout: Option<u64>,
 }
 
 impl Plan<'_> {

@@ -59,7 +59,7 @@ fn is_connected(verb: Verb) -> bool
     matches!(verb, Verb::Connected)
 }
 
-fn is_receipt(verb: Verb) -> bool
+pub(crate) fn is_receipt(verb: Verb) -> bool
     ensures { IsTrue result ↔ (verb ≡ Receipt) }
 {
     matches!(verb, Verb::Receipt)

@@ -2,7 +2,7 @@
 
 ghost use Rattle.std.specs.Prelude.{◌≡◌, ◌++◌, ◌∷◌, [], IfErr, IfOk, OnOk, codes, decimal, length};
 ghost use Rattle.frame_core.specs.Written.{written};
-ghost use Rattle.client_core.specs.Requests.{ack_frame, connect_frame, forget_frame, send_frame, subscribe_frame, texts};
+ghost use Rattle.client_core.specs.Requests.{ack_frame, asked_frame, connect_frame, forget_frame, line_frame, send_frame, subscribe_frame, texts};
 ghost use Rattle.client_core.specs.Talks.{IsOfPeer};
 
 use crate::fault::Cause;
@@ -29,9 +29,32 @@ pub fn send_text(alloc: Global, message: &Outgoing<'_>) -> Result<Vec<u8>, Cause
     ensures ok { IfOk result (λ text. text.items ≡ written (send_frame message.now)) }
     ensures cause { IfErr result IsOfPeer }
 {
+    asked_text(alloc, "sent", message)
+}
+
+/// SEND of the line of that number, whose receipt is the number.
+pub fn line_text(alloc: Global, number: u64, message: &Outgoing<'_>) -> Result<Vec<u8>, Cause>
+    ensures ok { IfOk result (λ text. text.items ≡ written (line_frame number message.now)) }
+    ensures cause { IfErr result IsOfPeer }
+{
+    match format!(in alloc; "{number}") {
+        Ok(receipt) => {
+            let text = asked_text(alloc, receipt.as_str(), message);
+            drop(receipt);
+            text
+        }
+        Err(_) => Err(Cause::Memory),
+    }
+}
+
+// SEND of a message, with that receipt.
+fn asked_text(alloc: Global, receipt: &str, message: &Outgoing<'_>) -> Result<Vec<u8>, Cause>
+    ensures ok { IfOk result (λ text. text.items ≡ written (asked_frame receipt.now message.now)) }
+    ensures cause { IfErr result IsOfPeer }
+{
     let mut headers = Vec::new(alloc);
     add(alloc, &mut headers, "destination", message.destination)?;
-    add(alloc, &mut headers, "receipt", "sent")?;
+    add(alloc, &mut headers, "receipt", receipt)?;
     add_length(alloc, &mut headers, message.body)?;
     add_all(alloc, &mut headers, message.headers)?;
     spelled(alloc, Verb::Send, headers, message.body)

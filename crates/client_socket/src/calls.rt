@@ -3,18 +3,16 @@
 ghost use Rattle.std.specs.Prelude.{◌≡◌, ◌⊎◌, IfErr, None};
 ghost use Rattle.client_core.specs.Talks.{BreaksOff, HasReason, IsOfPeer};
 
-use crate::listener::Shown;
 use crate::reaching::connect;
 use crate::web_peer::WebPeer;
-use client_core::{Address, ClientFault, Outgoing, Plan, converse, forget_once, send_once};
+use client_core::{Address, ClientFault, Outgoing, converse, forget_once, send_once};
 use std::alloc::Global;
-use std::io::Write;
 use std::net::{Net, TcpStream};
 use std::random::RandomSource;
 use std::time::{Clock, Duration};
 
 // The virtual host that is named. The broker knows none.
-const HOST: &str = "127.0.0.1";
+pub(crate) const HOST: &str = "127.0.0.1";
 
 /// Finds out whether a server of STOMP 1.2 over WebSocket answers at that address, and how long it is from a SEND to its RECEIPT. The
 /// SEND goes to `/topic/stompd-ping`. Each step may take five seconds. The fault names the first step that goes wrong.
@@ -103,26 +101,4 @@ where
         }
         Err(fault) => Err(fault),
     }
-}
-
-/// Listens at the server at that address as the plan has it, perhaps with a `client-id`, and writes what comes.
-pub fn listen<R, W: Write>(
-    rt: &R,
-    alloc: Global,
-    address: Address<'_>,
-    client: Option<&str>,
-    plan: &Plan<'_>,
-    writer: &mut W,
-) -> Result<(), ClientFault>
-where
-    R: Net<Stream = TcpStream> + Clock + RandomSource + Clone + Drop,
-{
-    let mut peer = connect(rt, alloc, address, "/")?;
-    let mut shown = Shown {
-        peer: &mut peer,
-        writer,
-    };
-    let listened = client_core::listen(alloc, HOST, client, plan, &mut shown);
-    drop(peer);
-    listened
 }

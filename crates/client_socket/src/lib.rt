@@ -6,9 +6,12 @@ mod calls;
 mod causes;
 mod lines;
 mod listener;
+mod listening;
+mod patience;
 mod reaching;
 mod timed;
 mod web_peer;
 
-pub use calls::{forget, listen, ping, send};
-pub use lines::{BODY_BYTES, InputFault, Way, body_of, send_lines};
+pub use calls::{forget, ping, send};
+pub use lines::{BODY_BYTES, InputFault, Sent, Way, body_of, send_lines};
+pub use listening::{Ear, listen};

@@ -1,12 +1,12 @@
 //! Messages from a stream.
 
 ghost use Rattle.std.specs.Prelude.{◌≡◌, ◌≢◌, ◌≤◌, [], IfErr, IfOk, IfSome, length};
-ghost use Rattle.client_core.specs.Talks.{HasReason};
-ghost use Rattle.client_socket.specs.Inputs.{IsLineFault, IsNoBody};
+ghost use Rattle.client_socket.specs.Inputs.{IsLineFault, IsNoBody, IsUnsent};
 
 use crate::calls::open;
 use crate::web_peer::WebPeer;
-use client_core::{Address, ClientFault, Outgoing};
+use client_core::{Address, ClientFault, Input, Outgoing, Turn, Window, hear_receipts};
+use frame_core::FrameReader;
 use std::alloc::Global;
 use std::io;
 use std::io::{BufRead, BufReader, Read};
@@ -16,6 +16,9 @@ use std::time::{Clock, Duration, Instant};
 
 /// How many bytes a body may have (docs/PROTOCOL.md, "Limits").
 pub const BODY_BYTES: u64 = 65_536;
+
+// How many bytes are read ahead of lines.
+const INPUT_BYTES: usize = 65_536;
 
 // After how many seconds of waiting for a line a connection is made anew: its pings were not answered meanwhile.
 const IDLE_SECONDS: u64 = 10;
@@ -60,71 +63,129 @@ pub struct Way<'a, R> {
     pub headers: &'a [(&'a str, &'a str)],
 }
 
-/// Sends each line of a stream as a message, once the one before has its RECEIPT. Answers how many were taken, and why no more. How the
-/// last session ends changes nothing.
-pub fn send_lines<R, I>(way: &Way<'_, R>, input: I) -> (u64, Result<(), InputFault>)
+// A connection, and the beginning of a frame that it may have brought.
+#[derive(Drop)]
+struct Link<R> {
+    peer: WebPeer<R>,
+    reader: FrameReader,
+}
+
+/// What became of the lines of a stream.
+#[derive(Drop)]
+pub struct Sent {
+    /// How many were surely taken: of all of these the RECEIPTs have come, and not of the next.
+    pub taken: u64,
+    /// How many more were sent after these. The server may have taken each of them, or not.
+    pub unsure: u64,
+    /// Why no more were sent; `Ok` if all were taken.
+    pub ended: Result<(), InputFault>,
+}
+
+/// Sends each line of a stream as a message, in their order. Up to 16 are under way, of which no RECEIPT has come yet; one that is read is
+/// sent at once, if fewer are. How the last session ends changes nothing.
+pub fn send_lines<R, I>(way: &Way<'_, R>, input: I) -> Sent
 where
     R: Net<Stream = TcpStream> + Clock + RandomSource + Clone + Drop,
     I: Read + Drop,
-    ensures { IfErr result.1 IsLineFault }
+    ensures { IfErr result.ended IsLineFault }
 {
-    let Ok(mut reader) = BufReader::new(way.alloc, input) else {
-        return (0, Err(InputFault::Memory));
+    let mut window = Window::new(way.alloc);
+    let ended = match BufReader::with_capacity(way.alloc, INPUT_BYTES, input) {
+        Ok(reader) => send_input(way, reader, &mut window),
+        Err(_) => Err(InputFault::Memory),
     };
-    let mut peer = None;
-    let mut taken = 0;
-    let ended = send_all(way, &mut reader, &mut peer, &mut taken);
-    drop(reader);
-    match (&ended, peer) {
-        (Ok(()), Some(open)) => leave(way.alloc, open),
-        (_, peer) => drop(peer),
+    let (taken, sent) = (window.taken(), window.sent());
+    drop(window);
+    Sent {
+        taken,
+        unsure: sent.saturating_sub(taken),
+        ended,
     }
-    (taken, ended)
 }
 
-// Sends lines until there are no more, and counts those that were taken.
-fn send_all<R, I>(
+// Sends all lines, and ends the session.
+fn send_input<R, I>(
     way: &Way<'_, R>,
-    reader: &mut BufReader<I>,
-    peer: &mut Option<WebPeer<R>>,
-    taken: &mut u64,
+    reader: BufReader<I>,
+    window: &mut Window,
 ) -> Result<(), InputFault>
 where
     R: Net<Stream = TcpStream> + Clock + RandomSource + Clone + Drop,
     I: Read + Drop,
     ensures { IfErr result IsLineFault }
 {
-    for count in 1..u64::MAX {
-        if !send_next(way, reader, peer)? {
-            return Ok(());
-        }
-        *taken = count;
+    let mut reader = reader;
+    let mut link = None;
+    let ended = send_all(way, &mut reader, window, &mut link);
+    drop(reader);
+    match (&ended, link) {
+        (Ok(()), Some(open)) => leave(way.alloc, open),
+        (_, link) => drop(link),
     }
-    Ok(())
+    ended
 }
 
-// Sends the next line, if there is one.
-fn send_next<R, I>(
+// Sends lines and hears RECEIPTs, as the window has it, until each line has its RECEIPT and no more are to come.
+fn send_all<R, I>(
     way: &Way<'_, R>,
     reader: &mut BufReader<I>,
-    peer: &mut Option<WebPeer<R>>,
-) -> Result<bool, InputFault>
+    window: &mut Window,
+    link: &mut Option<Link<R>>,
+) -> Result<(), InputFault>
 where
     R: Net<Stream = TcpStream> + Clock + RandomSource + Clone + Drop,
     I: Read + Drop,
     ensures { IfErr result IsLineFault }
 {
-    let began = Instant::now(way.rt);
-    let Some(line) = next_line(way.alloc, reader)? else {
-        return Ok(false);
-    };
-    if is_stale(way.rt, began) {
-        drop(peer.take());
+    let mut over = None;
+    for _turn in 0..u64::MAX {
+        match window.turn(input_of(reader, over.is_some())) {
+            Turn::Send => over = send_next(way, reader, window, link)?,
+            Turn::Hear => hear_next(way, window, link)?,
+            Turn::End => return over.unwrap_or(Ok(())),
+        }
     }
-    let sent = send_line(way, peer, line.as_slice());
+    drop(over);
+    Err(InputFault::Input)
+}
+
+// What there is of the next line.
+fn input_of<I: Read + Drop>(reader: &BufReader<I>, is_over: bool) -> Input {
+    if is_over {
+        return Input::Ended;
+    }
+    if reader.buffer().contains(&b'\n') {
+        return Input::AtHand;
+    }
+    Input::Awaited
+}
+
+// Sends the next line. If there is none, it answers why: the stream has ended, or what comes is no line.
+fn send_next<R, I>(
+    way: &Way<'_, R>,
+    reader: &mut BufReader<I>,
+    window: &mut Window,
+    link: &mut Option<Link<R>>,
+) -> Result<Option<Result<(), InputFault>>, InputFault>
+where
+    R: Net<Stream = TcpStream> + Clock + RandomSource + Clone + Drop,
+    I: Read + Drop,
+    ensures fault { IfErr result IsLineFault }
+    ensures over { IfOk result (λ over. IfSome over (λ ended. IfErr ended IsLineFault)) }
+{
+    let began = Instant::now(way.rt);
+    let line = match next_line(way.alloc, reader) {
+        Ok(Some(line)) => line,
+        Ok(None) => return Ok(Some(Ok(()))),
+        Err(fault) => return Ok(Some(Err(fault))),
+    };
+    if window.under_way() == 0 && is_stale(way.rt, began) {
+        drop(link.take());
+    }
+    let sent = send_line(way, window, link, line.as_slice());
     drop(line);
     match sent {
-        Ok(()) => Ok(true),
+        Ok(()) => Ok(None),
         Err(fault) => Err(InputFault::Client(fault)),
     }
 }
@@ -143,29 +204,56 @@ fn is_stale<C: Clock>(clock: &C, began: io::Result<Instant>) -> bool {
 // Sends a line over the connection that there is, or a new one.
 fn send_line<R>(
     way: &Way<'_, R>,
-    peer: &mut Option<WebPeer<R>>,
+    window: &mut Window,
+    link: &mut Option<Link<R>>,
     body: &[u8],
 ) -> Result<(), ClientFault>
 where
     R: Net<Stream = TcpStream> + Clock + RandomSource + Clone + Drop,
-    ensures { IfErr result HasReason }
+    ensures { IfErr result IsUnsent }
 {
-    if peer.is_none() {
-        *peer = Some(open(way.rt, way.alloc, way.address, None)?);
+    if link.is_none() {
+        *link = Some(Link {
+            peer: open(way.rt, way.alloc, way.address, None)?,
+            reader: FrameReader::new(way.alloc),
+        });
     }
     let message = Outgoing {
         destination: way.destination,
         headers: way.headers,
         body,
     };
-    match peer {
-        Some(peer) => client_core::send(way.alloc, &message, peer),
+    match link {
+        Some(Link { peer, reader }) => {
+            client_core::send_line(way.alloc, window, &message, reader, peer)
+        }
         None => Ok(()),
     }
 }
 
+// Hears the next bytes over the connection that there is.
+fn hear_next<R>(
+    way: &Way<'_, R>,
+    window: &mut Window,
+    link: &mut Option<Link<R>>,
+) -> Result<(), InputFault>
+where
+    R: Clock + RandomSource + Drop,
+    ensures { IfErr result IsLineFault }
+{
+    let Some(Link { peer, reader }) = link else {
+        return Err(InputFault::Input);
+    };
+    match hear_receipts(way.alloc, window, reader, peer) {
+        Ok(()) => Ok(()),
+        Err(fault) => Err(InputFault::Client(fault)),
+    }
+}
+
 // Ends the session of the last connection, as far as the server goes along with that: each line has its RECEIPT.
-fn leave<R: Clock + RandomSource + Drop>(alloc: Global, peer: WebPeer<R>) {
+fn leave<R: Clock + RandomSource + Drop>(alloc: Global, link: Link<R>) {
+    let Link { peer, reader } = link;
+    drop(reader);
     let mut peer = peer;
     drop(client_core::leave(alloc, &mut peer));
     drop(peer);

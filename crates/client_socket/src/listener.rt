@@ -3,18 +3,22 @@
 ghost use Rattle.std.specs.Prelude.{IfErr};
 ghost use Rattle.client_core.specs.Talks.{IsOfPeer};
 
+use crate::patience::Patience;
 use crate::timed::PATIENCE_SECONDS;
 use crate::web_peer::WebPeer;
 use client_core::{Cause, Listener, Peer};
 use std::io::Write;
 use std::random::RandomSource;
-use std::time::Clock;
+use std::time::{Clock, Duration};
 
-/// A peer, and where its messages are shown.
+/// A peer, where its messages are shown, how many were, and how long none may come.
 #[derive(Drop)]
 pub struct Shown<'a, 'b, R, W> {
+    pub clock: &'a R,
     pub peer: &'a mut WebPeer<R>,
     pub writer: &'b mut W,
+    pub patience: &'b mut Patience,
+    pub count: u64,
 }
 
 impl<R: Clock + RandomSource + Drop, W: Write> Peer for Shown<'_, '_, R, W> {
@@ -26,6 +30,10 @@ impl<R: Clock + RandomSource + Drop, W: Write> Peer for Shown<'_, '_, R, W> {
         self.peer.hear()
     }
 
+    fn renew(&mut self) {
+        self.peer.renew();
+    }
+
     fn close(&mut self) -> Result<(), Cause> {
         self.peer.close()
     }
@@ -33,8 +41,11 @@ impl<R: Clock + RandomSource + Drop, W: Write> Peer for Shown<'_, '_, R, W> {
 
 impl<R: Clock + RandomSource + Drop, W: Write> Listener for Shown<'_, '_, R, W> {
     fn wait(&mut self) -> Result<Vec<u8>, Cause> {
-        self.peer.begin(PATIENCE_SECONDS)?;
+        let most = Duration::from_secs(PATIENCE_SECONDS);
+        let limit = self.patience.part_of(self.clock, most)?;
+        self.peer.begin_for(limit)?;
         match self.peer.hear() {
+            Err(Cause::Late) if limit < most => Err(Cause::Quiet),
             Err(Cause::Late) => Err(Cause::Silent),
             heard => heard,
         }
@@ -44,6 +55,8 @@ impl<R: Clock + RandomSource + Drop, W: Write> Listener for Shown<'_, '_, R, W> 
         if self.writer.write_all(text).is_err() || self.writer.flush().is_err() {
             return Err(Cause::Output);
         }
+        self.count = self.count.saturating_add(1);
+        self.patience.renew(self.clock);
         Ok(())
     }
 }

@@ -131,6 +131,8 @@ where
         Ok(socket) => socket,
         Err(error) => return Err(cause_by(error.kind())),
     };
+    // A frame goes out at once, though the one before is not acknowledged yet. If the system refuses that, it is only slower.
+    drop(socket.set_nodelay(true));
     let Ok(clock) = rt.clone() else {
         drop(socket);
         return Err(Cause::Memory);

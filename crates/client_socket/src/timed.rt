@@ -13,14 +13,14 @@ pub const STEP_SECONDS: u64 = 5;
 /// How many seconds the next message may take. A server pings each 20 seconds.
 pub const PATIENCE_SECONDS: u64 = 90;
 
-/// A socket whose reads and writes fail once the seconds of its step have passed: with `WouldBlock` if they waited until then, else
+/// A socket whose reads and writes fail once the time of its step has passed: with `WouldBlock` if they waited until then, else
 /// with `TimedOut`. So a peer that says one byte after another gets no more time.
 #[derive(Drop)]
 pub struct Timed<R> {
     socket: TcpStream,
     clock: R,
     began: Instant,
-    seconds: u64,
+    limit: Duration,
 }
 
 impl<R: Clock + Drop> Timed<R> {
@@ -33,23 +33,23 @@ impl<R: Clock + Drop> Timed<R> {
             socket,
             clock,
             began,
-            seconds: STEP_SECONDS,
+            limit: Duration::from_secs(STEP_SECONDS),
         })
     }
 
-    /// Begins another step, which may take so many seconds.
-    pub fn begin(&mut self, seconds: u64) -> io::Result<()>
-        ensures { self.new ≡ record self.old { began = self.new.began; seconds = self.new.seconds } }
+    /// Begins another step, which may take so long.
+    pub fn begin(&mut self, limit: Duration) -> io::Result<()>
+        ensures { self.new ≡ record self.old { began = self.new.began; limit = self.new.limit } }
     {
         self.began = Instant::now(&self.clock)?;
-        self.seconds = seconds;
+        self.limit = limit;
         Ok(())
     }
 
     // What is left of the step's time. The system takes no time of zero.
     fn left(&self) -> io::Result<Duration> {
         let passed = self.began.elapsed(&self.clock)?;
-        match Duration::from_secs(self.seconds).checked_sub(passed) {
+        match self.limit.checked_sub(passed) {
             Some(left) if !left.is_zero() => Ok(left),
             _ => Err(io::Error::from(ErrorKind::TimedOut)),
         }

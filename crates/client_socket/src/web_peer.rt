@@ -8,7 +8,7 @@ use crate::timed::{STEP_SECONDS, Timed};
 use client_core::{Cause, Peer};
 use std::alloc::{AllocError, Global};
 use std::random::RandomSource;
-use std::time::Clock;
+use std::time::{Clock, Duration};
 use tungstenite::{CloseCode, CloseFrame, Error, Message, RandomKeys, Utf8Bytes, WebSocket};
 
 /// The peer at the other end of a WebSocket. Each step may take five seconds.
@@ -42,6 +42,10 @@ impl<R: Clock + RandomSource + Drop> Peer for WebPeer<R> {
         }
     }
 
+    fn renew(&mut self) {
+        drop(self.begin(STEP_SECONDS));
+    }
+
     // What the peer still says before its own close was not asked for, and is dropped.
     fn close(&mut self) -> Result<(), Cause> {
         self.begin(STEP_SECONDS)?;
@@ -62,7 +66,14 @@ impl<R: Clock + Drop> WebPeer<R> {
     pub fn begin(&mut self, seconds: u64) -> Result<(), Cause>
         ensures { IfErr result IsOfPeer }
     {
-        match self.socket.get_mut().begin(seconds) {
+        self.begin_for(Duration::from_secs(seconds))
+    }
+
+    /// Begins a step, which may take so long.
+    pub fn begin_for(&mut self, limit: Duration) -> Result<(), Cause>
+        ensures { IfErr result IsOfPeer }
+    {
+        match self.socket.get_mut().begin(limit) {
             Ok(()) => Ok(()),
             Err(_) => Err(Cause::System),
         }

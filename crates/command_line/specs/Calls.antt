@@ -35,6 +35,10 @@ call_text fault = cond (is_unknown fault.step fault.cause) (client_text fault ++
 abbrev pub taken_text : ℕ → List ℕ
 taken_text taken = decimal taken ++ codes " lines before it were taken"
 
+-- what is told of the lines that were sent from it on, of which that one has no RECEIPT
+abbrev pub unsure_text : ℕ → List ℕ
+unsure_text unsure = decimal unsure ++ codes " lines from it on were sent; the server may have taken each of them, or not"
+
 -- Others may get what is shown, and it is not taken: the messages of a queue or a durable name, if none is settled.
 abbrev pub is_lent : Plan → Bool
 is_lent plan = cond plan.settles false (not (is_own plan))
@@ -72,6 +76,7 @@ IsNoneOf kinds.Header word = (position_or_len (λ b. b == 58) word ≡ length wo
 IsNoneOf kinds.BodyOfLines word = ⊤
 IsNoneOf kinds.DurableQueue word = ⊤
 IsNoneOf kinds.EmptyName word = word ≡ []
+IsNoneOf kinds.Timeout word = (n : ℕ) → IsNumber word n → 0 < n → 2 ^ 64 ≤ n
 IsNoneOf _ word = ⊥
 
 -- why nothing is asked of a client is true of the word that is named

@@ -1,7 +1,7 @@
 -- What is told of a word that is not of its kind.
 use Rattle.std.specs.Prelude.{List, [], ◌∷◌, ◌++◌, ℕ, codes}
 use Rattle.command_line.specs.declared.words.WordKind.{WordKind}
-use Rattle.command_line.specs.declared.words.WordKind.TheVariants.{Bytes, Port, Address, Threads, Memory, Origin, Header, Count, UnsettledCount, BodyOfLines, DurableQueue, EmptyName, PortOption}
+use Rattle.command_line.specs.declared.words.WordKind.TheVariants.{Bytes, Port, Address, Threads, Memory, Origin, Header, Count, UnsettledCount, BodyOfLines, DurableQueue, EmptyName, PortOption, Timeout}
 
 -- what stands in its place
 abbrev pub kind_text : WordKind → List ℕ
@@ -18,6 +18,7 @@ kind_text BodyOfLines = codes "with --lines the bodies come from standard input"
 kind_text DurableQueue = codes "only a topic has durable names"
 kind_text EmptyName = codes "a durable name and its client-id are not empty"
 kind_text PortOption = codes "there is no such option: the port stands by itself, as in stompd serve FILE 8080"
+kind_text Timeout = codes "--timeout takes a number of seconds from 1 on"
 
 -- the word, and that
 abbrev pub word_text : WordKind → List ℕ → List ℕ

@@ -1,6 +1,6 @@
 //! What the words ask of a client.
 
-ghost use Rattle.std.specs.Prelude.{◌≡◌, ◌≢◌, ◌↔◌, [], IfErr, IfOk, IfNone, IfSome, IsTrue, map};
+ghost use Rattle.std.specs.Prelude.{◌≡◌, ◌≢◌, ◌<◌, ◌↔◌, [], IfErr, IfOk, IfNone, IfSome, IsTrue, map};
 ghost use Rattle.std.specs.List.{AllByRecursion};
 ghost use Rattle.command_line.specs.Calls.{CanBeDone, CanCome, IsFilled, IsNoneOf, IsRefused, is_call_name, most_of, names_call};
 ghost use Rattle.command_line.specs.declared.words.WordKind.TheVariants as kinds;
@@ -137,6 +137,8 @@ fn listen_in<'a>(given: &ArgMatches<'a>) -> Result<Call<'a>, Uncalled<'a>>
         count: u64::MAX,
         settles: given.get_flag("settle"),
         with_headers: given.get_flag("headers"),
+        is_once: given.get_flag("once"),
+        timeout: timeout_in(given)?,
     };
     plan.count = count_in(given, &plan)?;
     Ok(Call::Listen {
@@ -159,6 +161,20 @@ fn count_in<'a>(given: &ArgMatches<'a>, plan: &Plan<'_>) -> Result<u64, Uncalled
         Some(0) | None => Err(Uncalled::Word(WordKind::Count, text)),
         Some(count) if count > most => Err(Uncalled::Word(WordKind::UnsettledCount, text)),
         Some(count) => Ok(count),
+    }
+}
+
+// For how many seconds no message may come.
+fn timeout_in<'a>(given: &ArgMatches<'a>) -> Result<Option<u64>, Uncalled<'a>>
+    ensures ok { IfOk result (λ timeout. IfSome timeout (λ seconds. 0 < seconds)) }
+    ensures refused { IfErr result IsRefused }
+{
+    let Some(text) = given.get_str("SECONDS") else {
+        return Ok(None);
+    };
+    match number_of(text) {
+        Some(0) | None => Err(Uncalled::Word(WordKind::Timeout, text)),
+        Some(seconds) => Ok(Some(seconds)),
     }
 }
 

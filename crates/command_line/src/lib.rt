@@ -19,7 +19,7 @@ mod usage;
 mod viewing;
 mod words;
 
-pub use called::{end_call, tell_taken};
+pub use called::{end_call, tell_taken, tell_unsure};
 pub use calling::{Call, Uncalled, call_of, is_call};
 pub use making::journal_for_server;
 pub use parsing::{Refused, Subcommand, subcommand_of};

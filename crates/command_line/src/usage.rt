@@ -238,6 +238,15 @@ fn add_listen<'a>(alloc: Global, commands: &mut Vec<Command<'a>>) -> Result<(), 
                 "headers",
                 "Prints the headers and an empty line before each body",
             ),
+            Row::Flag(
+                "once",
+                "Ends with the connection; without it a server that goes is connected to again once it is back",
+            ),
+            Row::Valued(
+                "timeout",
+                "SECONDS",
+                "Ends with status 4 if no message comes for so long",
+            ),
         ],
     )
 }

@@ -32,6 +32,8 @@ pub enum WordKind {
     EmptyName,
     /// A port that stands as an argument.
     PortOption,
+    /// A number of seconds.
+    Timeout,
 }
 
 impl WordKind {
@@ -59,6 +61,7 @@ impl WordKind {
             WordKind::EmptyName => "a durable name and its client-id are not empty",
             WordKind::PortOption =>
                 "there is no such option: the port stands by itself, as in stompd serve FILE 8080",
+            WordKind::Timeout => "--timeout takes a number of seconds from 1 on",
         }
     }
 }

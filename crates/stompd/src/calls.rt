@@ -1,10 +1,10 @@
 //! What a client does.
 
 use client_core::{Address, Outgoing, Plan};
-use client_socket::{InputFault, Way, body_of, forget, listen, send, send_lines};
+use client_socket::{Ear, InputFault, Sent, Way, body_of, forget, listen, send, send_lines};
 use command_line::{
     BodyFault, Call, DONE, FAILED, Failure, Uncalled, call_of, end_by, end_call, refusal,
-    tell_taken,
+    tell_taken, tell_unsure,
 };
 use std::io::Lock;
 
@@ -64,8 +64,15 @@ fn run(rt: &HostRuntime, call: Call<'_>) -> u8 {
 /// Listens to a destination.
 fn run_listen(rt: &HostRuntime, address: Address<'_>, client: Option<&str>, plan: &Plan<'_>) -> u8 {
     let mut writer = rt.stdout().lock();
-    let listened = listen(rt, rt.alloc(), address, client, plan, &mut writer);
     let mut errors = rt.stderr().lock();
+    let ear = Ear {
+        rt,
+        alloc: rt.alloc(),
+        address,
+        client,
+        plan: *plan,
+    };
+    let listened = listen(&ear, &mut writer, &mut errors);
     end_call(listened, &mut errors).status
 }
 
@@ -104,13 +111,20 @@ fn run_lines(rt: &HostRuntime, address: Address<'_>, message: &Outgoing<'_>) -> 
         destination: message.destination,
         headers: message.headers,
     };
-    let (taken, sent) = send_lines(&way, rt.stdin().lock());
-    match sent {
+    let Sent {
+        taken,
+        unsure,
+        ended,
+    } = send_lines(&way, rt.stdin().lock());
+    match ended {
         Ok(()) => DONE,
         Err(fault) => {
             let status = end_input(rt, fault);
             let mut errors = rt.stderr().lock();
             drop(tell_taken(taken, &mut errors));
+            if unsure > 1 {
+                drop(tell_unsure(unsure, &mut errors));
+            }
             status
         }
     }
