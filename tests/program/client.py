@@ -21,6 +21,9 @@ from lib.stomp_client import Client
 
 UNKNOWN = "; the server may have taken it, or not"
 NOBODY = "no connection: nobody listens there"
+# Headers that nobody may give to `send` (docs/CLI.md).
+OWN = "send sets destination, receipt and content-length itself, and the server subscription, message-id and ack"
+OWN_NAMES = ("destination", "receipt", "content-length", "subscription", "message-id", "ack")
 # What each command is called with, and its options (docs/CLI.md).
 COMMANDS = {
     "format": ("<FILE> <BYTES>", ["--sparse"]),
@@ -92,6 +95,15 @@ def bad_words(program, checks):
     for header in ("none", ":value"):
         seen = run(program, "send", port, "/queue/a", "x", "--header", header)
         checks.same(f"a header {header!r}", seen, (2, b"", told(f"'{header}': --header takes NAME:VALUE")))
+    for name in OWN_NAMES:
+        for value in ("x", "", "a:b"):
+            seen = run(program, "send", port, "/queue/a", "x", "--header", "colour:blue", "--header", f"{name}:{value}")
+            checks.same(f"a header {name}:{value}", seen, (2, b"", told(f"'{name}:{value}': {OWN}")))
+    seen = run(program, "send", port, "/queue/a", "x", "--header", "transaction:t")
+    checks.same("a transaction", seen, (2, b"", told("'transaction:t': send has no transactions")))
+    # STOMP 1.2 tells capital letters from small ones in the names of headers.
+    for header in ("Destination:x", "receipts:x", "receip:x", "Transaction:x", "x:receipt", "content-type:text/plain"):
+        checks.same(f"a header {header}", run(program, "send", port, "/queue/a", "x", "--header", header), (1, b"", told(NOBODY)))
     for count in ("0", "x", "-1", "18446744073709551616"):
         seen = run(program, "listen", port, "/topic/a", f"--count={count}")
         checks.same(f"a count {count!r}", seen, (2, b"", told(f"'{count}': --count takes a number from 1 on")))
@@ -131,9 +143,9 @@ def bodies(program, checks):
             seen = run(program, "send", *at, *words, given=given)
             head, _, rest = client.receive_message()[1].partition(b"\n\n")
             checks.same(f"sends {what}", (seen, head.split(b"\n")[0], rest), ((0, b"", ""), b"MESSAGE", body + b"\0"))
-        seen = run(program, "send", *at, "x", "--header", "colour:dark:blue", "--header=kind:\n\\", "--header", "destination:/queue/other", "--header", "empty:")
+        seen = run(program, "send", *at, "x", "--header", "colour:dark:blue", "--header=kind:\n\\", "--header", "empty:")
         message = client.receive()
-        checks.same("sends headers", (seen[0], [message.headers.get(it) for it in ("colour", "kind", "destination", "empty")]), (0, ["dark:blue", "\n\\", "/queue/a", ""]))
+        checks.same("sends headers", (seen[0], [message.headers.get(it) for it in ("colour", "kind", "empty")]), (0, ["dark:blue", "\n\\", ""]))
         checks.same("65,537 bytes", run(program, "send", *at, given=b"x" * 65_537), (1, b"", told("a body has at most 65536 bytes")))
         nothing = (1, b"", told("no BODY is given, and standard input has none; '' sends an empty one"))
         checks.same("no body", run(program, "send", *at), nothing)

@@ -45,7 +45,7 @@ def bad(word, why):
     return told(f"'{word}': {why}")
 
 
-SIZES = "a size is a number of bytes under 2^64, or of K, M or G (1,024 of each)"
+SIZES = "a size is a number of bytes under 2^64, or of K, M or G (1,024 of each), as 64M, 64MB or 64MiB"
 PORTS = "PORT is a number from 1 to 65535"
 THREADS = "--threads takes a number from 1 to 64"
 MEMORY = "--memory takes a number of bytes from 16777216 (16M) on, and under 2^64"
@@ -93,17 +93,20 @@ def formats(checks, folder):
         checks.run(["format", file, few], 1, NOTHING, told("J8 disk too small"))
     deep = str(folder / "none" / "journal")
     checks.run(["format", deep, str(SMALLEST)], 1, NOTHING, unopened(deep, "there is no such folder"))
-    for number in ("8224x", "+8224", "0x2020", "8 224", "", "18446744073709551616", "99999999999999999999", "K", "8 K", "8k", "1T", "16777216T", "17179869184G", "1KK", "+9K"):
+    for number in ("8224x", "+8224", "0x2020", "8 224", "", "18446744073709551616", "99999999999999999999", "K", "kb", "MiB", "8 K", "8K ", "8X", "1T", "16777216T", "1KK", "1MMB", "1MBB", "1Mi", "1B", "1iB", "K1", "1K1", "+9K", "9\u212a",
+                   "17179869184G", "17179869184gib", "17592186044416MB", "18014398509481984KiB"):
         checks.run(["format", other, number], 2, NOTHING, bad(number, SIZES))
     checks.check("refused words make no file", not os.path.exists(other))
     checks.check("refused words change no file", pathlib.Path(file).read_bytes() == made)
-    for text, size in (("9K", 9 * 1_024), ("1M", 1_048_576), ("009K", 9 * 1_024)):
+    units = [(f"9{it}", 9 * 1_024) for it in ("K", "k", "KB", "kb", "Kb", "kB", "KiB", "kib", "KIB")] + [(f"1{it}", 1_048_576) for it in ("M", "m", "MB", "mb", "MiB", "mib")]
+    for text, size in (*units, ("009K", 9 * 1_024)):
         path = folder / text
         checks.run(["format", "--sparse", str(path), text], 0, NOTHING, NOTHING)
         checks.check(f"{text} are {size} bytes", path.stat().st_size == size, path.stat().st_size)
-    huge = folder / "1G"
-    checks.run(["format", str(huge), "--sparse", "1G"], 0, NOTHING, NOTHING)
-    checks.check("1G are 2^30 bytes", huge.stat().st_size == 1 << 30)
+    for text in ("1G", "1g", "1GB", "1gb", "1GiB", "1gib"):
+        huge = folder / text
+        checks.run(["format", str(huge), "--sparse", text], 0, NOTHING, NOTHING)
+        checks.check(f"{text} are 2^30 bytes", huge.stat().st_size == 1 << 30)
     zeros, odd = str(folder / "zeros"), str(folder / "odd")
     checks.run(["format", zeros, f"000{SMALLEST}"], 0, NOTHING, NOTHING)
     checks.check("leading zeros count for nothing", pathlib.Path(zeros).read_bytes() == made)
@@ -196,7 +199,7 @@ def serves(checks, folder):
         checks.check(f"{path.name} is left as it was", path.read_bytes() == data)
     for number in ("0", "65536", "http", "80x", "+80", "", "99999999999999999999"):
         checks.run(["serve", str(folder / "journal"), number], 2, NOTHING, bad(number, PORTS))
-    for size in ("8224x", "+8224", "", "18446744073709551616", "1T"):
+    for size in ("8224x", "+8224", "", "18446744073709551616", "1T", "64X", "64MM", "m"):
         for new in (["--new", size], [f"--new={size}"]):
             checks.run(["serve", str(folder / "journal"), port, *new], 2, NOTHING, bad(size, SIZES))
             checks.run(["serve", none, port, *new], 2, NOTHING, bad(size, SIZES))
@@ -210,10 +213,10 @@ def serves(checks, folder):
     for number in ("0", "65", "18446744073709551616", "x", "+3", ""):
         for threads in (["--threads", number], [f"--threads={number}"]):
             checks.run(["serve", str(folder / "journal"), port, *threads], 2, NOTHING, bad(number, THREADS))
-    for number in ("0", "16777215", "18446744073709551616", "15M", "16T", "+16777216", ""):
+    for number in ("0", "16777215", "18446744073709551616", "15M", "15mib", "16T", "16MM", "m", "+16777216", ""):
         for memory in (["--memory", number], [f"--memory={number}"]):
             checks.run(["serve", str(folder / "journal"), port, *memory], 2, NOTHING, bad(number, MEMORY))
-    serving = subprocess.Popen([checks.program, "serve", str(folder / "journal"), port, "--memory", "16M"], stdout=subprocess.PIPE, stderr=subprocess.PIPE)
+    serving = subprocess.Popen([checks.program, "serve", str(folder / "journal"), port, "--memory", "16mb"], stdout=subprocess.PIPE, stderr=subprocess.PIPE)
     try:
         ready, _, _ = select.select([serving.stdout], [], [], 20)
         line = serving.stdout.readline().decode() if ready else ""
@@ -245,7 +248,7 @@ def new_journals(checks, folder, port):
     """A missing journal is made and served; one that is there is served as it is."""
     made, zeros = folder / "new journal", folder / "zeros"
     before = zeros.read_bytes()
-    for path, size in ((made, "9K"), (made, "10K"), (zeros, "10K")):
+    for path, size in ((made, "9kib"), (made, "10K"), (zeros, "10K")):
         serving = subprocess.Popen([checks.program, "serve", str(path), port, "--new", size], stdout=subprocess.PIPE, stderr=subprocess.PIPE)
         try:
             ready, _, _ = select.select([serving.stdout], [], [], 20)

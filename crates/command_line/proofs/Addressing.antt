@@ -1,11 +1,11 @@
 -- What texts don't mean.
-use Rattle.std.proofs.Common.{◌≡◌, ◌∙◌, ◌*◌, ◌<◌, ◌≤◌, ◌^◌, List, [], ◌∷◌, ℕ, None, Option, Some, ap, arith, false, length, subst, sym}
+use Rattle.std.proofs.Common.{◌≡◌, ◌∙◌, ◌<◌, ◌≤◌, ◌^◌, List, [], ◌∷◌, ℕ, None, Option, Some, ap, arith, false, length, subst, sym}
 use Rattle.client_core.specs.declared.address.Address.{Address}
 use Rattle.client_core.specs.declared.address.Address.TheVariants.{Port, Url}
 use Rattle.command_line.specs.Addresses.{IsAddress, is_url}
 use Rattle.command_line.specs.CommandLines.{AskForMemory, AskForNew}
 use Rattle.command_line.specs.Numbers.{IsNumber}
-use Rattle.command_line.specs.Sizes.{IsSize, unit_of}
+use Rattle.command_line.specs.Sizes.{IsSize}
 
 -- what is no port, and no URL, is no address
 pub no_place : (text : List ℕ) → ((port : ℕ) → IsNumber text port → 0 < port → 2 ^ 16 ≤ port) → is_url text ≡ false → (address : Address) → IsAddress text address → ⊥
@@ -14,7 +14,10 @@ no_place text large other (Url url) is = let yes = is.1 in absurd (cc (yes, othe
 
 -- a text means one size
 pub one_size : (text : List ℕ) (n m : ℕ) → IsSize text n → IsSize text m → n ≡ m
-one_size text n m a b = a.is ∙ ap (λ x. x * unit_of text) (a.number.1 ∙ sym b.number.1) ∙ sym b.is
+one_size text n m a b =
+    let u : a.unit ≡ b.unit = let s = sym a.has_unit ∙ b.has_unit in cc in
+    let c : a.count ≡ b.count = a.number.1 ∙ sym b.number.1 in
+    cc (a.is, b.is, u, c)
 
 -- if that is too small, it means none that isn't
 pub too_small : (text : List ℕ) (number : ℕ) → IsSize text number → number < 16777216 → (n : ℕ) → IsSize text n → 16777216 ≤ n → 2 ^ 64 ≤ n

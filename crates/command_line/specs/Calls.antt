@@ -60,19 +60,36 @@ abbrev pub IsFilled : Option (Bor (List ℕ)) → Type 0
 IsFilled None = ⊤
 IsFilled (Some word) = word.now ≢ []
 
--- What is asked of a client can be done. Each header has a name, and lines of standard input come with no other body. A durable name has
+-- the headers that `send` writes into a SEND, or the server into a MESSAGE
+abbrev pub is_own_name : List ℕ → Bool
+is_own_name name =
+    bytes_eq name (codes "destination") || bytes_eq name (codes "receipt") || bytes_eq name (codes "content-length")
+    || bytes_eq name (codes "subscription") || bytes_eq name (codes "message-id") || bytes_eq name (codes "ack")
+
+-- A header of this name may be given: it has a name, which is none of those, and names no transaction, since `send` opens none.
+abbrev pub MayBeGiven : List ℕ → Type 0
+MayBeGiven name = (name ≢ []) × (is_own_name name ≡ false) × (name ≢ codes "transaction")
+
+-- What is asked of a client can be done. Each header may be given, and lines of standard input come with no other body. A durable name has
 -- its client, and neither is empty.
 abbrev pub CanBeDone : Call → Type 0
-CanBeDone (Send address destination headers body by_lines) = AllByRecursion (λ header. header.0.now ≢ []) headers.items × (by_lines ≡ true → body ≡ None)
+CanBeDone (Send address destination headers body by_lines) = AllByRecursion (λ header. MayBeGiven header.0.now) headers.items × (by_lines ≡ true → body ≡ None)
 CanBeDone (Listen address client plan) = CanCome plan plan.count × (names_queue plan ≡ false) × (is_unnamed client ≡ is_unnamed plan.name) × IsFilled client × IsFilled plan.name
 CanBeDone (Forget address client name) = (client.now ≢ []) × (name.now ≢ [])
 
--- the word is not of that kind: no address, no number from 1 on, a number over 16, or no header, since it has no colon or no name before it
+-- the name in `NAME:VALUE`
+abbrev pub name_in : List ℕ → List ℕ
+name_in word = before_first (λ b. b == 58) word
+
+-- The word is not of that kind: no address, no number from 1 on, a number over 16, or no header, since it has no colon or no name before it.
+-- Or that name may not be given.
 abbrev pub IsNoneOf : WordKind → List ℕ → Type 0
 IsNoneOf kinds.Address word = (address : Address) → IsAddress word address → ⊥
 IsNoneOf kinds.Count word = (n : ℕ) → IsNumber word n → 0 < n → 2 ^ 64 ≤ n
 IsNoneOf kinds.UnsettledCount word = (n : ℕ) × IsNumber word n × (16 < n)
-IsNoneOf kinds.Header word = (position_or_len (λ b. b == 58) word ≡ length word) ⊎ (before_first (λ b. b == 58) word ≡ [])
+IsNoneOf kinds.Header word = (position_or_len (λ b. b == 58) word ≡ length word) ⊎ (name_in word ≡ [])
+IsNoneOf kinds.OwnHeader word = is_own_name (name_in word) ≡ true
+IsNoneOf kinds.Transaction word = name_in word ≡ codes "transaction"
 IsNoneOf kinds.BodyOfLines word = ⊤
 IsNoneOf kinds.DurableQueue word = ⊤
 IsNoneOf kinds.EmptyName word = word ≡ []

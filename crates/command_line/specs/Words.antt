@@ -1,17 +1,19 @@
 -- What is told of a word that is not of its kind.
 use Rattle.std.specs.Prelude.{List, [], ◌∷◌, ◌++◌, ℕ, codes}
 use Rattle.command_line.specs.declared.words.WordKind.{WordKind}
-use Rattle.command_line.specs.declared.words.WordKind.TheVariants.{Bytes, Port, Address, Threads, Memory, Origin, Header, Count, UnsettledCount, BodyOfLines, DurableQueue, EmptyName, PortOption, Timeout}
+use Rattle.command_line.specs.declared.words.WordKind.TheVariants.{Bytes, Port, Address, Threads, Memory, Origin, Header, OwnHeader, Transaction, Count, UnsettledCount, BodyOfLines, DurableQueue, EmptyName, PortOption, Timeout}
 
 -- what stands in its place
 abbrev pub kind_text : WordKind → List ℕ
-kind_text Bytes = codes "a size is a number of bytes under 2^64, or of K, M or G (1,024 of each)"
+kind_text Bytes = codes "a size is a number of bytes under 2^64, or of K, M or G (1,024 of each), as 64M, 64MB or 64MiB"
 kind_text Port = codes "PORT is a number from 1 to 65535"
 kind_text Address = codes "PORT is a number from 1 to 65535, or ws://HOST:PORT/PATH in small letters; there is no TLS"
 kind_text Threads = codes "--threads takes a number from 1 to 64"
 kind_text Memory = codes "--memory takes a number of bytes from 16777216 (16M) on, and under 2^64"
 kind_text Origin = codes "an origin is what a browser sends: SCHEME://HOST or SCHEME://HOST:PORT in small letters, with nothing after it"
 kind_text Header = codes "--header takes NAME:VALUE"
+kind_text OwnHeader = codes "send sets destination, receipt and content-length itself, and the server subscription, message-id and ack"
+kind_text Transaction = codes "send has no transactions"
 kind_text Count = codes "--count takes a number from 1 on"
 kind_text UnsettledCount = codes "without --settle at most 16 are shown of what others may get"
 kind_text BodyOfLines = codes "with --lines the bodies come from standard input"

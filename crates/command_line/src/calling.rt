@@ -1,9 +1,8 @@
 //! What the words ask of a client.
 
-ghost use Rattle.std.specs.Prelude.{◌≡◌, ◌≢◌, ◌<◌, ◌↔◌, [], IfErr, IfOk, IfNone, IfSome, IsTrue, map};
+ghost use Rattle.std.specs.Prelude.{◌≡◌, ◌<◌, ◌↔◌, IfErr, IfOk, IfSome, IsTrue, map};
 ghost use Rattle.std.specs.List.{AllByRecursion};
-ghost use Rattle.command_line.specs.Calls.{CanBeDone, CanCome, IsFilled, IsNoneOf, IsRefused, is_call_name, most_of, names_call};
-ghost use Rattle.command_line.specs.declared.words.WordKind.TheVariants as kinds;
+ghost use Rattle.command_line.specs.Calls.{CanBeDone, CanCome, IsFilled, IsNoneOf, IsRefused, MayBeGiven, is_call_name, is_own_name, most_of, names_call};
 
 use crate::addresses::address_of;
 use crate::numbers::number_of;
@@ -234,7 +233,7 @@ fn headers_in<'a>(
     alloc: Global,
     given: &ArgMatches<'a>,
 ) -> Result<Vec<(&'a str, &'a str)>, Uncalled<'a>>
-    ensures ok { IfOk result (λ headers. AllByRecursion (λ header. header.0.now ≢ []) headers.items) }
+    ensures ok { IfOk result (λ headers. AllByRecursion (λ header. MayBeGiven header.0.now) headers.items) }
     ensures refused { IfErr result IsRefused }
 {
     let mut headers = Vec::new(alloc);
@@ -242,8 +241,9 @@ fn headers_in<'a>(
         return Ok(headers);
     };
     for text in texts {
-        let Some(header) = header_of(text) else {
-            return Err(Uncalled::Word(WordKind::Header, text));
+        let header = match header_of(text) {
+            Ok(header) => header,
+            Err(kind) => return Err(Uncalled::Word(kind, text)),
         };
         match headers.push(header) {
             Ok(()) => {}
@@ -253,13 +253,25 @@ fn headers_in<'a>(
     Ok(headers)
 }
 
-// A header, cut at the first colon. It has to have a name.
-fn header_of(text: &str) -> Option<(&str, &str)>
-    ensures some { IfSome result (λ header. header.0.now ≢ []) }
-    ensures none { IfNone result (IsNoneOf kinds.Header text.now) }
+// A header, cut at the first colon. It has to have a name, which is none of those that `send` or the server sets.
+fn header_of(text: &str) -> Result<(&str, &str), WordKind>
+    ensures ok { IfOk result (λ header. MayBeGiven header.0.now) }
+    ensures err { IfErr result (λ kind. IsNoneOf kind text.now) }
 {
     match text.split_once(':') {
-        Some((name, value)) if !name.is_empty() => Some((name, value)),
-        _ => None,
+        Some(("transaction", _)) => Err(WordKind::Transaction),
+        Some((name, _)) if is_own_name(name) => Err(WordKind::OwnHeader),
+        Some((name, value)) if !name.is_empty() => Ok((name, value)),
+        _ => Err(WordKind::Header),
     }
+}
+
+// Whether `send` or the server sets a header of this name.
+fn is_own_name(name: &str) -> bool
+    ensures { result ≡ is_own_name name.now }
+{
+    matches!(
+        name,
+        "destination" | "receipt" | "content-length" | "subscription" | "message-id" | "ack"
+    )
 }

@@ -1,8 +1,8 @@
 //! Numbers, as words say them.
 
-ghost use Rattle.std.specs.Prelude.{◌≡◌, ◌<◌, ◌≤◌, ◌^◌, ℕ, IfNone, IfSome};
+ghost use Rattle.std.specs.Prelude.{◌≡◌, ◌<◌, ◌≤◌, ◌^◌, ◌||◌, ℕ, IfNone, IfSome};
 ghost use Rattle.command_line.specs.Numbers.{IsNumber};
-ghost use Rattle.command_line.specs.Sizes.{IsSize, count_text, unit_of};
+ghost use Rattle.command_line.specs.Sizes.{IsSize, count_text, is_alike, unit_of, unit_text};
 
 // How many threads may serve clients.
 const MOST_THREADS: u64 = 64;
@@ -58,40 +58,63 @@ pub fn number_of(text: &str) -> Option<u64>
     }
 }
 
-/// The number of bytes that a text means: decimal digits, perhaps with a K, M or G at their end, which stand for 1,024 of each other.
+/// The number of bytes that a text means: decimal digits, and perhaps a unit after them.
 pub(crate) fn size_of(text: &str) -> Option<u64>
     ensures some { IfSome result (λ n. IsSize text.now n × (n < 2 ^ 64)) }
     ensures none { IfNone result ((n : ℕ) → IsSize text.now n → 2 ^ 64 ≤ n) }
 {
     let bytes = text.as_bytes();
+    let unit = unit_of(unit_text(bytes))?;
     let digits = str::from_utf8(count_text(bytes)).ok()?;
     let count = number_of(digits)?;
-    count.checked_mul(unit_of(bytes))
+    count.checked_mul(unit)
 }
 
-// How many bytes one of a size is, by the letter at its end.
-fn unit_of(text: &[u8]) -> u64
-    ensures value { result ≡ unit_of text.now }
-    ensures some { 0 < result }
+// What follows the digits at the front.
+fn unit_text(text: &[u8]) -> &[u8]
+    ensures { result.now ≡ unit_text text.now }
 {
-    if text.ends_with(b"K") {
-        return 1_024;
+    let mut rest = text;
+    while !rest.is_empty() && rest[0].is_ascii_digit() {
+        rest = &rest[1..];
     }
-    if text.ends_with(b"M") {
-        return 1_048_576;
-    }
-    if text.ends_with(b"G") {
-        return 1_073_741_824;
-    }
-    1
+    rest
 }
 
-// The text before that letter.
+// Those digits.
 fn count_text(text: &[u8]) -> &[u8]
     ensures { result.now ≡ count_text text.now }
 {
-    if unit_of(text) == 1 {
-        return text;
+    &text[..text.len().saturating_sub(unit_text(text).len())]
+}
+
+// How many bytes a unit has: K, M or G, alone or with B or iB, in capital or small letters.
+fn unit_of(text: &[u8]) -> Option<u64>
+    ensures { result ≡ unit_of text.now }
+{
+    if text.is_empty() {
+        return Some(1);
     }
-    &text[..text.len().saturating_sub(1)]
+    if is_any(text, "K", "KB", "KiB") {
+        return Some(1_024);
+    }
+    if is_any(text, "M", "MB", "MiB") {
+        return Some(1_048_576);
+    }
+    if is_any(text, "G", "GB", "GiB") {
+        return Some(1_073_741_824);
+    }
+    None
+}
+
+fn is_any(text: &[u8], letter: &str, bytes: &str, binary: &str) -> bool
+    ensures { result ≡ is_alike text.now letter.now || is_alike text.now bytes.now || is_alike text.now binary.now }
+{
+    is_alike(text, letter) || is_alike(text, bytes) || is_alike(text, binary)
+}
+
+fn is_alike(one: &[u8], other: &str) -> bool
+    ensures { result ≡ is_alike one.now other.now }
+{
+    one.eq_ignore_ascii_case(other.as_bytes())
 }

@@ -20,6 +20,10 @@ pub enum WordKind {
     Origin,
     /// A header.
     Header,
+    /// A header that neither `send` nor the server sets itself.
+    OwnHeader,
+    /// A header other than `transaction`, since a message is sent in none.
+    Transaction,
     /// A number of messages.
     Count,
     /// A number of messages that are not settled.
@@ -43,7 +47,7 @@ impl WordKind {
     {
         match self {
             WordKind::Bytes =>
-                "a size is a number of bytes under 2^64, or of K, M or G (1,024 of each)",
+                "a size is a number of bytes under 2^64, or of K, M or G (1,024 of each), as 64M, 64MB or 64MiB",
             WordKind::Port => "PORT is a number from 1 to 65535",
             WordKind::Address =>
                 "PORT is a number from 1 to 65535, or ws://HOST:PORT/PATH in small letters; there is no TLS",
@@ -53,6 +57,9 @@ impl WordKind {
             WordKind::Origin =>
                 "an origin is what a browser sends: SCHEME://HOST or SCHEME://HOST:PORT in small letters, with nothing after it",
             WordKind::Header => "--header takes NAME:VALUE",
+            WordKind::OwnHeader =>
+                "send sets destination, receipt and content-length itself, and the server subscription, message-id and ack",
+            WordKind::Transaction => "send has no transactions",
             WordKind::Count => "--count takes a number from 1 on",
             WordKind::UnsettledCount =>
                 "without --settle at most 16 are shown of what others may get",
