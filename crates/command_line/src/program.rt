@@ -140,7 +140,7 @@ impl Failure<'_> {
 /// How the program ends.
 #[derive(Drop)]
 pub struct Ended {
-    /// The status: 0 if it is done, 1 on a fault, 2 on a bad command line, 3 if the server that was pinged is full.
+    /// The status: 0 if it is done, 1 on a fault, 2 on a bad command line, 3 if the server is full, 4 if no message came in time.
     pub status: u8,
     /// Whether what there was to tell could be written.
     pub told: io::Result<()>,
