@@ -148,7 +148,7 @@ impl<'a, R: Wait + Clock + Drop> EventLoop<'a, R> {
     {
         self.wait();
         let begin = Sweep::Begin {
-            was_rung: self.bell.wakes_up(),
+            was_rung: self.bell.wakes_up().takes_calls(),
             now: self.now,
         };
         hear_events(&self.events, &mut self.services, self.now);
@@ -165,13 +165,13 @@ impl<'a, R: Wait + Clock + Drop> EventLoop<'a, R> {
     {
         let demand = demand_of(&self.services);
         let awaits = demand.awaits_mark;
-        let mark = self.shared.wakeups.begin_to_wait(&self.bell, awaits);
-        let was_rung = !demand.is_ready && !self.bell.falls_asleep();
+        let watching = self.shared.wakeups.begin_to_wait(&self.bell, awaits);
+        let was_rung = !demand.is_ready && !self.bell.falls_asleep().waits();
         let looks_soon = self.parting.is_some() || self.shared.memory.is_over();
         let longest = longest_wait(
             &self.services,
             &demand,
-            mark,
+            watching.mark(),
             was_rung,
             looks_soon,
             self.now,
@@ -179,7 +179,7 @@ impl<'a, R: Wait + Clock + Drop> EventLoop<'a, R> {
         let _ = self
             .poll
             .poll(&mut self.events, Some(Duration::from_millis(longest)));
-        self.shared.wakeups.end_to_wait(&self.bell, awaits);
+        self.shared.wakeups.end_to_wait(&self.bell, watching);
         self.watch.go_on(self.shared.moment(), longest);
         self.now = self.watch.now();
     }

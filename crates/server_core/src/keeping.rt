@@ -30,7 +30,7 @@ impl<'a, R: Wait + Clock + Drop> Service<'a, R> {
             Counted::Changed => {}
             Counted::Passed => self.shared.wakeups.ring_all(),
         }
-        self.mailbox.say_most(self.account.most());
+        self.mailbox.say_most(&self.account);
     }
 
     /// If all clients hold more than they may, evicts the one that holds most, if it is one of its own. Answers which it was.

@@ -1,10 +1,10 @@
 -- What each step keeps.
-use Rattle.std.proofs.Common.{◌≡◌, ◌+◌, ◌<◌, ◌⊎◌, ℕ, Bool, true, false, List, [], ◌∷◌, inl, inr, refl, sym, ap, subst, ◌∙◌, arith, if◌then◌else◌}
+use Rattle.std.proofs.Common.{◌≡◌, ◌+◌, ◌<◌, ◌⊎◌, ℕ, Bool, true, false, List, [], ◌∷◌, inl, inr, refl, sym, ap, subst, ◌∙◌, arith}
 use Rattle.wakeups.specs.declared.bell_step.BellStep.{BellStep}
 use Rattle.wakeups.specs.declared.bell_step.BellStep.TheVariants.{Note, Ring, RingForOthers, Look, Wake, SayAsleep, Check, Return, SayAwake, TakeRing, TakeCalls}
 use Rattle.wakeups.specs.declared.bell_step.Sleeper.{Sleeper}
 use Rattle.wakeups.specs.declared.bell_step.Sleeper.TheVariants.{Serves, FallsAsleep, Waits, Hurries, Returned, Awake, TakesCalls}
-use Rattle.wakeups.specs.Machines.{Machine, May, Polls, Runs, after, begin}
+use Rattle.wakeups.specs.Machines.{Machine, May, Polls, Runs, after, begin, checked, looked, took_ring, with_waking}
 use Rattle.wakeups.specs.Promises.{IsHeard}
 
 -- it has said that it sleeps, and has not been told otherwise by itself
@@ -24,31 +24,31 @@ pub record IsKept (m : Machine) : Type 0 where
   pub down : IsDown m.worker → (m.asleep ≡ true) ⊎ ((0 < m.waking) ⊎ (m.woken ≡ true))
   pub wakes : m.worker ≡ Waits → m.rung ≡ true → (m.woken ≡ true) ⊎ ((0 < m.waking) ⊎ ((m.asleep ≡ true) × (0 < m.looking)))
 
-more : (b : Bool) (n : ℕ) → 0 < n → 0 < (if b then n + 1 else n)
+more : (b : Bool) (n : ℕ) → 0 < n → 0 < with_waking (looked b) n
 more true n some = omega (arith, some)
 more false n some = some
 
-found_asleep : (b : Bool) (n : ℕ) → b ≡ true → 0 < (if b then n + 1 else n)
+found_asleep : (b : Bool) (n : ℕ) → b ≡ true → 0 < with_waking (looked b) n
 found_asleep true n is = omega arith
 found_asleep false n is = absurd cc
 
-checked_down : (b : Bool) → IsDown (if b then Hurries else Waits) → b ≡ false
+checked_down : (b : Bool) → IsDown (checked b) → b ≡ false
 checked_down true down = absurd down
 checked_down false down = refl
 
-checked_waits : (b : Bool) → (if b then Hurries else Waits) ≡ Waits → b ≡ true → ⊥
+checked_waits : (b : Bool) → checked b ≡ Waits → b ≡ true → ⊥
 checked_waits true is rung = absurd cc
 checked_waits false is rung = absurd cc
 
-taken_down : (b : Bool) → IsDown (if b then TakesCalls else Serves) → ⊥
+taken_down : (b : Bool) → IsDown (took_ring b) → ⊥
 taken_down true down = down
 taken_down false down = down
 
-taken_waits : (b : Bool) → (if b then TakesCalls else Serves) ≡ Waits → ⊥
+taken_waits : (b : Bool) → took_ring b ≡ Waits → ⊥
 taken_waits true is = absurd cc
 taken_waits false is = absurd cc
 
-taken : (b : Bool) → b ≡ true → (if b then TakesCalls else Serves) ≡ TakesCalls
+taken : (b : Bool) → b ≡ true → took_ring b ≡ TakesCalls
 taken true is = refl
 taken false is = absurd cc
 
@@ -92,7 +92,7 @@ module _ (m : Machine) (kept : IsKept m) where
       serves : Serves ≡ TakesCalls → ⊥
       serves is = absurd cc
   keeps Check may = record {
-    heard = not_taking m kept (λ takes. absurd (falls (sym may ∙ takes))) (if m.rung then Hurries else Waits);
+    heard = not_taking m kept (λ takes. absurd (falls (sym may ∙ takes))) (checked m.rung);
     down = λ _. kept.down (subst IsDown (sym may) tt);
     wakes = λ waits rung. absurd (checked_waits m.rung waits rung);
   }

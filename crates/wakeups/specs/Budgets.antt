@@ -42,3 +42,8 @@ counts_there decides at desks = counts_for decides at (slice_index_or desks at (
 pub record IsMostElsewhere (decides : ℕ) (desks : List DeskHolds) (most : ℕ) : Type 0 where
   pub least : (at : ℕ) → at < length desks → counts_there decides at desks ≤ most
   pub reached : (most ≡ 0) ⊎ ((at : ℕ) × (at < length desks) × (most ≡ counts_there decides at desks))
+
+-- the desk of that number knows that of all clients, if the desks tell this
+pub record IsKnownBy (decides : ℕ) (h : Holdings) (desks : List DeskHolds) : Type 0 where
+  pub clients : h.clients ≡ min (count_clients desks) (2 ^ 64 - 1)
+  pub elsewhere : IsMostElsewhere decides desks h.elsewhere

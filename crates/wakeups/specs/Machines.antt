@@ -3,6 +3,8 @@
 use Rattle.std.specs.Prelude.{◌≡◌, ◌+◌, ◌-◌, ◌<◌, ℕ, Bool, true, false, List, [], ◌∷◌, if◌then◌else◌}
 use Rattle.wakeups.specs.declared.bell_step.BellStep.{BellStep}
 use Rattle.wakeups.specs.declared.bell_step.BellStep.TheVariants.{Note, Ring, RingForOthers, Look, Wake, SayAsleep, Check, Return, SayAwake, TakeRing, TakeCalls}
+use Rattle.wakeups.specs.declared.bell_step.Caller.{Caller}
+use Rattle.wakeups.specs.declared.bell_step.Caller.TheVariants.{Calls, HasRung, FoundAsleep, Done}
 use Rattle.wakeups.specs.declared.bell_step.Sleeper.{Sleeper}
 use Rattle.wakeups.specs.declared.bell_step.Sleeper.TheVariants.{Serves, FallsAsleep, Waits, Hurries, Returned, Awake, TakesCalls}
 
@@ -47,18 +49,37 @@ May m SayAwake = m.worker ≡ Returned
 May m TakeRing = m.worker ≡ Awake
 May m TakeCalls = m.worker ≡ TakesCalls
 
+-- how far a worker has come that has looked whether there was a ring
+abbrev pub checked : (rung : Bool) → Sleeper
+checked rung = if rung then Hurries else Waits
+
+-- and one that has taken the ring back
+abbrev pub took_ring : (rung : Bool) → Sleeper
+took_ring rung = if rung then TakesCalls else Serves
+
+-- how far a caller has come that has looked whether the worker sleeps
+abbrev pub looked : (asleep : Bool) → Caller
+looked asleep = if asleep then FoundAsleep else Done
+
+-- how many callers are to wake the worker, with this one
+abbrev pub with_waking : Caller → ℕ → ℕ
+with_waking FoundAsleep waking = waking + 1
+with_waking Calls waking = waking
+with_waking HasRung waking = waking
+with_waking Done waking = waking
+
 -- what a step changes
 abbrev pub after : Machine → BellStep → Machine
 after m Note = record m { called = true; noting = m.noting + 1 }
 after m Ring = record m { rung = true; noting = m.noting - 1; looking = m.looking + 1 }
 after m RingForOthers = record m { rung = true; looking = m.looking + 1 }
-after m Look = record m { asleep = false; looking = m.looking - 1; waking = if m.asleep then m.waking + 1 else m.waking }
+after m Look = record m { asleep = false; looking = m.looking - 1; waking = with_waking (looked m.asleep) m.waking }
 after m Wake = record m { woken = true; waking = m.waking - 1 }
 after m SayAsleep = record m { asleep = true; worker = FallsAsleep }
-after m Check = record m { worker = if m.rung then Hurries else Waits }
+after m Check = record m { worker = checked m.rung }
 after m (Return told) = record m { woken = if told then false else m.woken; worker = Returned }
 after m SayAwake = record m { asleep = false; worker = Awake }
-after m TakeRing = record m { rung = false; worker = if m.rung then TakesCalls else Serves }
+after m TakeRing = record m { rung = false; worker = took_ring m.rung }
 after m TakeCalls = record m { called = false; worker = Serves }
 
 -- these steps, each of which is possible, lead from one machine to the other

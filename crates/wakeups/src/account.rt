@@ -17,6 +17,25 @@ pub enum Counted {
     Passed,
 }
 
+impl Counted {
+    ghost use Rattle.std.specs.Prelude.{◌≡◌, ◌≢◌, ◌↔◌, IsTrue};
+    ghost use Rattle.wakeups.specs.declared.account.Counted.TheVariants.{Passed, Same};
+
+    /// Whether all clients together hold more or less than before.
+    pub fn is_change(self) -> bool
+        ensures { IsTrue result ↔ (self ≢ Same) }
+    {
+        !matches!(self, Counted::Same)
+    }
+
+    /// Whether by this they hold more than they may, and did not before.
+    pub fn has_passed(self) -> bool
+        ensures { IsTrue result ↔ (self ≡ Passed) }
+    {
+        matches!(self, Counted::Passed)
+    }
+}
+
 /// How many bytes each client of a desk holds, by their places, and what the desk has told of that to the total: their sum, which goes round
 /// at 2^64. So the total is the sum of what the clients of all desks hold. Contracts see what each holds.
 #[derive(Drop)]
@@ -37,11 +56,11 @@ impl Model for Account {
 }
 
 impl Account {
-    ghost use Rattle.std.specs.Prelude.{◌≡◌, ◌<◌, ◌≤◌, ℕ, length, slice_set};
+    ghost use Rattle.std.specs.Prelude.{◌≡◌, ◌<◌, ◌≤◌, ◌↔◌, ℕ, length, slice_set};
     ghost use Rattle.std.specs.List.{All, slice_index_or};
     ghost use Rattle.wakeups.specs.Budgets.{IsMost};
     ghost use Rattle.wakeups.specs.Sums.{counted};
-    ghost use Rattle.wakeups.specs.declared.account.Counted.TheVariants.{Passed};
+    ghost use Rattle.wakeups.specs.declared.account.Counted.TheVariants.{Passed, Same};
 
     /// Nobody holds anything, and nothing was told.
     pub fn new() -> Account
@@ -58,6 +77,8 @@ impl Account {
         ensures holds { self.new ≡ counted at holds self.old }
         ensures its { at < CLIENTS → slice_index_or self.new at 0 ≡ holds }
         ensures more { result ≡ Passed → slice_index_or self.old at 0 < holds }
+        ensures same { at < CLIENTS → ((result ≡ Same) ↔ (slice_index_or self.old at 0 ≡ holds)) }
+        ensures none { CLIENTS ≤ at → result ≡ Same }
     {
         if at >= CLIENTS {
             return Counted::Same;

@@ -1,6 +1,7 @@
 //! The steps of a worker and of its callers.
 
 /// How far the worker has come.
+#[derive(Clone, Copy)]
 pub enum Sleeper {
     /// It serves its clients.
     Serves,
@@ -16,6 +17,19 @@ pub enum Sleeper {
     Awake,
     /// It has taken a ring back, and next takes the calls.
     TakesCalls,
+}
+
+/// How far a caller has come.
+#[derive(Clone, Copy)]
+pub enum Caller {
+    /// It has set the bit of its client, if it calls for one, and next says that there was a ring.
+    Calls,
+    /// It has said that there was a ring, and next looks whether the worker sleeps.
+    HasRung,
+    /// It has found the worker asleep, and next asks the system to end its wait.
+    FoundAsleep,
+    /// It has nothing more to do.
+    Done,
 }
 
 /// One atomic step: the first five are a caller's, the others the worker's.

@@ -1,6 +1,8 @@
 //! Which clients were called for.
 
-ghost use Rattle.std.specs.Prelude.{◌≡◌, IsNone};
+ghost use Rattle.std.specs.Prelude.{◌≡◌, ◌<◌, ◌*◌, ◌-◌, ◌^◌, IfSome, IsNone, min};
+ghost use Rattle.client_schedule.specs.declared.limits.TheConstants.{CLIENTS};
+ghost use Rattle.wakeups.specs.Called.{IsBitOf, IsNextCall};
 
 use client_schedule::CLIENTS;
 use std::sync::atomic::{AtomicU64, Ordering};
@@ -40,7 +42,8 @@ impl Calls {
     /// Calls for a client.
     pub(crate) fn call(&self, client: usize) {
         if client < CLIENTS {
-            self.words[client / BITS].fetch_or(1 << (client % BITS), Ordering::SeqCst);
+            let (word, bit) = bit_of(client);
+            self.words[word].fetch_or(bit, Ordering::SeqCst);
         }
     }
 
@@ -51,10 +54,26 @@ impl Calls {
         } else {
             0
         };
-        Called {
-            first: word.saturating_mul(BITS),
-            bits,
-        }
+        called_in(word, bits)
+    }
+}
+
+// The word of a client, and its bit there.
+fn bit_of(client: usize) -> (usize, u64)
+    requires { client < CLIENTS }
+    ensures word { result.0 < WORDS }
+    ensures bit { IsBitOf client result.0 result.1 }
+{
+    (client / BITS, 1 << (client % BITS))
+}
+
+// The calls that were taken of that word, which had these bits.
+fn called_in(word: usize, bits: u64) -> Called
+    ensures { result ≡ record { first = min (word * BITS) (2 ^ 64 - 1); bits = bits } }
+{
+    Called {
+        first: word.saturating_mul(BITS),
+        bits,
     }
 }
 
@@ -68,15 +87,16 @@ pub struct Called {
 }
 
 impl Called {
-    /// The next client that was called for.
+    /// The next client that was called for, which is not answered again; `None` if there is none.
     pub fn next(&mut self) -> Option<usize>
-        ensures { IsNone result → self.old.bits ≡ 0 }
+        ensures some { IfSome result (IsNextCall self.old self.new) }
+        ensures none { IsNone result → (self.old.bits ≡ 0) × (self.new ≡ self.old) }
     {
         if self.bits == 0 {
             return None;
         }
-        let bit = self.bits.trailing_zeros() as usize;
-        self.bits &= self.bits - 1;
-        Some(self.first.saturating_add(bit))
+        let place = self.bits.trailing_zeros();
+        self.bits -= 1 << place;
+        Some(self.first.saturating_add(place as usize))
     }
 }

@@ -27,6 +27,7 @@ impl ClientBytes {
     ghost use Rattle.std.specs.Prelude.{◌≡◌, ◌<◌, ◌≤◌, ◌+◌, ◌↔◌, ℕ, length, slice_set, sum, true};
     ghost use Rattle.std.specs.List.{All, slice_index_or};
     ghost use Rattle.wakeups.specs.Sums.{Applies, changed, is_more};
+    ghost use Rattle.wakeups.specs.declared.sum.Change.TheVariants.{Same};
     ghost use Rattle.client_schedule.specs.declared.limits.TheConstants.{CLIENTS};
 
     /// Nobody holds anything.
@@ -46,6 +47,7 @@ impl ClientBytes {
         ensures change { changed result (sum self.old.bytes) ≡ sum self.new.bytes }
         ensures applies { Applies result (sum self.old.bytes) }
         ensures more { is_more result ≡ true ↔ (slice_index_or self.old.bytes at 0 < holds) }
+        ensures same { (result ≡ Same) ↔ (slice_index_or self.old.bytes at 0 ≡ holds) }
     {
         let greatest = self.bytes[self.most];
         let held = mem::replace(&mut self.bytes[at], holds);

@@ -1,5 +1,10 @@
 //! What wakes a worker that waits for its sockets.
 
+ghost use Rattle.std.specs.Prelude.{◌≡◌, Bool};
+ghost use Rattle.wakeups.specs.Machines.{checked, took_ring};
+ghost use Rattle.wakeups.specs.declared.bell_step.Caller.TheVariants.{Done};
+
+use crate::bell_flags::{AtBell, BellFlags, Ringing};
 use mio::{Registry, Token, Waker};
 use std::io;
 use std::sync::atomic::{AtomicBool, Ordering};
@@ -17,8 +22,7 @@ use std::sync::atomic::{AtomicBool, Ordering};
 #[derive(Drop)]
 pub struct Doorbell {
     waker: Waker,
-    asleep: AtomicBool,
-    rung: AtomicBool,
+    flags: BellFlags,
     // Whether the worker waits for a greater mark.
     awaits_mark: AtomicBool,
 }
@@ -28,18 +32,18 @@ impl Doorbell {
     pub fn new(registry: &Registry, token: Token) -> io::Result<Doorbell> {
         Ok(Doorbell {
             waker: Waker::new(registry, token)?,
-            asleep: AtomicBool::new(false),
-            rung: AtomicBool::new(false),
+            flags: BellFlags::new(),
             awaits_mark: AtomicBool::new(false),
         })
     }
 
-    /// Wakes the worker, or keeps it awake. If the system refuses the wake, the worker's own time limit ends its wait.
-    pub(crate) fn ring(&self) {
-        self.rung.store(true, Ordering::SeqCst);
-        if self.asleep.swap(false, Ordering::SeqCst) {
-            let _woken = self.waker.wake();
-        }
+    /// Wakes the worker, or keeps it awake. If the system refuses the wake, the worker's own time limit ends its wait. The caller's steps are
+    /// done then.
+    pub(crate) fn ring(&self) -> Ringing
+        ensures { result.caller ≡ Done }
+    {
+        let rung = Ringing::begin().say_rung(&self.flags);
+        rung.look(&self.flags).wake(&self.waker)
     }
 
     /// Says whether the worker waits for a greater mark.
@@ -50,19 +54,23 @@ impl Doorbell {
     /// Rings if the worker waits for a greater mark.
     pub(crate) fn tell_mark(&self) {
         if self.awaits_mark.load(Ordering::SeqCst) {
-            self.ring();
+            drop(self.ring());
         }
     }
 
-    /// Says that the worker is about to wait, and answers whether it may. It may not if the bell was rung since it last woke.
-    pub fn falls_asleep(&self) -> bool {
-        self.asleep.store(true, Ordering::SeqCst);
-        !self.rung.load(Ordering::SeqCst)
+    /// Says that the worker is about to wait, and then looks whether it may: it may not if the bell was rung since it last woke.
+    pub fn falls_asleep(&self) -> AtBell
+        ensures { (rung : Bool) × (result.worker ≡ checked rung) }
+    {
+        AtBell::serves().say_asleep(&self.flags).check(&self.flags)
     }
 
-    /// Says that the worker is awake, and answers whether the bell was rung: then it has to look for whom.
-    pub fn wakes_up(&self) -> bool {
-        self.asleep.store(false, Ordering::SeqCst);
-        self.rung.swap(false, Ordering::SeqCst)
+    /// Says that the worker is awake, and then takes the ring back, if there was one: then it has to look for whom.
+    pub fn wakes_up(&self) -> AtBell
+        ensures { (rung : Bool) × (result.worker ≡ took_ring rung) }
+    {
+        AtBell::returned()
+            .say_awake(&self.flags)
+            .take_ring(&self.flags)
     }
 }

@@ -4,6 +4,7 @@
 #![tactic(auto)]
 
 mod account;
+mod bell_flags;
 mod bell_step;
 mod calls;
 mod choice;
@@ -15,13 +16,16 @@ mod laws;
 mod log_thread;
 mod mailbox;
 mod mark_step;
+mod marks;
 mod memory;
+mod room_wait;
 mod sum;
 mod total;
 mod wakeups;
 
 pub use account::{Account, Counted};
-pub use bell_step::{BellStep, Sleeper};
+pub use bell_flags::{AtBell, Ringing};
+pub use bell_step::{BellStep, Caller, Sleeper};
 pub use calls::{BITS, Called, WORDS};
 pub use choice::{DeskHolds, Holdings};
 pub use client_bytes::ClientBytes;
@@ -31,6 +35,7 @@ pub use laws::{every_call_is_heard, no_mark_is_missed, what_was_called_for_is_ta
 pub use log_thread::LogThread;
 pub use mailbox::{Arrival, ClientWaker, ClientWakers, Mailbox};
 pub use mark_step::{MarkStep, Waiter};
+pub use marks::{Raised, Said, Watching};
 pub use memory::Memory;
 pub use sum::{Change, is_over, passes};
 pub use total::Total;

@@ -1,17 +1,20 @@
 //! What others know of a worker's desk: where its clients come in, and which were called for.
 
-ghost use Rattle.std.specs.Prelude.{◌≡◌, ◌≤◌, IfOk};
+ghost use Rattle.std.specs.Prelude.{◌≡◌, ◌≤◌, Bool, IfOk};
 ghost use Rattle.std.specs.Arc.{arc_value};
 ghost use Rattle.claim_core.specs.declared.limits.TheConstants.{WINDOW};
 ghost use Rattle.wakeups.specs.Bells.{called_by, called_for};
+ghost use Rattle.wakeups.specs.Rooms.{since};
 
+use crate::account::Account;
 use crate::calls::{Called, Calls};
 use crate::choice::DeskHolds;
 use crate::doorbell::Doorbell;
 use crate::log_thread::LogThread;
+use crate::room_wait::since;
 use command_core::Op;
 use crossbeam_queue::ArrayQueue;
-use desk_core::{Next, Turned, Wakers};
+use desk_core::{Turned, Wakers};
 use event_log::Kind;
 use flush_core::code_of;
 use frame_core::first;
@@ -66,7 +69,7 @@ impl Mailbox {
 
     /// Has the worker look once more before it sleeps.
     pub fn ring(&self) {
-        self.bell.ring();
+        drop(self.bell.ring());
     }
 
     /// How many clients the desk has, counting those that its worker has not looked at yet.
@@ -87,16 +90,16 @@ impl Mailbox {
         }
     }
 
-    /// Says the most bytes that one of its clients holds.
-    pub fn say_most(&self, bytes: u64) {
-        self.most.store(bytes, Ordering::SeqCst);
+    /// Says the most bytes that one of its clients holds, by the account of what each holds.
+    pub fn say_most(&self, account: &Account) {
+        self.most.store(account.most(), Ordering::SeqCst);
     }
 
     /// Hands the desk a client. If too many wait for its worker already, the socket is closed.
     pub fn hand<R: Wait>(&self, rt: &R, arrival: Arrival) {
         self.clients.fetch_add(1, Ordering::SeqCst);
         match self.arrivals.push(rt, arrival) {
-            Ok(()) => self.bell.ring(),
+            Ok(()) => drop(self.bell.ring()),
             Err(refused) => {
                 drop(refused);
                 self.leaves();
@@ -144,7 +147,7 @@ impl Bell for ClientWaker {
 
     fn ring(&self) {
         self.note();
-        self.mailbox.bell.ring();
+        drop(self.mailbox.bell.ring());
     }
 }
 
@@ -166,23 +169,14 @@ pub struct ClientWakers<'a> {
 impl ClientWakers<'_> {
     /// What the turns came to. A client that waits for room does so over the mark when they began: others whose commands it waited for may
     /// have had theirs published since. If it waits for others, it doesn't stand before its neighbours.
-    pub fn since(&self, turned: Turned) -> Turned {
-        let Turned {
-            appended,
-            heard,
-            next,
-        } = turned;
-        let next = match next {
-            Next::Room(mark) if self.pace.waits(self.mailbox.desk) => {
-                Next::Output(mark.min(self.mark))
-            }
-            Next::Room(mark) => Next::Room(mark.min(self.mark)),
-            other => other,
-        };
+    pub fn since(&self, turned: Turned) -> Turned
+        ensures same { (result.appended ≡ turned.appended) × (result.heard ≡ turned.heard) }
+        ensures next { (waits : Bool) × (result.next ≡ since waits self.now.mark turned.next) }
+    {
+        let waits = self.pace.waits(self.mailbox.desk);
         Turned {
-            appended,
-            heard,
-            next,
+            next: since(turned.next, waits, self.mark),
+            ..turned
         }
     }
 }

@@ -1,14 +1,20 @@
 //! How much memory all clients hold together.
 
+ghost use Rattle.std.specs.Prelude.{◌≡◌, List, length};
+ghost use Rattle.claim_core.specs.declared.limits.TheConstants.{SEATS};
+ghost use Rattle.wakeups.specs.Budgets.{IsKnownBy};
+ghost use Rattle.wakeups.specs.declared.choice.DeskHolds.{DeskHolds};
+
 use crate::choice::{DeskHolds, Holdings};
 use crate::mailbox::Mailbox;
 use crate::sum::is_over;
 use crate::total::Total;
 use claim_core::SEATS;
+use std::marker::Model;
 use std::sync::Arc;
 
 /// How many bytes all clients may hold together, and what they hold. Each desk counts what its own clients hold. It tells the total by how
-/// much that changes, and its mailbox the most that one of them holds.
+/// much that changes, and its mailbox the most that one of them holds. Contracts see how many they may hold.
 #[derive(Drop)]
 pub struct Memory {
     total: Total,
@@ -16,9 +22,19 @@ pub struct Memory {
     mailboxes: Vec<Arc<Mailbox>>,
 }
 
+impl Model for Memory {
+    ghost use Rattle.std.specs.Prelude.{ℕ};
+
+    ghost Value = { ℕ };
+
+    ghost view = { λ a. a.total };
+}
+
 impl Memory {
     /// The memory of clients at desks with these mailboxes, which hold nothing yet.
-    pub fn new(budget: u64, mailboxes: Vec<Arc<Mailbox>>) -> Memory {
+    pub fn new(budget: u64, mailboxes: Vec<Arc<Mailbox>>) -> Memory
+        ensures { result ≡ budget }
+    {
         Memory {
             total: Total::new(budget),
             mailboxes,
@@ -26,12 +42,16 @@ impl Memory {
     }
 
     /// What all clients hold together.
-    pub fn total(&self) -> &Total {
+    pub fn total(&self) -> &Total
+        ensures { result.now ≡ self.now }
+    {
         &self.total
     }
 
     /// How many bytes all clients may hold together.
-    pub fn budget(&self) -> u64 {
+    pub fn budget(&self) -> u64
+        ensures { result ≡ self.now }
+    {
         self.total.budget()
     }
 
@@ -40,8 +60,11 @@ impl Memory {
         is_over(self.budget(), self.total.bytes())
     }
 
-    /// What is known of all clients by the desk of that number.
-    pub fn holdings(&self, desk: usize) -> Holdings {
+    /// What is known of all clients by the desk of that number, as it follows from what all desks tell at this moment.
+    pub fn holdings(&self, desk: usize) -> Holdings
+        ensures budget { result.budget ≡ self.now }
+        ensures known { (desks : List DeskHolds) × (length desks ≡ SEATS) × IsKnownBy desk result desks }
+    {
         let mut desks = [DeskHolds {
             clients: 0,
             most: 0,

@@ -2,6 +2,7 @@
 
 ghost use Rattle.std.specs.Prelude.{◌≡◌, ◌≤◌, ◌<◌, ◌+◌, ◌↔◌, ℕ, IsTrue, true};
 ghost use Rattle.wakeups.specs.Sums.{Applies, changed, is_more};
+ghost use Rattle.wakeups.specs.declared.sum.Change.TheVariants.{Same};
 
 /// How the sum changes of what all clients hold.
 #[derive(Clone, Copy)]
@@ -19,6 +20,7 @@ impl Change {
     pub fn of(held: u64, holds: u64) -> Change
         ensures change { (total : ℕ) → held ≤ total → (changed result total + held ≡ total + holds) × Applies result total }
         ensures more { is_more result ≡ true ↔ (held < holds) }
+        ensures same { (result ≡ Same) ↔ (held ≡ holds) }
     {
         if holds < held {
             Change::Less(held - holds)

@@ -1,10 +1,11 @@
 //! How the threads of a server wait for one another.
 
-ghost use Rattle.std.specs.Prelude.{◌≡◌, ◌<◌, ◌≤◌};
+ghost use Rattle.std.specs.Prelude.{◌≡◌, ◌<◌, ◌≤◌, ◌-◌, ◌^◌, ◌/◌, min, not};
 
 use crate::doorbell::Doorbell;
 use crate::ending::Ending;
 use crate::log_thread::LogThread;
+use crate::marks::{Marks, Raised, Watching};
 use engine_core::Gate;
 use event_log::Event;
 use std::alloc::AllocError;
@@ -30,11 +31,19 @@ fn rest_behind(micros: u64, commands: u64) -> u64
     ensures short { result ≤ 2000 }
     ensures quick { micros < 2000 → result ≡ 0 }
     ensures alone { commands ≤ 1 → result ≡ 0 }
+    ensures quarter { 2000 ≤ micros → 1 < commands → result ≡ min (micros / 4) 2000 }
 {
     if micros < SLOW || commands <= 1 {
         return 0;
     }
     (micros / 4).min(LONGEST_REST)
+}
+
+// Whether the flusher sleeps: not if its last turn took something, since more may be ready.
+fn sleeps(took: bool) -> bool
+    ensures { result ≡ not took }
+{
+    !took
 }
 
 /// Has the flusher sleep until a command was put into the ring, and tells workers that wait for the mark once it has risen or
@@ -50,10 +59,7 @@ pub struct Wakeups<T> {
     ending: Arc<Ending>,
     // Whether the flusher's last turn took something: more may be ready then, so that it doesn't sleep.
     took: AtomicBool,
-    // The mark that was published last, or a number over every mark once none will be; and how many workers wait for a
-    // greater one.
-    mark: AtomicU64,
-    waiting: AtomicU64,
+    marks: Marks,
     bells: Vec<Arc<Doorbell>>,
     // When the flusher's turn began, in microseconds of the clock.
     began: AtomicU64,
@@ -78,8 +84,7 @@ impl<T: Wait> Wakeups<T> {
             rt,
             ending,
             took: AtomicBool::new(false),
-            mark: AtomicU64::new(mark),
-            waiting: AtomicU64::new(0),
+            marks: Marks::new(mark),
             bells,
             began: AtomicU64::new(0),
             rest: AtomicU64::new(0),
@@ -90,7 +95,8 @@ impl<T: Wait> Wakeups<T> {
 
     /// Returns once the flusher has something to do: at once if its last turn took something, since more may be ready.
     fn await_commands(&self) {
-        if !self.took.swap(false, Ordering::SeqCst) {
+        let took = self.took.swap(false, Ordering::SeqCst);
+        if sleeps(took) {
             let longest = Duration::from_secs(LONGEST_SLEEP);
             self.ending.sleep(&self.rt, longest);
         }
@@ -101,22 +107,28 @@ impl<T: Wait> Wakeups<T> {
         self.ending.wake_flusher();
     }
 
-    /// Says that the flusher took something, and that the mark is this now.
-    fn raise(&self, mark: u64) {
+    // Says that the flusher took something, and that the mark is this now.
+    fn raise(&self, mark: u64) -> Raised
+        ensures { result.mark ≡ mark }
+    {
         self.took.store(true, Ordering::SeqCst);
-        self.mark.store(mark, Ordering::SeqCst);
-        self.wake_workers();
+        let raised = self.marks.raise(mark);
+        self.wake_workers(&raised);
+        raised
     }
 
-    /// Says that no greater mark will be published.
-    fn stop(&self) {
-        self.mark.store(u64::MAX, Ordering::SeqCst);
-        self.wake_workers();
+    // Says that no greater mark will be published.
+    fn stop(&self) -> Raised
+        ensures { result.mark ≡ 2 ^ 64 - 1 }
+    {
+        let raised = self.marks.close();
+        self.wake_workers(&raised);
+        raised
     }
 
-    // Wakes the workers that wait for a greater mark.
-    fn wake_workers(&self) {
-        if self.waiting.load(Ordering::SeqCst) > 0 {
+    // Wakes the workers that wait for a greater mark, once it is raised.
+    fn wake_workers(&self, raised: &Raised) {
+        if self.marks.is_awaited(raised) {
             for bell in &self.bells {
                 bell.tell_mark();
             }
@@ -157,7 +169,7 @@ impl<T> Wakeups<T> {
 
     /// Says that nothing more will be published: workers are to part with their clients, and each is woken.
     pub fn end(&self) {
-        self.mark.store(u64::MAX, Ordering::SeqCst);
+        drop(self.marks.close());
         self.ending.begin();
         self.ring_all();
     }
@@ -165,31 +177,27 @@ impl<T> Wakeups<T> {
     /// Has each worker go through a round before it sleeps.
     pub fn ring_all(&self) {
         for bell in &self.bells {
-            bell.ring();
+            drop(bell.ring());
         }
     }
 
     /// The mark that was published last, or a number over every mark once none will be.
     pub fn mark(&self) -> u64 {
-        self.mark.load(Ordering::SeqCst)
+        self.marks.mark()
     }
 
     /// Says whether this worker waits for a greater mark from now on: then it is told of one that is published from then on. Answers the
     /// mark as it is after that, which the worker looks at before it sleeps.
-    pub fn begin_to_wait(&self, bell: &Doorbell, awaits: bool) -> u64 {
-        if awaits {
-            bell.await_mark(true);
-            self.waiting.fetch_add(1, Ordering::SeqCst);
-        }
-        self.mark()
+    pub fn begin_to_wait(&self, bell: &Doorbell, awaits: bool) -> Watching
+        ensures { result.awaits ≡ awaits }
+    {
+        let said = self.marks.say_waiting(bell, awaits);
+        self.marks.read(said)
     }
 
     /// Says that this worker waits no more, if it did.
-    pub fn end_to_wait(&self, bell: &Doorbell, awaits: bool) {
-        if awaits {
-            bell.await_mark(false);
-            self.waiting.fetch_sub(1, Ordering::SeqCst);
-        }
+    pub fn end_to_wait(&self, bell: &Doorbell, watching: Watching) {
+        self.marks.end(bell, watching);
     }
 }
 
@@ -229,10 +237,10 @@ impl<T: Wait + Clock> Gate for Wakeups<T> {
     }
 
     fn published(&self, mark: u64) {
-        let commands = mark.saturating_sub(self.mark.load(Ordering::SeqCst));
+        let commands = mark.saturating_sub(self.marks.mark());
         let rest = rest_behind(self.taken(), commands);
         self.rest.store(rest, Ordering::SeqCst);
-        self.raise(mark);
+        drop(self.raise(mark));
     }
 
     fn wait_for_readers(&self) {
@@ -247,6 +255,6 @@ impl<T: Wait + Clock> Gate for Wakeups<T> {
     }
 
     fn stopped(&self) {
-        self.stop();
+        drop(self.stop());
     }
 }
