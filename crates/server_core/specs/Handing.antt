@@ -1,7 +1,9 @@
 -- Which worker gets a client.
-use Rattle.std.specs.Prelude.{ℕ, List, Option, Some, None, ◌≤◌, ◌<◌, ◌+◌, cond, length, nat_lt}
+use Rattle.std.specs.Prelude.{ℕ, Bool, true, false, List, Option, Some, None, ◌≤◌, ◌<◌, ◌+◌, cond, length, nat_lt}
 use Rattle.std.specs.List.{All, slice_index_or}
-use Rattle.server_core.specs.declared.acceptor.TheConstants.{ANSWERED, KEPT}
+use Rattle.server_core.specs.declared.handing.Coming.{Coming}
+use Rattle.server_core.specs.declared.handing.Coming.TheVariants.{HandedOut, LetGo, Last}
+use Rattle.server_core.specs.declared.handing.TheConstants.{ANSWERED, KEPT}
 use Rattle.ws_core.specs.declared.vacancy.Vacancy.{Vacancy}
 use Rattle.ws_core.specs.declared.vacancy.Vacancy.TheVariants.{Any, Ping, Nobody}
 
@@ -15,3 +17,9 @@ abbrev pub vacancy : (clients most : ℕ) → Option Vacancy
 vacancy clients most =
     cond (nat_lt clients most) (Some Any)
     (cond (nat_lt clients (most + KEPT)) (Some Ping) (cond (nat_lt clients (most + (KEPT + ANSWERED))) (Some Nobody) None))
+
+-- A client is handed to a desk until the server is asked to end, and then let go. The first one after its workers part with theirs is the last.
+abbrev pub comes_to : (is_asked has_begun : Bool) → Coming
+comes_to false has_begun = HandedOut
+comes_to true false = LetGo
+comes_to true true = Last

@@ -1,6 +1,12 @@
+pub mod Descriptors
 pub mod Endings
+pub mod Farewells
 pub mod Handing
+pub mod Hearing
 pub mod Keeping
 pub mod Looks
+pub mod Reports
 pub mod Serving
+pub mod Sweeps
+pub mod Turns
 pub mod Waits

@@ -1,8 +1,6 @@
 //! Where clients come in, and how they are handed to desks.
 
-ghost use Rattle.std.specs.Prelude.{◌≡◌, [], IfSome, IsNone};
-ghost use Rattle.server_core.specs.Handing.{IsFewest, vacancy};
-
+use crate::handing::{Coming, comes_to, place_for};
 use claim_core::SEATS;
 use event_log::{Kind, ServeFault, Unopened};
 use std::net::{Ipv4Addr, Net, SocketAddr, SocketAddrV4, TcpListener, TcpStream};
@@ -10,16 +8,9 @@ use std::sync::{Arc, Wait};
 use std::time::{Clock, Duration};
 use std::{io, thread};
 use wakeups::{Arrival, Ending, LogThread, Mailbox};
-use ws_core::Vacancy;
 
 /// For how many milliseconds nobody is accepted after accepting a client has failed.
 const REST: u64 = 20;
-
-/// How many places a full server has for pings. Until it is known that one is none, a client has such a place, for two seconds at most.
-const KEPT: u64 = 16;
-
-/// How many more it then answers that it is full, pings too. Descriptors are left for all of these.
-const ANSWERED: u64 = 4;
 
 /// Where clients come in, the mailboxes of the desks that get them, and how many clients the server takes.
 #[derive(Drop)]
@@ -86,13 +77,14 @@ impl<R: Wait + Clock> Acceptor<R> {
     pub(crate) fn accept_all(&self) {
         for _client in self.rt.forever() {
             match self.listener.accept() {
-                Ok((socket, _)) if self.ending.is_asked() => {
-                    drop(socket);
-                    if self.ending.has_begun() {
+                Ok((socket, _)) => match self.comes_to() {
+                    Coming::HandedOut => self.hand_out(socket),
+                    Coming::LetGo => drop(socket),
+                    Coming::Last => {
+                        drop(socket);
                         return;
                     }
-                }
-                Ok((socket, _)) => self.hand_out(socket),
+                },
                 Err(_) => {
                     self.log.count(Kind::NotAccepted);
                     thread::sleep(&self.rt, Duration::from_millis(REST));
@@ -101,17 +93,19 @@ impl<R: Wait + Clock> Acceptor<R> {
         }
     }
 
+    // What becomes of a client that comes at this moment.
+    fn comes_to(&self) -> Coming {
+        let (is_asked, has_begun) = (self.ending.is_asked(), self.ending.has_begun());
+        comes_to(is_asked, has_begun)
+    }
+
     // Hands a client to the desk that has the fewest. If as many are there as the server takes, all but a ping are only answered that. If many
     // are answered so just now, its socket is closed.
     fn hand_out(&self, socket: TcpStream) {
         let mut counts = [0u64; SEATS];
-        let total = count(&self.mailboxes, &mut counts);
-        let workers = self.mailboxes.len().min(SEATS);
-        let Some(at) = fewest(&counts[..workers]) else {
-            drop(socket);
-            return;
-        };
-        let Some(vacancy) = vacancy(total, self.most_clients) else {
+        count(&self.mailboxes, &mut counts);
+        let desks = self.mailboxes.len().min(SEATS);
+        let Some((at, vacancy)) = place_for(&counts[..desks], self.most_clients) else {
             self.log.count(Kind::Full);
             drop(socket);
             return;
@@ -120,43 +114,9 @@ impl<R: Wait + Clock> Acceptor<R> {
     }
 }
 
-// Whom the server has a place for if it has so many clients, and takes no more than that; `None` if nobody is even answered.
-fn vacancy(clients: u64, most: u64) -> Option<Vacancy>
-    ensures { result ≡ vacancy clients most }
-{
-    if clients < most {
-        Some(Vacancy::Any)
-    } else if clients - most < KEPT {
-        Some(Vacancy::Ping)
-    } else if clients - most < KEPT + ANSWERED {
-        Some(Vacancy::Nobody)
-    } else {
-        None
-    }
-}
-
-// Counts the clients of each desk, and answers how many all have.
-fn count(mailboxes: &[Arc<Mailbox>], counts: &mut [u64; SEATS]) -> u64 {
-    let mut total = 0u64;
+// Counts the clients of each desk.
+fn count(mailboxes: &[Arc<Mailbox>], counts: &mut [u64; SEATS]) {
     for (mailbox, count) in mailboxes.iter().zip(counts.iter_mut()) {
         *count = mailbox.clients();
-        total = total.saturating_add(*count);
     }
-    total
-}
-
-// The place of the least of these counts, the first of several; `None` if there are none.
-fn fewest(counts: &[u64]) -> Option<usize>
-    ensures fewest { IfSome result (IsFewest counts.now) }
-    ensures none { IsNone result → counts.now ≡ [] }
-{
-    let mut least = *counts.first()?;
-    let mut at = 0;
-    for (place, count) in counts.iter().enumerate() {
-        if *count < least {
-            least = *count;
-            at = place;
-        }
-    }
-    Some(at)
 }

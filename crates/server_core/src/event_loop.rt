@@ -5,21 +5,20 @@ ghost use Rattle.atomic_table.specs.Seated.{TableId};
 ghost use Rattle.server_core.specs.Serving.{AreAt, AreBack, AreServed};
 ghost use Rattle.server_core.specs.Waits.{first_due, is_anybody_let_in, is_anybody_ready, is_mark_awaited, wait_of};
 
-use crate::service::{Service, client_of};
+use crate::farewell::has_parted;
+use crate::rounds::{hear_events, part_all, serve_all};
+use crate::service::Service;
 use crate::shared::{ServerSeat, Shared};
 use crate::sweep::Sweep;
 use crate::worker_setup::{WorkerSetup, room_for_events};
-use client_schedule::{Clients, Outlook, Watch, reported_by};
-use mio::{Events, Poll, Registry};
+use client_schedule::{Clients, Outlook, Watch};
+use mio::{Events, Poll};
 use std::alloc::{AllocError, Global};
 use std::marker::Model;
 use std::sync::{Arc, Wait};
 use std::thread;
 use std::time::{Clock, Duration};
 use wakeups::{Doorbell, Mailbox};
-
-/// For how many milliseconds a worker waits at most, once the server ends, for clients to take what is theirs and to close.
-const LONGEST_FAREWELL: u64 = 2_000;
 
 /// For how many milliseconds a worker rests before it tries again, if memory was refused to it before it had begun.
 const SHORTAGE: u64 = 20;
@@ -127,18 +126,8 @@ impl<'a, R: Wait + Clock + Drop> EventLoop<'a, R> {
 
     /// Whether the server has ended for it: if it parts with its clients, and has none any more, or has waited for them long enough.
     pub(crate) fn is_over(&self) -> bool {
-        let Some(since) = self.parting else {
-            return false;
-        };
-        if self.now.saturating_sub(since) >= LONGEST_FAREWELL {
-            return true;
-        }
-        for service in &self.services {
-            if service.mailbox.clients() > 0 {
-                return false;
-            }
-        }
-        true
+        let has_clients = self.parting.is_some() && have_clients(&self.services);
+        has_parted(self.parting, self.now, has_clients)
     }
 
     /// Waits until there is something to do, gives each ready client its turns, and then looks which clients took too long. What has
@@ -155,7 +144,7 @@ impl<'a, R: Wait + Clock + Drop> EventLoop<'a, R> {
         serve_all(&mut self.services, self.poll.registry(), begin);
         if self.parting.is_none() && self.shared.wakeups.has_end_begun() {
             self.parting = Some(self.now);
-            sweep_all(&mut self.services, self.poll.registry(), Sweep::Part);
+            part_all(&mut self.services, self.poll.registry());
         }
     }
 
@@ -183,6 +172,16 @@ impl<'a, R: Wait + Clock + Drop> EventLoop<'a, R> {
         self.watch.go_on(self.shared.moment(), longest);
         self.now = self.watch.now();
     }
+}
+
+// Whether one of these desks has a client.
+fn have_clients<R: Wait + Clock + Drop>(services: &[Service<'_, R>]) -> bool {
+    for service in services {
+        if service.mailbox.clients() > 0 {
+            return true;
+        }
+    }
+    false
 }
 
 // What the desks of a worker say before it waits.
@@ -358,49 +357,4 @@ fn take_back<R: Wait + Clock + Drop>(
 {
     let service = services.pop().unwrap();
     seats.push_reserved(service.into_seat());
-}
-
-// Has clients stand in line if the poll told anything of their sockets, and has their streams hear it.
-fn hear_events<R: Wait + Clock + Drop>(
-    events: &Events<Global>,
-    services: &mut Vec<Service<'_, R>>,
-    now: u64,
-)
-    ensures ring { (ring : TableId) → AreServed ring services.old.items → AreServed ring services.new.items }
-    ensures count { vec_len services.new ≡ vec_len services.old }
-{
-    for event in events.iter() {
-        let (desk, client) = client_of(event.token());
-        if desk < services.len() {
-            services[desk].hear_of(client, reported_by(event), now);
-        }
-    }
-}
-
-// Has all desks begin a round so, and then do the rest of it.
-fn serve_all<R: Wait + Clock + Drop>(
-    services: &mut Vec<Service<'_, R>>,
-    registry: &Registry,
-    begin: Sweep,
-)
-    ensures ring { (ring : TableId) → AreServed ring services.old.items → AreServed ring services.new.items }
-    ensures count { vec_len services.new ≡ vec_len services.old }
-{
-    sweep_all(services, registry, begin);
-    sweep_all(services, registry, Sweep::Pass);
-    sweep_all(services, registry, Sweep::End);
-}
-
-// Has each desk do this, one after another.
-fn sweep_all<R: Wait + Clock + Drop>(
-    services: &mut Vec<Service<'_, R>>,
-    registry: &Registry,
-    sweep: Sweep,
-)
-    ensures ring { (ring : TableId) → AreServed ring services.old.items → AreServed ring services.new.items }
-    ensures count { vec_len services.new ≡ vec_len services.old }
-{
-    for desk in 0..services.len() {
-        services[desk].sweep(registry, sweep);
-    }
 }

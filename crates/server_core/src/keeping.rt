@@ -1,17 +1,17 @@
 //! How the clients of a desk keep to the memory that all may hold together.
 
 ghost use Rattle.std.specs.Prelude.{◌≡◌, ◌<◌, None, slice_index_or};
-ghost use Rattle.client_schedule.specs.Clients.{client_at};
+ghost use Rattle.client_schedule.specs.Clients.{client_at, is_greeted, is_seated, state_at};
 ghost use Rattle.wakeups.specs.Sums.{counted};
 ghost use Rattle.client_schedule.specs.declared.limits.TheConstants.{CLIENTS};
-ghost use Rattle.server_core.specs.Keeping.{EvictsMost};
+ghost use Rattle.server_core.specs.Keeping.{GivesUp, Keeps};
 
 use crate::service::Service;
 use client_schedule::Clients;
 use event_log::Kind;
 use std::sync::Wait;
 use std::time::Clock;
-use wakeups::Counted;
+use wakeups::Holdings;
 
 impl<'a, R: Wait + Clock + Drop> Service<'a, R> {
     /// Counts that a client holds so many bytes. If by this all clients hold more than they may, each worker looks whether it is one of its
@@ -22,21 +22,21 @@ impl<'a, R: Wait + Clock + Drop> Service<'a, R> {
         ensures shared { self.new.shared ≡ self.old.shared }
         ensures desk { self.new.desk ≡ self.old.desk }
     {
-        match self
+        let counted = self
             .account
-            .count(self.shared.memory.total(), number, holds)
-        {
-            Counted::Same => return,
-            Counted::Changed => {}
-            Counted::Passed => self.shared.wakeups.ring_all(),
+            .count(self.shared.memory.total(), number, holds);
+        if counted.has_passed() {
+            self.shared.wakeups.ring_all();
         }
-        self.mailbox.say_most(&self.account);
+        if counted.is_change() {
+            self.mailbox.say_most(&self.account);
+        }
     }
 
     /// If all clients hold more than they may, evicts the one that holds most, if it is one of its own. Answers which it was.
     pub(crate) fn keep_to_memory(&mut self) -> Option<usize>
         ensures shared { self.new.shared ≡ self.old.shared }
-        ensures most { EvictsMost self.old.account self.new.account }
+        ensures most { Keeps self.old.shared.now.memory self.old.account self.new.account result }
     {
         if self.shared.memory.is_over() {
             self.evict_most()
@@ -45,18 +45,26 @@ impl<'a, R: Wait + Clock + Drop> Service<'a, R> {
         }
     }
 
-    // Evicts the client that holds most of all, if it is one of its own. It counts for nothing from then on. The workers look again if
-    // all clients still hold more than they may.
+    // Evicts the client that holds most of all, if it is one of its own. The workers look again if all clients still hold more than they may.
     fn evict_most(&mut self) -> Option<usize>
         ensures shared { self.new.shared ≡ self.old.shared }
-        ensures most { EvictsMost self.old.account self.new.account }
+        ensures most { Keeps self.old.shared.now.memory self.old.account self.new.account result }
     {
         let holdings = self.shared.memory.holdings(self.mailbox.desk());
-        let number = holdings.given_up(self.account.bytes())?;
-        self.evict(number);
-        if self.shared.memory.is_over() {
+        let evicted = self.give_up(&holdings);
+        if evicted.is_some() && self.shared.memory.is_over() {
             self.shared.wakeups.ring_all();
         }
+        evicted
+    }
+
+    // Evicts the client that is given up by what is known of all clients, if it is one of its own. It counts for nothing from then on.
+    fn give_up(&mut self, holdings: &Holdings) -> Option<usize>
+        ensures shared { self.new.shared ≡ self.old.shared }
+        ensures most { GivesUp holdings.now self.old.account self.new.account result }
+    {
+        let number = holdings.given_up(self.account.bytes())?;
+        self.evict(number);
         Some(number)
     }
 
@@ -92,7 +100,9 @@ impl<'a, R: Wait + Clock + Drop> Service<'a, R> {
 }
 
 /// Whether that one of a desk's clients sits there.
-pub(crate) fn is_seated(clients: &Clients, number: usize) -> bool {
+pub(crate) fn is_seated(clients: &Clients, number: usize) -> bool
+    ensures { result ≡ is_seated (state_at number clients.now) }
+{
     match clients.get(number) {
         Some(client) => client.is_seated(),
         None => false,
@@ -100,7 +110,9 @@ pub(crate) fn is_seated(clients: &Clients, number: usize) -> bool {
 }
 
 /// Whether the handshake of that one is under way.
-pub(crate) fn is_greeted(clients: &Clients, number: usize) -> bool {
+pub(crate) fn is_greeted(clients: &Clients, number: usize) -> bool
+    ensures { result ≡ is_greeted (state_at number clients.now) }
+{
     match clients.get(number) {
         Some(client) => client.is_greeted(),
         None => false,

@@ -1,6 +1,7 @@
 //! How a server does, as its flusher sees it.
 
-ghost use Rattle.std.specs.Prelude.{◌≡◌};
+ghost use Rattle.std.specs.Prelude.{◌≡◌, ◌↔◌, IsTrue};
+ghost use Rattle.server_core.specs.Reports.{LeavesLittle, tenths};
 
 use crate::serving::ServerFlusher;
 use crate::shared::Shared;
@@ -56,7 +57,7 @@ impl Reporter {
         };
         let log = shared.wakeups.log();
         log.figures(figures, &tally);
-        if shared.wakeups.has_compacted() && used / 3 > area / 4 {
+        if leaves_little(shared.wakeups.has_compacted(), used, area) {
             log.note(&shared.rt, Event::NearlyFull { used, area });
         }
         if self.crowding.tells(tenths(&held), shared.moment())
@@ -78,8 +79,17 @@ impl Reporter {
     }
 }
 
+// Whether a compaction has left little room in an area of so many bytes, of which so many are used.
+fn leaves_little(has_compacted: bool, used: u64, area: u64) -> bool
+    ensures { IsTrue result ↔ LeavesLittle has_compacted used area }
+{
+    has_compacted && used / 3 > area / 4
+}
+
 // How many tenths are held of what may be: of the messages, or of the bytes.
-fn tenths(held: &Held) -> u64 {
+fn tenths(held: &Held) -> u64
+    ensures { result ≡ tenths held.now }
+{
     let (messages, bytes) = (
         tenths_of(held.messages, MOST_MESSAGES),
         tenths_of(held.bytes, MOST_BYTES),

@@ -1,9 +1,13 @@
 //! A desk of a worker, and how its clients are served.
 
 ghost use Rattle.std.specs.Prelude.{◌≡◌};
+ghost use Rattle.client_schedule.specs.Turns.{woken};
+ghost use Rattle.server_core.specs.declared.sweep.Sweep.TheVariants.{Begin, Part, Pass};
 
 use crate::shared::{ServerSeat, Shared};
-use client_schedule::{CLIENTS, ClientState, Clients, ReadBudget, Reported};
+use crate::sweep::Sweep;
+use crate::tokens::token_of;
+use client_schedule::{ClientState, Clients, ReadBudget, Reported};
 use desk_core::Desk;
 use mio::net::TcpStream;
 use mio::{Interest, Registry, Token};
@@ -36,17 +40,9 @@ pub(crate) struct Service<'a, R: Drop> {
     going_on: usize,
     // Whether it parts with its clients, since the server ends.
     pub(crate) parting: bool,
+    // What it has done last in a round.
+    pub(crate) swept: Sweep,
     ghost at_ring: { desk.seat.ring ≡ shared.now.ring },
-}
-
-/// The desk and the client of which the poll tells by this token.
-pub(crate) fn client_of(token: Token) -> (usize, usize) {
-    (token.0 / CLIENTS, token.0 % CLIENTS)
-}
-
-// The token by which the poll tells of that client.
-fn token_of(desk: usize, client: usize) -> Token {
-    Token(desk.saturating_mul(CLIENTS).saturating_add(client))
 }
 
 impl<'a, R: Wait + Clock + Drop> Service<'a, R> {
@@ -73,6 +69,7 @@ impl<'a, R: Wait + Clock + Drop> Service<'a, R> {
             account: Account::new(),
             going_on: 0,
             parting: false,
+            swept: Sweep::End,
         }
     }
 
@@ -91,6 +88,7 @@ impl<'a, R: Wait + Clock + Drop> Service<'a, R> {
             account,
             going_on: _,
             parting: _,
+            swept: _,
         } = self;
         drop(account);
         drop(clients);
@@ -101,6 +99,7 @@ impl<'a, R: Wait + Clock + Drop> Service<'a, R> {
     /// The poll told this of a client's socket.
     pub(crate) fn hear_of(&mut self, number: usize, told: Reported, now: u64)
         ensures shared { self.new.shared ≡ self.old.shared }
+        ensures lines { self.new.clients.lines ≡ woken number self.old.clients.lines }
     {
         if self.clients.hear_of(number, told, now)
             && let Some(link) = self.desk.link(number)
@@ -112,6 +111,7 @@ impl<'a, R: Wait + Clock + Drop> Service<'a, R> {
     /// Begins a round at that moment.
     pub(crate) fn begin(&mut self, registry: &Registry, was_rung: bool, now: u64)
         ensures shared { self.new.shared ≡ self.old.shared }
+        ensures swept { self.new.swept ≡ Begin was_rung now }
     {
         self.now = now;
         self.going_on = self.clients.count_again();
@@ -120,17 +120,20 @@ impl<'a, R: Wait + Clock + Drop> Service<'a, R> {
         }
         self.clients.retry(now);
         self.let_in();
+        self.swept = Sweep::Begin { was_rung, now };
     }
 
     /// Begins to part with all clients: each has a turn in which it hears what may still leave.
     pub(crate) fn part_with_all(&mut self)
         ensures shared { self.new.shared ≡ self.old.shared }
+        ensures swept { self.new.swept ≡ Part }
     {
         self.parting = true;
         for number in 0..self.clients.reach() {
             self.clients.wake(number);
         }
         self.mailbox.ring();
+        self.swept = Sweep::Part;
     }
 
     // Finds out for whom the bell was rung: new clients, or those that it has.
@@ -202,6 +205,7 @@ impl<'a, R: Wait + Clock + Drop> Service<'a, R> {
     /// never waits does not fill the window before them.
     pub(crate) fn pass(&mut self)
         ensures shared { self.new.shared ≡ self.old.shared }
+        ensures swept { self.new.swept ≡ Pass }
     {
         for _client in 0..self.clients.count_ready() {
             if let Some((number, standing)) = self.clients.next() {
@@ -210,6 +214,7 @@ impl<'a, R: Wait + Clock + Drop> Service<'a, R> {
             }
             self.let_in();
         }
+        self.swept = Sweep::Pass;
     }
 
     /// The same for each client that went on by itself when the round began. What this round's turns leave to be done is the next round's:

@@ -8,7 +8,7 @@ ghost use Rattle.event_log.specs.Faults.{IsNotStarted};
 ghost use Rattle.server_core.specs.Serving.{AreAt, HasEnded, IsReady, IsNewHub, IsOpened, IsEnd, announced, failed, unopened};
 
 use crate::acceptor::Acceptor;
-use crate::descriptors::clients_allowed;
+use crate::descriptors::{clients_within, descriptors_allowed};
 use crate::entrance::{Entrance, Reception};
 use crate::fittings::share;
 use crate::last_rounds::LastRounds;
@@ -97,9 +97,8 @@ where
         ensures { IfOk result (IsOpened port) }
     {
         let mut reception = reception;
-        if let Some(allowed) = clients_allowed(alloc, rt) {
-            reception.most_clients = reception.most_clients.min(allowed);
-        }
+        let limit = descriptors_allowed(alloc, rt);
+        reception.most_clients = clients_within(limit, reception.most_clients);
         match Entrance::open(alloc, rt, port, reception) {
             Ok(entrance) => Server::behind(alloc, rt, at, entrance),
             Err(fault) => Err(fault),

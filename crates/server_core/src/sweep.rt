@@ -1,6 +1,8 @@
 //! What the desks of a worker do in a round.
 
 ghost use Rattle.std.specs.Prelude.{◌≡◌};
+ghost use Rattle.server_core.specs.Sweeps.{Follows};
+ghost use Rattle.server_core.specs.declared.sweep.Sweep.TheVariants.{End};
 
 use crate::service::Service;
 use mio::Registry;
@@ -24,18 +26,26 @@ pub(crate) enum Sweep {
 impl<R: Wait + Clock + Drop> Service<'_, R> {
     /// Does its part of a round. New clients' sockets are registered there.
     pub(crate) fn sweep(&mut self, registry: &Registry, sweep: Sweep)
+        requires follows { Follows self.old.swept sweep }
         ensures shared { self.new.shared ≡ self.old.shared }
+        ensures swept { self.new.swept ≡ sweep }
     {
         match sweep {
             Sweep::Begin { was_rung, now } => self.begin(registry, was_rung, now),
             Sweep::Pass => self.pass(),
-            Sweep::End => {
-                self.pass_again();
-                // What has come from a client was heard before that.
-                self.look_at_timers();
-                self.give_way();
-            }
+            Sweep::End => self.end_round(),
             Sweep::Part => self.part_with_all(),
         }
+    }
+
+    // Ends a round. What has come from a client was heard before it is looked which of them took too long.
+    fn end_round(&mut self)
+        ensures shared { self.new.shared ≡ self.old.shared }
+        ensures swept { self.new.swept ≡ End }
+    {
+        self.pass_again();
+        self.look_at_timers();
+        self.give_way();
+        self.swept = Sweep::End;
     }
 }

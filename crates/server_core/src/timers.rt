@@ -1,6 +1,7 @@
 //! What is due of a desk's clients.
 
 ghost use Rattle.std.specs.Prelude.{◌≡◌};
+ghost use Rattle.server_core.specs.Turns.{why_given_up};
 
 use crate::keeping::{is_greeted, is_seated};
 use crate::service::{ClientDesk, Service};
@@ -47,7 +48,7 @@ impl<R: Wait + Clock + Drop> Service<'_, R> {
             // Its turn writes what waits.
             Due::Write => self.clients.wake(number),
             Due::GivenUp => {
-                let kind = why_given_up(&self.desk, progress, number);
+                let kind = why_given_up(progress, takes_nothing(&self.desk, number));
                 self.shared.wakeups.log().count(kind);
                 self.desk.lose(number);
                 self.clients.wake(number);
@@ -70,12 +71,18 @@ impl<R: Wait + Clock + Drop> Service<'_, R> {
     }
 }
 
-// Why a client at the desk that has come so far is given up.
-fn why_given_up(desk: &ClientDesk, progress: Progress, number: usize) -> Kind {
-    let takes_nothing = match desk.link(number) {
+// Whether the link of a client at the desk takes nothing of what waits for it.
+fn takes_nothing(desk: &ClientDesk, number: usize) -> bool {
+    match desk.link(number) {
         Some(link) => link.waits(),
         None => false,
-    };
+    }
+}
+
+// Why a client that has come so far is given up, by whether it takes nothing of what waits for it.
+fn why_given_up(progress: Progress, takes_nothing: bool) -> Kind
+    ensures { result ≡ why_given_up progress takes_nothing }
+{
     match progress {
         Progress::Open if takes_nothing => Kind::TakesNothing,
         Progress::Open => Kind::Silent,

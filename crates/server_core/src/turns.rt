@@ -1,6 +1,7 @@
 //! The turns of a desk's clients.
 
 ghost use Rattle.std.specs.Prelude.{◌≡◌};
+ghost use Rattle.server_core.specs.Turns.{waits};
 
 use crate::service::{ClientDesk, Service};
 use crate::shared::ServerRing;
@@ -70,7 +71,9 @@ impl<R: Wait + Clock + Drop> Service<'_, R> {
 }
 
 // Whether a client has nothing more to do at once.
-fn waits(next: Next) -> bool {
+fn waits(next: Next) -> bool
+    ensures { result ≡ waits next }
+{
     match next {
         Next::Go | Next::Write | Next::Close | Next::Over(_) => false,
         Next::Read | Next::Room(_) | Next::Output(_) | Next::Memory => true,

@@ -1,6 +1,6 @@
 use Rattle.std.proofs.Common.{◌≡◌, ◌<◌, ◌≤◌, length}
 use Rattle.std.specs.List.{AllWithin, slice_index_or}
-use Rattle.server_core.proofs.acceptor.fewest.Given as goal
+use Rattle.server_core.proofs.handing.fewest.Given as goal
 
 abbrev pub invariant-loop-place : goal.invariant-loop-place
 invariant-loop-place l = record {
