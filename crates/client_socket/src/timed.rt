@@ -15,12 +15,17 @@ pub const PATIENCE_SECONDS: u64 = 90;
 
 /// A socket whose reads and writes fail once the time of its step has passed: with `WouldBlock` if they waited until then, else
 /// with `TimedOut`. So a peer that says one byte after another gets no more time.
+///
+/// Once a write finds that the connection has ended, the next ones are `WouldBlock`: so a WebSocket, which tries to write what it could
+/// not before each read, still reads what came before the end.
 #[derive(Drop)]
 pub struct Timed<R> {
     socket: TcpStream,
     clock: R,
     began: Instant,
     limit: Duration,
+    // Whether a write found that the connection has ended.
+    is_cut: bool,
 }
 
 impl<R: Clock + Drop> Timed<R> {
@@ -34,6 +39,7 @@ impl<R: Clock + Drop> Timed<R> {
             clock,
             began,
             limit: Duration::from_secs(STEP_SECONDS),
+            is_cut: false,
         })
     }
 
@@ -66,12 +72,29 @@ impl<R: Clock + Drop> Read for Timed<R> {
 
 impl<R: Clock + Drop> Write for Timed<R> {
     fn write(&mut self, buf: &[u8]) -> io::Result<usize> {
+        if self.is_cut {
+            return Err(io::Error::from(ErrorKind::WouldBlock));
+        }
         let left = self.left()?;
         self.socket.set_write_timeout(Some(left))?;
-        self.socket.write(buf)
+        match self.socket.write(buf) {
+            Ok(count) => Ok(count),
+            Err(error) => {
+                self.is_cut = is_end(error.kind());
+                Err(error)
+            }
+        }
     }
 
     fn flush(&mut self) -> io::Result<()> {
         self.socket.flush()
     }
+}
+
+// Whether the connection has ended.
+fn is_end(kind: ErrorKind) -> bool {
+    matches!(
+        kind,
+        ErrorKind::BrokenPipe | ErrorKind::ConnectionReset | ErrorKind::ConnectionAborted
+    )
 }
