@@ -1,15 +1,17 @@
 #!/usr/bin/env python3
 """Metrics of a stompd server for Prometheus' node_exporter, out of the server's log (docs/RUNNING.md, "What it logs").
 
-    journalctl -u stompd -o cat --since -1d | deploy/metrics.py [--now MOMENT] > stompd.prom.new && mv stompd.prom.new stompd.prom
+    journalctl -u stompd -o cat --since -1d | deploy/metrics.py [--held FILE] [--now MOMENT] > stompd.prom.new && mv stompd.prom.new stompd.prom
 
 It reads the log on standard input, with systemd's lines if there are any, and needs Python 3 alone. `stompd_up` is 1 if the last line tells of a server that
 serves, and 0 after a fault, an end or a kill. The figures are those of the last `doing: ` line since the last start, and `stompd_figures_age_seconds` says how old they are. A server
-that has not told any has none. MOMENT is the time of the call, in place of the clock's (RFC 3339, in UTC).
+that has not told any has none. FILE has what `stompd held JOURNAL --json` prints (docs/CLI.md, "Objects"): then each queue and durable name has its messages and
+bytes. MOMENT is the time of the call, in place of the clock's (RFC 3339, in UTC).
 """
 
 import argparse
 import datetime
+import json
 import re
 import sys
 
@@ -30,6 +32,22 @@ FIGURES = (
     ("bytes used", "stompd_journal_used_bytes", "gauge", "bytes of the journal's live area that are used"),
     ("commands to repeat", "stompd_commands_to_repeat", "gauge", "commands that a start would repeat"),
 )
+# What the object of `stompd held --json` lists, the labels of each item, and the front of its metrics' names.
+PLACES = (("queues", {"queue": "destination"}, "stompd_queue"), ("durables", {"client_id": "client-id", "name": "activemq.subscriptionName"}, "stompd_durable"))
+AMOUNTS = (("messages", "messages that wait there, or are not acknowledged"), ("bytes", "bytes that these count for"))
+
+
+def label_of(text):
+    """The value of a label, as Prometheus' text format quotes it."""
+    return '"' + text.replace("\\", "\\\\").replace('"', '\\"').replace("\n", "\\n") + '"'
+
+
+def places_of(held):
+    """Each metric of what `stompd held --json` printed: its name, what it means, and its samples."""
+    for places, labels, front in PLACES:
+        for amount, meaning in AMOUNTS:
+            samples = [(",".join(f"{label}={label_of(it[member])}" for label, member in labels.items()), it[amount]) for it in held[places]]
+            yield f"{front}_{amount}", meaning, samples
 
 
 def moment_of(text):
@@ -79,11 +97,16 @@ class Log:
 
 def main():
     parser = argparse.ArgumentParser(description=__doc__, formatter_class=argparse.RawDescriptionHelpFormatter)
+    parser.add_argument("--held", type=argparse.FileType(encoding="utf-8"), metavar="FILE")
     parser.add_argument("--now", type=moment_of, metavar="MOMENT")
     words = parser.parse_args()
     now = words.now or datetime.datetime.now(datetime.timezone.utc)
     for metric, kind, meaning, value in Log(sys.stdin).metrics(now):
         print(f"# HELP {metric} {meaning}\n# TYPE {metric} {kind}\n{metric} {value}")
+    for metric, meaning, samples in places_of(json.load(words.held)) if words.held else ():
+        print(f"# HELP {metric} {meaning}\n# TYPE {metric} gauge")
+        for labels, value in samples:
+            print(f"{metric}{{{labels}}} {value}")
 
 
 if __name__ == "__main__":

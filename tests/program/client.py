@@ -28,9 +28,9 @@ OWN_NAMES = ("destination", "receipt", "content-length", "subscription", "messag
 # What each command is called with, and its options (docs/CLI.md).
 COMMANDS = {
     "format": ("<FILE> <BYTES>", ["--sparse"]),
-    "show": ("<FILE>", []),
-    "held": ("<FILE>", []),
-    "sessions": ("<FILE>", []),
+    "show": ("<FILE>", ["--json"]),
+    "held": ("<FILE>", ["--json"]),
+    "sessions": ("<FILE>", ["--json"]),
     "copy": ("<FILE> <NEW> <BYTES>", ["--sparse"]),
     "ping": ("<PORT>", []),
     "send": ("<PORT> <DESTINATION> [BODY]", ["--header", "--lines"]),
@@ -84,6 +84,14 @@ def helps(program, checks):
         checks.check(f"the usage of {command}", (status, printed) == (2, b"") and usage in text, text)
         for option in options:
             checks.check(f"the help of {command} has {option}", f" {option} " in text.replace("\n", " \n"), text)
+        checks.same(f"help {command} prints the same", run(program, "help", command), (0, text.encode(), ""))
+    checks.same("help prints the program's", run(program, "help"), (0, whole.encode(), ""))
+    for words in (["relay"], ["send", "relay"], ["--send"]):
+        status, printed, said = run(program, "help", *words)
+        checks.check(f"no help of {words}", (status, printed) == (2, b"") and words[-1] in said, (status, printed, said))
+    with open("/dev/full", "wb") as full:
+        done = subprocess.run([program, "help"], stdin=subprocess.DEVNULL, stdout=full, stderr=subprocess.PIPE, timeout=60)
+    checks.same("help that can't be printed", (done.returncode, done.stderr.decode()), (1, told("input or output failed")))
 
 
 def bad_words(program, checks):

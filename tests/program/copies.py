@@ -1,10 +1,11 @@
 #!/usr/bin/env python3
 """What `stompd sessions`, `held` and `copy` say and make of the journal of a server that runs: open sessions and what they subscribe to, durable names
-without messages, what subscriptions of topics hold, and copies of another size that hold the same.
+without messages, what subscriptions of topics hold, and copies of another size that hold the same. Also their JSON objects.
 
     python3 tests/program/copies.py [PROGRAM]
 """
 
+import json
 import pathlib
 import subprocess
 import sys
@@ -66,6 +67,51 @@ def says_what_is_held(broker, checks):
     checks.check("of at least its body", int(count) >= 5, lines[-1])
     reader.close()
     sender.disconnect()
+
+
+def shown_name(text):
+    """A name as the lines of `held` have it (docs/PROTOCOL.md: what is not printable ASCII, and %, as %XX)."""
+    return "".join(chr(it) if 0x20 <= it < 0x7F and it != 0x25 else f"%{it:02X}" for it in text.encode())
+
+
+def object_of(broker, word, checks):
+    """What a command prints with --json over the broker's journal."""
+    lines = printed(broker, word, "--json")
+    checks.same(f"{word} --json prints one line", len(lines), 1)
+    return json.loads(lines[0])
+
+
+def prints_objects(broker, checks):
+    """with --json the same stands in one JSON object, with numbers as numbers and names as they are"""
+    client_id, name, number, queue, topic = 'caf\u00e9 "1" \\', 'n"\n\t\u00fc\\%', '0"\\\r', "/queue/objects", "/topic/objects"
+    client = Client(broker.port).connect(client_id)
+    client.subscribe(number, queue, ack="client")
+    client.subscribe("1", topic, headers=[("activemq.subscriptionName", name)])
+    client.publish(queue, "12345")
+    other = Client(broker.port).connect()
+    other.subscribe("t", "/topic/plain", ack="client")
+    other.publish("/topic/plain", "x")
+    seen = object_of(broker, "sessions", checks)
+    first = next(it["session"] for it in seen["sessions"] if it["client-id"] == client_id)
+    checks.check("the other session has no client-id", any(it["client-id"] is None for it in seen["sessions"]), seen)
+    mine = {it["id"]: it for it in seen["subscriptions"] if it["session"] == first}
+    checks.same("a queue's subscription", mine.get(number),
+                {"session": first, "id": number, "destination": queue, "ack": "client", "activemq.subscriptionName": None, "unacknowledged": 1})
+    checks.same("a durable one", mine.get("1"),
+                {"session": first, "id": "1", "destination": topic, "ack": "auto", "activemq.subscriptionName": name, "unacknowledged": 0})
+    checks.same("as many as there are lines", len(seen["sessions"]) + len(seen["subscriptions"]), len(printed(broker, "sessions")))
+    lines, held = printed(broker, "held"), object_of(broker, "held", checks)
+    checks.same("the totals", [f"messages {held['messages']} of {held['messages_limit']}", f"bytes {held['bytes']} of {held['bytes_limit']}"], lines[:2])
+    queues = [f"{it['messages']} {it['bytes']} queue {shown_name(it['destination'])}" for it in held["queues"]]
+    names = [f"{it['messages']} {it['bytes']} durable client-id:{shown_name(it['client-id'])} activemq.subscriptionName:{shown_name(it['activemq.subscriptionName'])}" for it in held["durables"]]
+    checks.same("each queue and durable name", sorted(queues + names), sorted(lines[2:-1]))
+    checks.same("the topics", f"{held['topics']['messages']} {held['topics']['bytes']} topics", lines[-1])
+    checks.check("one message of the queue", [it["messages"] for it in held["queues"] if it["destination"] == queue] == [1] and held["topics"]["messages"] == 1, held)
+    checks.check("the durable name with its topic", {"client-id": client_id, "activemq.subscriptionName": name, "destination": topic, "messages": 0, "bytes": 0} in held["durables"], held)
+    shown = dict(it.split(" ") for it in printed(broker, "show"))
+    checks.same("show has the same", {key: str(it) for key, it in object_of(broker, "show", checks).items()}, shown)
+    client.disconnect()
+    other.disconnect()
 
 
 def copies_a_running_journal(broker, checks):
@@ -137,4 +183,4 @@ def copies_beside_load(broker, checks):
 
 
 if __name__ == "__main__":
-    sys.exit(scenario.run(__doc__, [names_sessions, says_what_is_held, copies_a_running_journal, refuses_a_copy, copies_beside_load]))
+    sys.exit(scenario.run(__doc__, [names_sessions, says_what_is_held, prints_objects, copies_a_running_journal, refuses_a_copy, copies_beside_load]))

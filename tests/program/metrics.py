@@ -3,13 +3,16 @@
 
     python3 tests/program/metrics.py
 
-The `doing: ` line is that of docs/RUNNING.md ("What it logs"), with a number for each letter; no program is run.
+The `doing: ` line is that of docs/RUNNING.md ("What it logs"), with a number for each letter, and what is held has the form of docs/CLI.md ("Objects"); no
+program is run.
 """
 
+import json
 import pathlib
 import re
 import subprocess
 import sys
+import tempfile
 
 from lib import scenario
 from lib.scenario import TOP
@@ -29,12 +32,25 @@ def doing():
     return f"stompd: {DONE_AT} {line}", len(re.findall(r"(?<=[ ])[A-Z](?= )", told))
 
 
-def metrics_of(*lines):
-    done = subprocess.run([sys.executable, TOP / "deploy" / "metrics.py", "--now", NOW], input="".join(f"{it}\n" for it in lines), capture_output=True, text=True)
+HELD = {
+    "messages": 7, "messages_limit": 4096, "bytes": 70, "bytes_limit": 16777216,
+    "queues": [{"destination": "/queue/a b", "messages": 4, "bytes": 40}],
+    "durables": [{"client-id": 'c"\\', "activemq.subscriptionName": "n\n\u00fc", "destination": "/topic/t", "messages": 2, "bytes": 20}],
+    "topics": {"messages": 1, "bytes": 10},
+}
+# Prometheus' text format quotes \\, " and the end of a line in a label.
+LABELLED = {
+    'stompd_queue_messages{queue="/queue/a b"}': 4, 'stompd_queue_bytes{queue="/queue/a b"}': 40,
+    'stompd_durable_messages{client_id="c\\"\\\\",name="n\\n\u00fc"}': 2, 'stompd_durable_bytes{client_id="c\\"\\\\",name="n\\n\u00fc"}': 20,
+}
+
+
+def metrics_of(*lines, more=()):
+    done = subprocess.run([sys.executable, TOP / "deploy" / "metrics.py", "--now", NOW, *more], input="".join(f"{it}\n" for it in lines), capture_output=True, text=True)
     if done.returncode or done.stderr:
         return {"failed": done.stderr}
     samples = [it for it in done.stdout.splitlines() if not it.startswith("#")]
-    return {name: int(number) if number.isdigit() else number for name, _, number in (it.partition(" ") for it in samples)}
+    return {name: int(number) if number.isdigit() else number for name, _, number in (it.rpartition(" ") for it in samples)}
 
 
 def main():
@@ -50,6 +66,14 @@ def main():
         told = metrics_of(STARTED, line, last)
         checks.same(f"after {name} it is down, and its figures age", (told.get("stompd_up"), told.get("stompd_figures_age_seconds")), (0, AGE))
         checks.same(f"after {name} and a new start it is up, and old figures are gone", metrics_of(STARTED, line, last, STARTED), {"stompd_up": 1})
+    with tempfile.TemporaryDirectory() as name:
+        file = pathlib.Path(name) / "held.json"
+        file.write_text(json.dumps(HELD, ensure_ascii=False), encoding="utf-8")
+        checks.same("what is held has a metric for each queue and durable name", metrics_of(STARTED, more=["--held", file]), {"stompd_up": 1, **LABELLED})
+        file.write_text(json.dumps({**HELD, "queues": [], "durables": []}), encoding="utf-8")
+        checks.same("and none for nothing", metrics_of(STARTED, more=["--held", file]), {"stompd_up": 1})
+        file.write_text("", encoding="utf-8")
+        checks.check("no object is a fault", "failed" in metrics_of(STARTED, more=["--held", file]))
     checks.same("no log is no server", metrics_of(), {"stompd_up": 0})
     checks.same("a foreign line changes nothing", metrics_of(STARTED, "Started stompd.service - stompd."), {"stompd_up": 1})
     return checks.status()

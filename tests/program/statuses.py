@@ -8,6 +8,7 @@ PROGRAM is the built program; without it, the one that bin/stompd leaves in crat
 """
 
 import errno
+import json
 import os
 import pathlib
 import select
@@ -52,6 +53,12 @@ MEMORY = "--memory takes a number of bytes from 16777216 (16M) on, and under 2^6
 ORIGINS = "an origin is what a browser sends: SCHEME://HOST or SCHEME://HOST:PORT in small letters, with nothing after it"
 VERSION = "stompd 0.2.0\n"
 EMPTY = "messages 0 of 4096\nbytes 0 of 16777216\n0 0 topics\n"
+# What each command prints of an empty journal with --json.
+OBJECTS = {
+    "show": {"version": 2, "area": 0, "used": 41, "count": 0, "held": 0},
+    "held": {"messages": 0, "messages_limit": 4096, "bytes": 0, "bytes_limit": 16777216, "queues": [], "durables": [], "topics": {"messages": 0, "bytes": 0}},
+    "sessions": {"sessions": [], "subscriptions": []},
+}
 # Areas of 4,096 bytes.
 SMALLEST = 8_224
 
@@ -158,13 +165,19 @@ def shows(checks, folder):
     for further in (["--", str(folder / "journal")], [str(folder / "journal"), "--"]):
         checks.run(["show", *further], 0, shown, NOTHING)
     checks.run(["show", "--", "--no-such-file"], 1, NOTHING, missing("--no-such-file"))
-    for command in ("show", "held"):
+    for command, wanted in OBJECTS.items():
+        done = subprocess.run([checks.program, command, "--json", str(folder / "journal")], stdin=subprocess.DEVNULL, capture_output=True, text=True, timeout=60)
+        checks.check(f"{command} --json prints one line", (done.returncode, done.stderr, done.stdout.count("\n"), done.stdout[-1:]) == (0, NOTHING, 1, "\n"), done)
+        checks.check(f"{command} --json prints an object", json.loads(done.stdout) == wanted, done.stdout)
+        checks.run([command, str(folder / "journal"), "--json"], 0, done.stdout, NOTHING)
+    checks.run(["show", "--", "--json"], 1, NOTHING, missing("--json"))
+    for command in (["show"], ["held"], *([it, "--json"] for it in OBJECTS)):
         with open("/dev/full", "wb") as full:
-            checks.run([command, str(folder / "journal")], 1, NOTHING, told("input or output failed"), sink=full)
-        checks.run([command, str(folder / "missing")], 1, NOTHING, missing(folder / "missing"))
-        checks.run([command, str(folder)], 1, NOTHING, SOME)
+            checks.run([*command, str(folder / "journal")], 1, NOTHING, told("input or output failed"), sink=full)
+        checks.run([*command, str(folder / "missing")], 1, NOTHING, missing(folder / "missing"))
+        checks.run([*command, str(folder)], 1, NOTHING, SOME)
         for path, data, text in broken(folder):
-            checks.run([command, str(path)], 1, NOTHING, text)
+            checks.run([*command, str(path)], 1, NOTHING, text)
             checks.check(f"{path.name} is left as it was", path.read_bytes() == data)
 
 
@@ -278,7 +291,7 @@ def words(checks, folder):
         checks.run(bad, 2, NOTHING, SOME)
     for bad in (["serve", file, "80", "--new", "1M", "--new=1M"], ["serve", file, "80", "--new"], ["format", "--new", "1M", file, "8224"]):
         checks.run(bad, 2, NOTHING, SOME)
-    for bad in (["serve", file, "80", "--origin"], ["show", "--origin", "null", file], ["show", "--sparse", file]):
+    for bad in (["serve", file, "80", "--origin"], ["show", "--origin", "null", file], ["show", "--sparse", file], ["show", file, "--json", "--json"], ["format", file, "8224", "--json"], ["script", "--json"]):
         checks.run(bad, 2, NOTHING, SOME)
     none = ([], ["flash"], ["--flash"], ["script", "x"], ["show"], ["show", file, "x"], ["format", file], ["format", file, "1", "2"])
     for bad in (*none, ["serve", file], ["serve", file, "80", "x"], ["--help"], ["show", "--help"]):

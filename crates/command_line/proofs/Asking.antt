@@ -5,7 +5,7 @@ use Rattle.command_line.specs.Addresses.{IsAddress}
 use Rattle.command_line.specs.Sizes.{IsSize}
 use Rattle.client_core.specs.declared.address.Address.{Address}
 use Rattle.command_line.specs.declared.parsing.Subcommand.{Subcommand}
-use Rattle.command_line.specs.declared.parsing.Subcommand.TheVariants.{Script, Version, Ping, Format, Show, Held, Sessions, Copy, Serve}
+use Rattle.command_line.specs.declared.parsing.Subcommand.TheVariants.{Script, Version, Help, Ping, Format, Show, Held, Sessions, Copy, Serve}
 
 same_test : (a b : List ℕ) → a ≡ b → bytes_eq a b ≡ bytes_eq b b
 same_test a b e = ap (λ x. bytes_eq x b) e
@@ -25,44 +25,48 @@ NoSizeOfCopy arguments = (file copy : List ℕ) (n : ℕ) → AreFilesAndSize ar
 pub no_script : (given : Words) → given.arguments ≢ [] → AskNothingWith (codes "script") given
 no_script given some Script asked = some asked.1
 no_script given some Version asked = apart (codes "script") (codes "--version") refl refl asked.0
+no_script given some Help asked = apart (codes "script") (codes "help") refl refl asked
 no_script given some (Ping address) asked = apart (codes "script") (codes "ping") refl refl asked.0
 no_script given some (Format file bytes is_sparse) asked = apart (codes "script") (codes "format") refl refl asked.0
-no_script given some (Show file) asked = apart (codes "script") (codes "show") refl refl asked.0
-no_script given some (Held file) asked = apart (codes "script") (codes "held") refl refl asked.0
-no_script given some (Sessions file) asked = apart (codes "script") (codes "sessions") refl refl asked.0
+no_script given some (Show file is_json) asked = apart (codes "script") (codes "show") refl refl asked.0
+no_script given some (Held file is_json) asked = apart (codes "script") (codes "held") refl refl asked.0
+no_script given some (Sessions file is_json) asked = apart (codes "script") (codes "sessions") refl refl asked.0
 no_script given some (Copy file copy bytes is_sparse) asked = apart (codes "script") (codes "copy") refl refl asked.0
 no_script given some (Serve file port origins threads memory new until_eof) asked = apart (codes "script") (codes "serve") refl refl asked.0
 
 pub no_version : (given : Words) → given.arguments ≢ [] → AskNothingWith (codes "--version") given
 no_version given some Script asked = apart (codes "--version") (codes "script") refl refl asked.0
 no_version given some Version asked = some asked.1
+no_version given some Help asked = apart (codes "--version") (codes "help") refl refl asked
 no_version given some (Ping address) asked = apart (codes "--version") (codes "ping") refl refl asked.0
 no_version given some (Format file bytes is_sparse) asked = apart (codes "--version") (codes "format") refl refl asked.0
-no_version given some (Show file) asked = apart (codes "--version") (codes "show") refl refl asked.0
-no_version given some (Held file) asked = apart (codes "--version") (codes "held") refl refl asked.0
-no_version given some (Sessions file) asked = apart (codes "--version") (codes "sessions") refl refl asked.0
+no_version given some (Show file is_json) asked = apart (codes "--version") (codes "show") refl refl asked.0
+no_version given some (Held file is_json) asked = apart (codes "--version") (codes "held") refl refl asked.0
+no_version given some (Sessions file is_json) asked = apart (codes "--version") (codes "sessions") refl refl asked.0
 no_version given some (Copy file copy bytes is_sparse) asked = apart (codes "--version") (codes "copy") refl refl asked.0
 no_version given some (Serve file port origins threads memory new until_eof) asked = apart (codes "--version") (codes "serve") refl refl asked.0
 
 pub no_ping : (given : Words) → ((address : Address) → AreAddress given.arguments address → ⊥) → AskNothingWith (codes "ping") given
 no_ping given none Script asked = apart (codes "ping") (codes "script") refl refl asked.0
 no_ping given none Version asked = apart (codes "ping") (codes "--version") refl refl asked.0
+no_ping given none Help asked = apart (codes "ping") (codes "help") refl refl asked
 no_ping given none (Ping address) asked = none address asked.1
 no_ping given none (Format file bytes is_sparse) asked = apart (codes "ping") (codes "format") refl refl asked.0
-no_ping given none (Show file) asked = apart (codes "ping") (codes "show") refl refl asked.0
-no_ping given none (Held file) asked = apart (codes "ping") (codes "held") refl refl asked.0
-no_ping given none (Sessions file) asked = apart (codes "ping") (codes "sessions") refl refl asked.0
+no_ping given none (Show file is_json) asked = apart (codes "ping") (codes "show") refl refl asked.0
+no_ping given none (Held file is_json) asked = apart (codes "ping") (codes "held") refl refl asked.0
+no_ping given none (Sessions file is_json) asked = apart (codes "ping") (codes "sessions") refl refl asked.0
 no_ping given none (Copy file copy bytes is_sparse) asked = apart (codes "ping") (codes "copy") refl refl asked.0
 no_ping given none (Serve file port origins threads memory new until_eof) asked = apart (codes "ping") (codes "serve") refl refl asked.0
 
 pub no_format : (given : Words) → NoSize given.arguments → AskNothingWith (codes "format") given
 no_format given none Script asked = apart (codes "format") (codes "script") refl refl asked.0
 no_format given none Version asked = apart (codes "format") (codes "--version") refl refl asked.0
+no_format given none Help asked = apart (codes "format") (codes "help") refl refl asked
 no_format given none (Ping address) asked = apart (codes "format") (codes "ping") refl refl asked.0
 no_format given none (Format file bytes is_sparse) asked = none file.now bytes asked.1 asked.2
-no_format given none (Show file) asked = apart (codes "format") (codes "show") refl refl asked.0
-no_format given none (Held file) asked = apart (codes "format") (codes "held") refl refl asked.0
-no_format given none (Sessions file) asked = apart (codes "format") (codes "sessions") refl refl asked.0
+no_format given none (Show file is_json) asked = apart (codes "format") (codes "show") refl refl asked.0
+no_format given none (Held file is_json) asked = apart (codes "format") (codes "held") refl refl asked.0
+no_format given none (Sessions file is_json) asked = apart (codes "format") (codes "sessions") refl refl asked.0
 no_format given none (Copy file copy bytes is_sparse) asked = apart (codes "format") (codes "copy") refl refl asked.0
 no_format given none (Serve file port origins threads memory new until_eof) asked = apart (codes "format") (codes "serve") refl refl asked.0
 
@@ -72,69 +76,75 @@ not_one arguments file other is = other (ap length is)
 pub no_show : (given : Words) → length given.arguments ≢ 1 → AskNothingWith (codes "show") given
 no_show given other Script asked = apart (codes "show") (codes "script") refl refl asked.0
 no_show given other Version asked = apart (codes "show") (codes "--version") refl refl asked.0
+no_show given other Help asked = apart (codes "show") (codes "help") refl refl asked
 no_show given other (Ping address) asked = apart (codes "show") (codes "ping") refl refl asked.0
 no_show given other (Format file bytes is_sparse) asked = apart (codes "show") (codes "format") refl refl asked.0
-no_show given other (Show file) asked = not_one given.arguments file.now other asked.1
-no_show given other (Held file) asked = apart (codes "show") (codes "held") refl refl asked.0
-no_show given other (Sessions file) asked = apart (codes "show") (codes "sessions") refl refl asked.0
+no_show given other (Show file is_json) asked = not_one given.arguments file.now other asked.1
+no_show given other (Held file is_json) asked = apart (codes "show") (codes "held") refl refl asked.0
+no_show given other (Sessions file is_json) asked = apart (codes "show") (codes "sessions") refl refl asked.0
 no_show given other (Copy file copy bytes is_sparse) asked = apart (codes "show") (codes "copy") refl refl asked.0
 no_show given other (Serve file port origins threads memory new until_eof) asked = apart (codes "show") (codes "serve") refl refl asked.0
 
 pub no_held : (given : Words) → length given.arguments ≢ 1 → AskNothingWith (codes "held") given
 no_held given other Script asked = apart (codes "held") (codes "script") refl refl asked.0
 no_held given other Version asked = apart (codes "held") (codes "--version") refl refl asked.0
+no_held given other Help asked = apart (codes "held") (codes "help") refl refl asked
 no_held given other (Ping address) asked = apart (codes "held") (codes "ping") refl refl asked.0
 no_held given other (Format file bytes is_sparse) asked = apart (codes "held") (codes "format") refl refl asked.0
-no_held given other (Show file) asked = apart (codes "held") (codes "show") refl refl asked.0
-no_held given other (Held file) asked = not_one given.arguments file.now other asked.1
-no_held given other (Sessions file) asked = apart (codes "held") (codes "sessions") refl refl asked.0
+no_held given other (Show file is_json) asked = apart (codes "held") (codes "show") refl refl asked.0
+no_held given other (Held file is_json) asked = not_one given.arguments file.now other asked.1
+no_held given other (Sessions file is_json) asked = apart (codes "held") (codes "sessions") refl refl asked.0
 no_held given other (Copy file copy bytes is_sparse) asked = apart (codes "held") (codes "copy") refl refl asked.0
 no_held given other (Serve file port origins threads memory new until_eof) asked = apart (codes "held") (codes "serve") refl refl asked.0
 
 pub no_sessions : (given : Words) → length given.arguments ≢ 1 → AskNothingWith (codes "sessions") given
 no_sessions given other Script asked = apart (codes "sessions") (codes "script") refl refl asked.0
 no_sessions given other Version asked = apart (codes "sessions") (codes "--version") refl refl asked.0
+no_sessions given other Help asked = apart (codes "sessions") (codes "help") refl refl asked
 no_sessions given other (Ping address) asked = apart (codes "sessions") (codes "ping") refl refl asked.0
 no_sessions given other (Format file bytes is_sparse) asked = apart (codes "sessions") (codes "format") refl refl asked.0
-no_sessions given other (Show file) asked = apart (codes "sessions") (codes "show") refl refl asked.0
-no_sessions given other (Held file) asked = apart (codes "sessions") (codes "held") refl refl asked.0
-no_sessions given other (Sessions file) asked = not_one given.arguments file.now other asked.1
+no_sessions given other (Show file is_json) asked = apart (codes "sessions") (codes "show") refl refl asked.0
+no_sessions given other (Held file is_json) asked = apart (codes "sessions") (codes "held") refl refl asked.0
+no_sessions given other (Sessions file is_json) asked = not_one given.arguments file.now other asked.1
 no_sessions given other (Copy file copy bytes is_sparse) asked = apart (codes "sessions") (codes "copy") refl refl asked.0
 no_sessions given other (Serve file port origins threads memory new until_eof) asked = apart (codes "sessions") (codes "serve") refl refl asked.0
 
 pub no_copy : (given : Words) → NoSizeOfCopy given.arguments → AskNothingWith (codes "copy") given
 no_copy given none Script asked = apart (codes "copy") (codes "script") refl refl asked.0
 no_copy given none Version asked = apart (codes "copy") (codes "--version") refl refl asked.0
+no_copy given none Help asked = apart (codes "copy") (codes "help") refl refl asked
 no_copy given none (Ping address) asked = apart (codes "copy") (codes "ping") refl refl asked.0
 no_copy given none (Format file bytes is_sparse) asked = apart (codes "copy") (codes "format") refl refl asked.0
-no_copy given none (Show file) asked = apart (codes "copy") (codes "show") refl refl asked.0
-no_copy given none (Held file) asked = apart (codes "copy") (codes "held") refl refl asked.0
-no_copy given none (Sessions file) asked = apart (codes "copy") (codes "sessions") refl refl asked.0
+no_copy given none (Show file is_json) asked = apart (codes "copy") (codes "show") refl refl asked.0
+no_copy given none (Held file is_json) asked = apart (codes "copy") (codes "held") refl refl asked.0
+no_copy given none (Sessions file is_json) asked = apart (codes "copy") (codes "sessions") refl refl asked.0
 no_copy given none (Copy file copy bytes is_sparse) asked = none file.now copy.now bytes asked.1 asked.2
 no_copy given none (Serve file port origins threads memory new until_eof) asked = apart (codes "copy") (codes "serve") refl refl asked.0
 
 pub no_serve : (given : Words) → ((file : List ℕ) (port : ℕ) → AreFileAndNumber given.arguments file port → 0 < port → port < 2 ^ 16 → ⊥) → AskNothingWith (codes "serve") given
 no_serve given none Script asked = apart (codes "serve") (codes "script") refl refl asked.0
 no_serve given none Version asked = apart (codes "serve") (codes "--version") refl refl asked.0
+no_serve given none Help asked = apart (codes "serve") (codes "help") refl refl asked
 no_serve given none (Ping address) asked = apart (codes "serve") (codes "ping") refl refl asked.0
 no_serve given none (Format file bytes is_sparse) asked = apart (codes "serve") (codes "format") refl refl asked.0
-no_serve given none (Show file) asked = apart (codes "serve") (codes "show") refl refl asked.0
-no_serve given none (Held file) asked = apart (codes "serve") (codes "held") refl refl asked.0
-no_serve given none (Sessions file) asked = apart (codes "serve") (codes "sessions") refl refl asked.0
+no_serve given none (Show file is_json) asked = apart (codes "serve") (codes "show") refl refl asked.0
+no_serve given none (Held file is_json) asked = apart (codes "serve") (codes "held") refl refl asked.0
+no_serve given none (Sessions file is_json) asked = apart (codes "serve") (codes "sessions") refl refl asked.0
 no_serve given none (Copy file copy bytes is_sparse) asked = apart (codes "serve") (codes "copy") refl refl asked.0
 no_serve given none (Serve file port origins threads memory new until_eof) asked = none file.now port asked.1 asked.2 asked.3
 
 -- a word that names no subcommand asks for nothing
-pub no_name : (name : List ℕ) (given : Words) → name ≢ codes "script" → name ≢ codes "--version" → name ≢ codes "ping" → name ≢ codes "format" → name ≢ codes "show" → name ≢ codes "held" → name ≢ codes "sessions" → name ≢ codes "copy" → name ≢ codes "serve" → AskNothingWith name given
-no_name name given s v i f w h e y p Script asked = s asked.0
-no_name name given s v i f w h e y p Version asked = v asked.0
-no_name name given s v i f w h e y p (Ping address) asked = i asked.0
-no_name name given s v i f w h e y p (Format file bytes is_sparse) asked = f asked.0
-no_name name given s v i f w h e y p (Show file) asked = w asked.0
-no_name name given s v i f w h e y p (Held file) asked = h asked.0
-no_name name given s v i f w h e y p (Sessions file) asked = e asked.0
-no_name name given s v i f w h e y p (Copy file copy bytes is_sparse) asked = y asked.0
-no_name name given s v i f w h e y p (Serve file port origins threads memory new until_eof) asked = p asked.0
+pub no_name : (name : List ℕ) (given : Words) → name ≢ codes "script" → name ≢ codes "--version" → name ≢ codes "help" → name ≢ codes "ping" → name ≢ codes "format" → name ≢ codes "show" → name ≢ codes "held" → name ≢ codes "sessions" → name ≢ codes "copy" → name ≢ codes "serve" → AskNothingWith name given
+no_name name given s v l i f w h e y p Script asked = s asked.0
+no_name name given s v l i f w h e y p Version asked = v asked.0
+no_name name given s v l i f w h e y p Help asked = l asked
+no_name name given s v l i f w h e y p (Ping address) asked = i asked.0
+no_name name given s v l i f w h e y p (Format file bytes is_sparse) asked = f asked.0
+no_name name given s v l i f w h e y p (Show file is_json) asked = w asked.0
+no_name name given s v l i f w h e y p (Held file is_json) asked = h asked.0
+no_name name given s v l i f w h e y p (Sessions file is_json) asked = e asked.0
+no_name name given s v l i f w h e y p (Copy file copy bytes is_sparse) asked = y asked.0
+no_name name given s v l i f w h e y p (Serve file port origins threads memory new until_eof) asked = p asked.0
 
 -- nothing is asked for by words of which that is so behind the program's name
 pub nothing_named : (words rest : List (List ℕ)) (program name : List ℕ) → words ≡ program ∷ name ∷ rest → AskNothingWith name (given_by rest) → AskForNothing words

@@ -1,5 +1,5 @@
 -- A failure before a script is read, and one over an empty journal.
-use Rattle.std.proofs.Common.{◌≡◌, ◌∙◌, List, ℕ, Option, Result, Ok, Err, IfErr, OnOk, refl, subst, sym, inl, inr}
+use Rattle.std.proofs.Common.{◌≡◌, ◌∙◌, ◌⊎◌, List, ℕ, Option, Result, Ok, Err, IfErr, OnOk, refl, subst, sym, inl, inr}
 use Rattle.broker_core.specs.Operations.{restarted}
 use Rattle.std.specs.Io.KnownBytes.{Appends, Consumes, IsAtEnd}
 use Rattle.broker_core.specs.States.{State, empty_state}
@@ -137,6 +137,19 @@ shown_finishes (Ok u) words asked other unread before after Done asks is apart o
   script = λ script. absurd (apart (sym is ∙ only script));
 }
 shown_finishes (Err e) words asked other unread before after Done asks is apart only does done = tt
+
+-- a failure to help, if the words ask for no script
+pub help_fails : {T : Type 0} (r : Result T Failure) (words : List (List ℕ)) (unread before after : Option (List ℕ)) (Same : Type 0) → (AsksForScript words → ⊥) → (Same → after ≡ before)
+    → IfErr r (λ failure. (failure ≡ failures.Output) ⊎ (IsRefusal failure × Same)) → IfErr r (FailsBy words unread unread before after)
+help_fails (Ok u) words unread before after Same never same told = tt
+help_fails (Err failure) words unread before after Same never same (inl output) = record {
+  stops = subst (λ f. StopsBy f unread unread before after) (sym output) refl;
+  of_script = λ script. absurd (never script);
+}
+help_fails (Err failure) words unread before after Same never same (inr (told, is)) = record {
+  stops = subst (λ written. StopsBy failure unread unread before written) (sym (same is)) (stops_refused failure unread before told);
+  of_script = λ script. absurd (never script);
+}
 
 -- a file's failure, if the words ask for no script
 pub file_fails : {T : Type 0} (r : Result T Failure) (words : List (List ℕ)) (unread before after : Option (List ℕ)) (Same : Type 0) → (AsksForScript words → ⊥) → (Same → after ≡ before)

@@ -7,7 +7,7 @@ use Rattle.command_line.specs.Numbers.{IsNumber}
 use Rattle.command_line.specs.Origins.{is_origin}
 use Rattle.command_line.specs.Sizes.{IsSize}
 use Rattle.command_line.specs.declared.parsing.Subcommand.{Subcommand}
-use Rattle.command_line.specs.declared.parsing.Subcommand.TheVariants.{Script, Version, Ping, Format, Show, Held, Sessions, Copy, Serve}
+use Rattle.command_line.specs.declared.parsing.Subcommand.TheVariants.{Script, Version, Help, Ping, Format, Show, Held, Sessions, Copy, Serve}
 use Rattle.command_line.specs.declared.given.Given.{Given}
 use Rattle.command_line.specs.declared.given.Place.{Place}
 use Rattle.command_line.specs.declared.given.Place.TheVariants.{Free, Origin, Threads, Memory, Fresh, Behind}
@@ -21,7 +21,8 @@ abbrev pub AsksForScript : List (List ℕ) → Type 0
 AsksForScript = AskForAlone (codes "script")
 
 -- What the words after a subcommand give: its arguments, the origins, and the texts for the number of threads, for the memory of clients
--- and for the size of a new journal. Also whether a file is to be sparse, and whether a server ends with standard input.
+-- and for the size of a new journal. Also whether a file is to be sparse, whether an object is to be printed, and whether a server ends with
+-- standard input.
 pub record Words : Type 0 where
   pub arguments : List (List ℕ)
   pub origins : List (List ℕ)
@@ -29,14 +30,15 @@ pub record Words : Type 0 where
   pub memory : List (List ℕ)
   pub fresh : List (List ℕ)
   pub is_sparse : Bool
+  pub is_json : Bool
   pub until_eof : Bool
 
 -- those that were taken so far
 abbrev pub words_of : Given → Words
-words_of given = record { arguments = map (λ word. word.now) given.arguments.items; origins = map (λ origin. origin.now) given.origins.items; threads = map (λ text. text.now) given.threads.items; memory = map (λ text. text.now) given.memory.items; fresh = map (λ text. text.now) given.fresh.items; is_sparse = given.is_sparse; until_eof = given.until_eof }
+words_of given = record { arguments = map (λ word. word.now) given.arguments.items; origins = map (λ origin. origin.now) given.origins.items; threads = map (λ text. text.now) given.threads.items; memory = map (λ text. text.now) given.memory.items; fresh = map (λ text. text.now) given.fresh.items; is_sparse = given.is_sparse; is_json = given.is_json; until_eof = given.until_eof }
 
 abbrev pub nothing_given : Words
-nothing_given = record { arguments = []; origins = []; threads = []; memory = []; fresh = []; is_sparse = false; until_eof = false }
+nothing_given = record { arguments = []; origins = []; threads = []; memory = []; fresh = []; is_sparse = false; is_json = false; until_eof = false }
 
 -- one argument more at the front, one origin, and one text for the number of threads, for the memory of clients, or for a new journal
 abbrev pub with_argument : List ℕ → Words → Words
@@ -65,10 +67,10 @@ with_written word given =
 
 -- an option without a value
 abbrev pub is_flag : List ℕ → Bool
-is_flag word = bytes_eq word (codes "--sparse") || bytes_eq word (codes "--until-eof")
+is_flag word = bytes_eq word (codes "--sparse") || bytes_eq word (codes "--json") || bytes_eq word (codes "--until-eof")
 
 -- What words give. Each is an argument, but for `--origin`, `--threads`, `--memory` and `--new` with the word after it, the same with `=` and
--- their value, `--sparse`, `--until-eof`, and the first `--`. After that `--`, each is an argument whatever it is. Which of these a
+-- their value, `--sparse`, `--json`, `--until-eof`, and the first `--`. After that `--`, each is an argument whatever it is. Which of these a
 -- subcommand takes is for `clap` to tell.
 abbrev pub given_from : Place → List (List ℕ) → Words
 given_from place [] = nothing_given
@@ -79,20 +81,21 @@ given_from Memory (word ∷ words) = with_memory word (given_from Free words)
 given_from Fresh (word ∷ words) = with_fresh word (given_from Free words)
 given_from Free (word ∷ words) =
     cond (bytes_eq word (codes "--sparse")) (record (given_from Free words) { is_sparse = true })
+    (cond (bytes_eq word (codes "--json")) (record (given_from Free words) { is_json = true })
     (cond (bytes_eq word (codes "--until-eof")) (record (given_from Free words) { until_eof = true })
     (cond (bytes_eq word (codes "--")) (given_from Behind words)
     (cond (bytes_eq word (codes "--origin")) (given_from Origin words)
     (cond (bytes_eq word (codes "--threads")) (given_from Threads words)
     (cond (bytes_eq word (codes "--memory")) (given_from Memory words)
     (cond (bytes_eq word (codes "--new")) (given_from Fresh words)
-    (with_written word (given_from Free words))))))))
+    (with_written word (given_from Free words)))))))))
 
 abbrev pub given_by : List (List ℕ) → Words
 given_by = given_from Free
 
 -- what these words give, and after that what those give
 abbrev pub joined : Words → Words → Words
-joined a b = record { arguments = a.arguments ++ b.arguments; origins = a.origins ++ b.origins; threads = a.threads ++ b.threads; memory = a.memory ++ b.memory; fresh = a.fresh ++ b.fresh; is_sparse = a.is_sparse || b.is_sparse; until_eof = a.until_eof || b.until_eof }
+joined a b = record { arguments = a.arguments ++ b.arguments; origins = a.origins ++ b.origins; threads = a.threads ++ b.threads; memory = a.memory ++ b.memory; fresh = a.fresh ++ b.fresh; is_sparse = a.is_sparse || b.is_sparse; is_json = a.is_json || b.is_json; until_eof = a.until_eof || b.until_eof }
 
 -- the arguments are that file, and a text that means that number
 abbrev pub AreFileAndNumber : List (List ℕ) → List ℕ → ℕ → Type 0
@@ -133,18 +136,19 @@ abbrev pub AskForNew : List (List ℕ) → Option ℕ → Type 0
 AskForNew texts None = texts ≡ []
 AskForNew texts (Some n) = AreSize texts n × (n < 2 ^ 64)
 
--- This word asks for just that, with what the words after it give. A file's size in bytes is under 2 ^ 64, and a port a number under
+-- This word asks for just that, with what the words after it give; which command `help` is of is for `clap` to tell. A file's size in bytes is under 2 ^ 64, and a port a number under
 -- 2 ^ 16 that is not 0. An origin is one that browsers send. The number of threads is one from 1 to 64, the memory of clients
 -- 16,777,216 bytes or more, and the size of a new journal under 2 ^ 64; each may be left out.
 abbrev pub AskWith : List ℕ → Words → Subcommand → Type 0
 AskWith name given Script = (name ≡ codes "script") × (given.arguments ≡ [])
 AskWith name given Version = (name ≡ codes "--version") × (given.arguments ≡ [])
+AskWith name given Help = name ≡ codes "help"
 AskWith name given (Ping address) = (name ≡ codes "ping") × AreAddress given.arguments address
 AskWith name given (Format file bytes is_sparse) =
     (name ≡ codes "format") × AreFileAndSize given.arguments file.now bytes × (bytes < 2 ^ 64) × (is_sparse ≡ given.is_sparse)
-AskWith name given (Show file) = (name ≡ codes "show") × (given.arguments ≡ file.now ∷ [])
-AskWith name given (Held file) = (name ≡ codes "held") × (given.arguments ≡ file.now ∷ [])
-AskWith name given (Sessions file) = (name ≡ codes "sessions") × (given.arguments ≡ file.now ∷ [])
+AskWith name given (Show file is_json) = (name ≡ codes "show") × (given.arguments ≡ file.now ∷ []) × (is_json ≡ given.is_json)
+AskWith name given (Held file is_json) = (name ≡ codes "held") × (given.arguments ≡ file.now ∷ []) × (is_json ≡ given.is_json)
+AskWith name given (Sessions file is_json) = (name ≡ codes "sessions") × (given.arguments ≡ file.now ∷ []) × (is_json ≡ given.is_json)
 AskWith name given (Copy file copy bytes is_sparse) =
     (name ≡ codes "copy") × AreFilesAndSize given.arguments file.now copy.now bytes × (bytes < 2 ^ 64) × (is_sparse ≡ given.is_sparse)
 AskWith name given (Serve file port origins threads memory new until_eof) =

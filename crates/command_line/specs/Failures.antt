@@ -1,4 +1,4 @@
-use Rattle.std.specs.Prelude.{◌≡◌, ◌≢◌, ◌≤◌, ◌⊎◌, List, [], ◌∷◌, ◌++◌, ℕ, Option, Result, Err, OnOk, codes}
+use Rattle.std.specs.Prelude.{◌≡◌, ◌≢◌, ◌≤◌, ◌⊎◌, List, [], ◌∷◌, ◌++◌, ℕ, Bool, Option, Result, Err, OnOk, codes, false, true}
 use Rattle.std.specs.Io.KnownBytes.{Appends, Consumes, IsAtEnd}
 use Rattle.clap.specs.Values.{kind_of}
 use Rattle.clap.specs.declared.error.Error.{Error}
@@ -24,6 +24,9 @@ use Rattle.engine_core.specs.declared.fault.ScriptFault.TheVariants as scripts
 use Rattle.disk_core.specs.Memory.{Memory}
 use Rattle.journal_files.specs.Copies.{copy_text}
 use Rattle.journal_files.specs.Held.{ShowsHeld}
+use Rattle.journal_files.specs.HeldObjects.{ShowsHeldObject}
+use Rattle.journal_files.specs.SeenObjects.{ShowsObject}
+use Rattle.journal_files.specs.SessionObjects.{ShowsSessionsObject}
 use Rattle.journal_files.specs.Sessions.{ShowsSessions}
 use Rattle.journal_files.specs.declared.journal_files.ShowFault.TheVariants as shows
 use Rattle.command_line.specs.CommandLines.{AskFor, AsksForScript}
@@ -56,17 +59,35 @@ Untouched unread left before after = (left ≡ unread) × (after ≡ before)
 abbrev pub version_line : List ℕ
 version_line = codes "stompd 0.2.0\n"
 
--- A subcommand is done. A script was read to its end, and what it prints is written. Or the version is written, or what a journal shows or
--- holds. Or a file has bytes enough for a journal. A server is never done, and a ping is done by another call (`end_ping`). No contract can
+-- what a journal shows of itself is written, in lines or as a JSON object; likewise what it holds, and its sessions
+abbrev pub ShowsAs : Bool → Option (List ℕ) → Option (List ℕ) → Type 0
+ShowsAs false before after = Shows before after
+ShowsAs true before after = ShowsObject before after
+
+abbrev pub ShowsHeldAs : Bool → Option (List ℕ) → Option (List ℕ) → Type 0
+ShowsHeldAs false before after = ShowsHeld before after
+ShowsHeldAs true before after = ShowsHeldObject before after
+
+abbrev pub ShowsSessionsAs : Bool → Option (List ℕ) → Option (List ℕ) → Type 0
+ShowsSessionsAs false before after = ShowsSessions before after
+ShowsSessionsAs true before after = ShowsSessionsObject before after
+
+-- some text was written: that of the help is clap's
+abbrev pub WritesText : Option (List ℕ) → Option (List ℕ) → Type 0
+WritesText before after = (text : List ℕ) × Appends before after text
+
+-- A subcommand is done. A script was read to its end, and what it prints is written. Or the version is written, the help, or what a journal
+-- shows or holds. Or a file has bytes enough for a journal. A server is never done, and a ping is done by another call (`end_ping`). No contract can
 -- see that a file is made, and which file is shown.
 abbrev pub IsDoneAs : Subcommand → Option (List ℕ) → Option (List ℕ) → Option (List ℕ) → Option (List ℕ) → Type 0
 IsDoneAs asks.Script unread left before after = RunsToEnd unread left before after
 IsDoneAs asks.Version unread left before after = (left ≡ unread) × Appends before after version_line
+IsDoneAs asks.Help unread left before after = (left ≡ unread) × WritesText before after
 IsDoneAs (asks.Ping port) unread left before after = ⊥
 IsDoneAs (asks.Format file bytes is_sparse) unread left before after = (8224 ≤ bytes) × Untouched unread left before after
-IsDoneAs (asks.Show file) unread left before after = (left ≡ unread) × Shows before after
-IsDoneAs (asks.Held file) unread left before after = (left ≡ unread) × ShowsHeld before after
-IsDoneAs (asks.Sessions file) unread left before after = (left ≡ unread) × ShowsSessions before after
+IsDoneAs (asks.Show file is_json) unread left before after = (left ≡ unread) × ShowsAs is_json before after
+IsDoneAs (asks.Held file is_json) unread left before after = (left ≡ unread) × ShowsHeldAs is_json before after
+IsDoneAs (asks.Sessions file is_json) unread left before after = (left ≡ unread) × ShowsSessionsAs is_json before after
 IsDoneAs (asks.Copy file copy bytes is_sparse) unread left before after = (8224 ≤ bytes) × Untouched unread left before after
 IsDoneAs (asks.Serve file port origins threads memory new until_eof) unread left before after = ⊥
 

@@ -25,7 +25,7 @@ pub enum Place {
 }
 
 /// The arguments; the origins; what is given for the number of threads, the memory of clients and the size of a new journal. Also
-/// whether a file is to be sparse, and whether a server ends with standard input.
+/// whether a file is to be sparse, whether an object is to be printed, and whether a server ends with standard input.
 #[derive(Drop)]
 pub struct Given<'a> {
     pub arguments: Vec<&'a str>,
@@ -34,6 +34,7 @@ pub struct Given<'a> {
     pub memory: Vec<&'a str>,
     pub fresh: Vec<&'a str>,
     pub is_sparse: bool,
+    pub is_json: bool,
     pub until_eof: bool,
 }
 
@@ -48,6 +49,7 @@ pub fn given_by<'a, S: AsStr>(alloc: Global, words: &'a [S]) -> Result<Given<'a>
         memory: Vec::new(alloc),
         fresh: Vec::new(alloc),
         is_sparse: false,
+        is_json: false,
         until_eof: false,
     };
     match given.take_all(words) {
@@ -154,6 +156,10 @@ impl<'a> Given<'a> {
     {
         if is_same(word, "--sparse") {
             self.is_sparse = true;
+            return true;
+        }
+        if is_same(word, "--json") {
+            self.is_json = true;
             return true;
         }
         if is_same(word, "--until-eof") {

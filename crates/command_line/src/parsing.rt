@@ -4,7 +4,7 @@ ghost use Rattle.std.specs.Prelude.{◌≡◌, ◌≢◌, ◌<◌, ◌^◌, ◌�
 ghost use Rattle.command_line.specs.CommandLines.{AreFileAndNumber, AskFor, AskForAlone, AskForMemory, AskForNew, AskForNothing, AskForThreads, AskNothingWith, AskWith, AsksForScript, HasOtherMemory, HasOtherNew, HasOtherOrigin, HasOtherThreads, HaveOtherMemory, HaveOtherNew, HaveOtherOrigin, HaveOtherThreads, words_of};
 ghost use Rattle.std.specs.List.{list_all};
 ghost use Rattle.command_line.specs.Origins.{is_origin};
-ghost use Rattle.command_line.specs.declared.parsing.Subcommand.TheVariants.{Script, Version};
+ghost use Rattle.command_line.specs.declared.parsing.Subcommand.TheVariants.{Help, Script, Version};
 
 use crate::addresses::address_of;
 use crate::given::{Given, given_by};
@@ -23,6 +23,8 @@ pub enum Subcommand<'a> {
     Script,
     /// Says which version the program is of.
     Version,
+    /// Says how the program is called, or a command of it.
+    Help,
     /// Finds out whether the server at an address answers.
     Ping {
         address: Address<'a>,
@@ -33,17 +35,20 @@ pub enum Subcommand<'a> {
         bytes: u64,
         is_sparse: bool,
     },
-    /// Shows what the journal in a file shows of itself.
+    /// Shows what the journal in a file shows of itself, in lines or as a JSON object.
     Show {
         file: &'a str,
+        is_json: bool,
     },
-    /// Shows which queues and durable names of the journal in a file hold messages.
+    /// Shows which queues and durable names of the journal in a file hold messages, in lines or as a JSON object.
     Held {
         file: &'a str,
+        is_json: bool,
     },
-    /// Shows which sessions of the journal in a file are open, and what they subscribe to.
+    /// Shows which sessions of the journal in a file are open, and what they subscribe to, in lines or as a JSON object.
     Sessions {
         file: &'a str,
+        is_json: bool,
     },
     /// Makes a file of so many bytes with a journal that holds what the journal in another file holds. Its room is taken on the device,
     /// unless it is to be sparse.
@@ -105,6 +110,9 @@ pub fn subcommand_of<'a, S: AsStr>(alloc: Global, words: &'a [S]) -> Result<Subc
     if is_alone(words, "--version") {
         return Ok(Subcommand::Version);
     }
+    if is_help(words) {
+        return Ok(Subcommand::Help);
+    }
     match matches_of(alloc, words) {
         Ok(matches) => {
             drop(matches);
@@ -122,6 +130,16 @@ fn is_alone<S: AsStr>(words: &[S], wanted: &str) -> bool
     match words {
         [_, word] => is_word(word.as_str(), wanted),
         _ => false,
+    }
+}
+
+/// Whether the words ask for help: `help` stands after the program's name.
+fn is_help<S: AsStr>(words: &[S]) -> bool
+    ensures { result ≡ true → AskFor (map S.text words.now) Help }
+{
+    match named(words) {
+        Some((name, _)) => is_word(name, "help"),
+        None => false,
     }
 }
 
@@ -189,6 +207,7 @@ fn other_asked<'a>(name: &str, given: &Given<'a>) -> Option<Subcommand<'a>>
     match name {
         "script" => asked_alone(given, Subcommand::Script),
         "--version" => asked_alone(given, Subcommand::Version),
+        "help" => Some(Subcommand::Help),
         "ping" => ping_asked(given),
         "format" => format_asked(given),
         "show" => show_asked(given),
@@ -238,7 +257,10 @@ fn show_asked<'a>(given: &Given<'a>) -> Option<Subcommand<'a>>
     ensures none { IsNone result → AskNothingWith (codes "show") (words_of given.now) }
 {
     let file = one_in(&given.arguments)?;
-    Some(Subcommand::Show { file })
+    Some(Subcommand::Show {
+        file,
+        is_json: given.is_json,
+    })
 }
 
 fn held_asked<'a>(given: &Given<'a>) -> Option<Subcommand<'a>>
@@ -246,7 +268,10 @@ fn held_asked<'a>(given: &Given<'a>) -> Option<Subcommand<'a>>
     ensures none { IsNone result → AskNothingWith (codes "held") (words_of given.now) }
 {
     let file = one_in(&given.arguments)?;
-    Some(Subcommand::Held { file })
+    Some(Subcommand::Held {
+        file,
+        is_json: given.is_json,
+    })
 }
 
 fn sessions_asked<'a>(given: &Given<'a>) -> Option<Subcommand<'a>>
@@ -254,7 +279,10 @@ fn sessions_asked<'a>(given: &Given<'a>) -> Option<Subcommand<'a>>
     ensures none { IsNone result → AskNothingWith (codes "sessions") (words_of given.now) }
 {
     let file = one_in(&given.arguments)?;
-    Some(Subcommand::Sessions { file })
+    Some(Subcommand::Sessions {
+        file,
+        is_json: given.is_json,
+    })
 }
 
 fn copy_asked<'a>(given: &Given<'a>) -> Option<Subcommand<'a>>
@@ -289,6 +317,7 @@ fn serve_asked<'a>(given: Given<'a>) -> Result<Subcommand<'a>, Refused>
                 memory: bytes,
                 fresh,
                 is_sparse: _,
+                is_json: _,
                 until_eof,
             } = given;
             drop(arguments);

@@ -1,19 +1,17 @@
 //! The program as a function of its words and streams.
 
-ghost use Rattle.std.specs.Prelude.{◌≡◌, ◌≤◌, IfErr, IfOk, OnOk, map};
+ghost use Rattle.std.specs.Prelude.{◌≡◌, ◌≤◌, ◌⊎◌, IfErr, IfOk, OnOk, map};
 ghost use Rattle.std.specs.Io.KnownBytes.{Appends};
 ghost use Rattle.broker_core.specs.States.{empty_state};
 ghost use Rattle.recover_core.specs.Standing.{Stands};
-ghost use Rattle.journal_files.specs.Held.{ShowsHeld};
-ghost use Rattle.journal_files.specs.JournalFiles.{Shows};
-ghost use Rattle.journal_files.specs.Sessions.{ShowsSessions};
 ghost use Rattle.command_line.specs.CommandLines.{AsksForScript};
-ghost use Rattle.command_line.specs.Failures.{EndsByFault, FailsBy, Finishes, RunsToEnd, StopsBy, IsBeforehand, IsOfFile, IsOfScript, IsRefusal, Tells, status_of, version_line};
+ghost use Rattle.command_line.specs.Failures.{EndsByFault, FailsBy, Finishes, RunsToEnd, ShowsAs, ShowsHeldAs, ShowsSessionsAs, StopsBy, IsBeforehand, IsOfFile, IsOfScript, IsRefusal, Tells, WritesText, status_of, version_line};
 
 use crate::making::{copy_journal, make_journal};
 use crate::misreading::{Misread, failure_of};
 use crate::parsing::{Refused, Subcommand, subcommand_of};
 use crate::telling::end_by;
+use crate::usage::matches_of;
 use crate::viewing::FileView;
 use crate::words::WordKind;
 use area_core::{FormatFault, format};
@@ -22,7 +20,10 @@ use client_core::{Cause, ClientFault, Step};
 use disk_core::{MemDisk, OpenError};
 use engine_core::{ScriptFault, run_script};
 use event_log::ServeFault;
-use journal_files::{CopyFault, ShowFault, show, show_held, show_sessions};
+use journal_files::{
+    CopyFault, ShowFault, show, show_held, show_held_object, show_object, show_sessions,
+    show_sessions_object,
+};
 use std::alloc::{AllocError, Global};
 use std::convert::AsStr;
 use std::fs::File;
@@ -197,6 +198,7 @@ pub fn run<'a, T: Files<File = File> + Clock, S: AsStr, R: Read, W: Write, P: Wr
     match subcommand_of(alloc, words) {
         Ok(Subcommand::Script) => script(alloc, reader, writer),
         Ok(Subcommand::Version) => version(writer),
+        Ok(Subcommand::Help) => help(alloc, words, writer),
         Ok(
             Subcommand::Format {
                 file,
@@ -207,9 +209,11 @@ pub fn run<'a, T: Files<File = File> + Clock, S: AsStr, R: Read, W: Write, P: Wr
             Ok(()) => Ok(()),
             Err(fault) => Err(Failure::File(file, fault)),
         },
-        Ok(Subcommand::Show { file }) => show_file(alloc, rt, file, writer),
-        Ok(Subcommand::Held { file }) => held_file(alloc, rt, file, writer),
-        Ok(Subcommand::Sessions { file }) => sessions_file(alloc, rt, file, writer),
+        Ok(Subcommand::Show { file, is_json }) => show_file(alloc, rt, file, is_json, writer),
+        Ok(Subcommand::Held { file, is_json }) => held_file(alloc, rt, file, is_json, writer),
+        Ok(Subcommand::Sessions { file, is_json }) => {
+            sessions_file(alloc, rt, file, is_json, writer)
+        }
         Ok(
             Subcommand::Copy {
                 file,
@@ -258,21 +262,71 @@ fn version<'a, W: Write>(writer: &mut W) -> Result<(), Failure<'a>>
     }
 }
 
+// Writes the help that the words ask for.
+fn help<'a, S: AsStr, W: Write>(
+    alloc: Global,
+    words: &'a [S],
+    writer: &mut W,
+) -> Result<(), Failure<'a>>
+    ensures ok { OnOk result (WritesText (W.contents writer.old) (W.contents writer.new)) }
+    ensures err { IfErr result (λ failure. (failure ≡ Failure.Output) ⊎ (IsRefusal failure × (writer.new ≡ writer.old))) }
+{
+    match help_text(alloc, words) {
+        Ok(text) => {
+            let written = writer.write_all(text.as_bytes());
+            drop(text);
+            match written {
+                Ok(()) => Ok(()),
+                Err(_) => Err(Failure::Output),
+            }
+        }
+        Err(failure) => Err(failure),
+    }
+}
+
+// The text of that help, which `clap` answers as an error.
+fn help_text<'a, S: AsStr>(alloc: Global, words: &'a [S]) -> Result<String, Failure<'a>>
+    ensures { IfErr result IsRefusal }
+{
+    let error = match matches_of(alloc, words) {
+        Ok(matches) => {
+            drop(matches);
+            return Ok(String::new(alloc));
+        }
+        Err(error) => error,
+    };
+    if error.use_stderr() {
+        return Err(refused_words(alloc, words, Refused::Words(error)));
+    }
+    let text = error.to_string(alloc);
+    drop(error);
+    match text {
+        Ok(text) => Ok(text),
+        Err(refused) => Err(Failure::Script(ScriptFault::Memory(refused))),
+    }
+}
+
 // Writes what the journal in a file shows of itself. The file is only opened for reading, so it stays as it is.
 fn show_file<'a, R: Files<File = File>, W: Write>(
     alloc: Global,
     rt: &R,
     path: &'a str,
+    is_json: bool,
     writer: &mut W,
 ) -> Result<(), Failure<'a>>
-    ensures ok { OnOk result (Shows (W.contents writer.old) (W.contents writer.new)) }
+    ensures ok { OnOk result (ShowsAs is_json (W.contents writer.old) (W.contents writer.new)) }
     ensures err { IfErr result (λ failure. IsOfFile failure (writer.new ≡ writer.old)) }
 {
     let mut disk = match FileView::open(rt, path) {
         Ok(disk) => disk,
         Err(error) => return Err(Failure::File(path, FileFault::Open(error))),
     };
-    match show(alloc, &mut disk, writer) {
+    let shown = if is_json {
+        show_object(alloc, &mut disk, writer)
+    } else {
+        show(alloc, &mut disk, writer)
+    };
+    match shown {
         Ok(()) => Ok(()),
         Err(fault) => Err(Failure::File(path, FileFault::Show(fault))),
     }
@@ -283,16 +337,22 @@ fn held_file<'a, R: Files<File = File>, W: Write>(
     alloc: Global,
     rt: &R,
     path: &'a str,
+    is_json: bool,
     writer: &mut W,
 ) -> Result<(), Failure<'a>>
-    ensures ok { OnOk result (ShowsHeld (W.contents writer.old) (W.contents writer.new)) }
+    ensures ok { OnOk result (ShowsHeldAs is_json (W.contents writer.old) (W.contents writer.new)) }
     ensures err { IfErr result (λ failure. IsOfFile failure (writer.new ≡ writer.old)) }
 {
     let mut disk = match FileView::open(rt, path) {
         Ok(disk) => disk,
         Err(error) => return Err(Failure::File(path, FileFault::Open(error))),
     };
-    match show_held(alloc, &mut disk, writer) {
+    let shown = if is_json {
+        show_held_object(alloc, &mut disk, writer)
+    } else {
+        show_held(alloc, &mut disk, writer)
+    };
+    match shown {
         Ok(()) => Ok(()),
         Err(fault) => Err(Failure::File(path, FileFault::Show(fault))),
     }
@@ -303,16 +363,22 @@ fn sessions_file<'a, R: Files<File = File>, W: Write>(
     alloc: Global,
     rt: &R,
     path: &'a str,
+    is_json: bool,
     writer: &mut W,
 ) -> Result<(), Failure<'a>>
-    ensures ok { OnOk result (ShowsSessions (W.contents writer.old) (W.contents writer.new)) }
+    ensures ok { OnOk result (ShowsSessionsAs is_json (W.contents writer.old) (W.contents writer.new)) }
     ensures err { IfErr result (λ failure. IsOfFile failure (writer.new ≡ writer.old)) }
 {
     let mut disk = match FileView::open(rt, path) {
         Ok(disk) => disk,
         Err(error) => return Err(Failure::File(path, FileFault::Open(error))),
     };
-    match show_sessions(alloc, &mut disk, writer) {
+    let shown = if is_json {
+        show_sessions_object(alloc, &mut disk, writer)
+    } else {
+        show_sessions(alloc, &mut disk, writer)
+    };
+    match shown {
         Ok(()) => Ok(()),
         Err(fault) => Err(Failure::File(path, FileFault::Show(fault))),
     }

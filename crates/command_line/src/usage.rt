@@ -52,6 +52,8 @@ const SPARSE: Row<'static> = Row::Flag(
     "Takes no room on the disk yet: the file takes it as it fills",
 );
 
+const JSON: Row<'static> = Row::Flag("json", "Prints a JSON object in one line");
+
 // The row, as `clap` has it.
 fn arg_of<'a>(alloc: Global, row: Row<'a>) -> Arg<'a> {
     match row {
@@ -153,21 +155,21 @@ fn add_files<'a>(alloc: Global, commands: &mut Vec<Command<'a>>) -> Result<(), A
         alloc,
         "show",
         "Shows what a journal is and holds, in five lines",
-        &[FILE],
+        &[FILE, JSON],
     )?;
     add(
         commands,
         alloc,
         "held",
         "Shows how much each queue and durable subscription holds, most first",
-        &[FILE],
+        &[FILE, JSON],
     )?;
     add(
         commands,
         alloc,
         "sessions",
         "Shows who is connected, and what each subscription has unacknowledged",
-        &[FILE],
+        &[FILE, JSON],
     )?;
     add(
         commands,

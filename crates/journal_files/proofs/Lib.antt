@@ -1,3 +1,4 @@
 pub mod Copied
 pub mod Gathered
 pub mod Shown
+pub mod Listed

@@ -2,3 +2,7 @@ pub mod Held
 pub mod JournalFiles
 pub mod Copies
 pub mod Sessions
+pub mod HeldObjects
+pub mod Objects
+pub mod SeenObjects
+pub mod SessionObjects

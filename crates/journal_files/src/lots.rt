@@ -111,7 +111,7 @@ fn add(lots: &mut Vec<Lot>, place: String, line: &Line) -> Result<(), AllocError
 }
 
 // How many bytes the messages of a line count for. The sum fits, however long the line is.
-fn bytes_of(line: &Line) -> u128
+pub(crate) fn bytes_of(line: &Line) -> u128
     ensures { result ≡ sum_by bytes line.now }
 {
     let mut bytes = 0;

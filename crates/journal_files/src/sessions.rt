@@ -161,7 +161,7 @@ fn write_standing<W: Write>(subscription: &Subscription, writer: &mut W) -> io::
     }
 }
 
-fn text_of_mode(mode: AckMode) -> &'static str
+pub(crate) fn text_of_mode(mode: AckMode) -> &'static str
     ensures { result.now ≡ mode_text mode }
 {
     match mode {
