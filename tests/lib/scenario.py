@@ -4,6 +4,7 @@ import argparse
 import contextlib
 import os
 import pathlib
+import random
 import resource
 import signal
 import socket
@@ -22,9 +23,14 @@ JOURNAL_BYTES = 1_073_741_856
 
 
 def free_port():
-    with socket.socket() as probe:
-        probe.bind(("127.0.0.1", 0))
-        return probe.getsockname()[1]
+    """A port that nobody listens at, below those that the system gives to clients: none of these takes it before a server does. It isn't bound to find
+    that out, since a process that another thread is just starting would have it bound for a moment longer."""
+    first = int(pathlib.Path("/proc/sys/net/ipv4/ip_local_port_range").read_text(encoding="ascii").split()[0])
+    while True:
+        port = random.randrange(10_000, max(first, 12_000))
+        with socket.socket() as probe:
+            if probe.connect_ex(("127.0.0.1", port)) != 0:
+                return port
 
 
 def take_descriptors():

@@ -3,7 +3,7 @@
 
     python3 tests/program/kinds.py [PROGRAM]
 
-PROGRAM is the built program; without it, bin/stompd. It takes some 65 seconds, in which it mostly waits, and needs Python 3 alone. Those that telling.py
+PROGRAM is the built program; without it, bin/stompd. It takes one minute or two, in which it mostly waits, and needs Python 3 alone. Those that telling.py
 provokes are left out: clients without the subprotocol, those whose outbox is full, and those whose names have no room.
 """
 
@@ -147,8 +147,12 @@ def no_descriptors(program, checks):
     with told(program) as server:
         here = Client(server.port).connect()
         used = len(os.listdir(f"/proc/{server.process.pid}/fd"))
-        soft, hard = resource.prlimit(server.process.pid, resource.RLIMIT_NOFILE)
-        resource.prlimit(server.process.pid, resource.RLIMIT_NOFILE, (used, hard))
+        soft, hard = resource.getrlimit(resource.RLIMIT_NOFILE)
+        try:
+            resource.prlimit(server.process.pid, resource.RLIMIT_NOFILE, (used, hard))
+        except PermissionError:
+            checks.tell("no descriptors: not tried, since this system lets nobody change the limits of another process")
+            return
         waiting = socket.create_connection(("127.0.0.1", server.port), timeout=5)
         form = r"failed to accept (\d+) clients: out of descriptors or memory"
         checks.check("that is told", server.await_count(form, 1, 3) >= 1, server.text)
@@ -202,11 +206,12 @@ class Slow:
         sender.disconnect()
 
 
-# In the order in which they become due.
+# In the order in which they become due: how many, the least seconds, and the most. A socket that takes nothing is offered more at the end of its time,
+# and has as long again if the system finds room for some of it.
 SLOW = (
-    ("gave up (\\d+) clients that answered no ping or close", 1, UNANSWERED),
-    ("gave up (\\d+) clients that opened no session in time", 2, GIVEN_UP),
-    ("gave up (\\d+) clients that took nothing for 60 s", 3, GIVEN_UP),
+    ("gave up (\\d+) clients that answered no ping or close", 1, UNANSWERED, UNANSWERED),
+    ("gave up (\\d+) clients that opened no session in time", 2, GIVEN_UP, GIVEN_UP),
+    ("gave up (\\d+) clients that took nothing for 60 s", 3, GIVEN_UP, 2 * GIVEN_UP),
 )
 
 
@@ -214,12 +219,12 @@ def given_up(program, checks):
     """clients that don't answer a close, open no session, or take nothing: none before its time, and each soon after"""
     with told(program) as server:
         slow = Slow(server.port)
-        for (form, _, seconds), first in zip(SLOW, slow.first):
-            time.sleep(max(0, first + seconds - EARLY - time.monotonic()))
+        for (form, _, least, _), first in zip(SLOW, slow.first):
+            time.sleep(max(0, first + least - EARLY - time.monotonic()))
             checks.same(f"{form}: none before its time", server.count(form), 0)
-        for (form, count, seconds), last in zip(SLOW, slow.last):
-            checks.same(f"{form}: told, and how many", server.await_count(form, count, max(0, last + seconds + LATE - time.monotonic())), count)
-        checks.same("and nobody else is given up", server.count(r"gave up (\d+)"), sum(count for _, count, _ in SLOW))
+        for (form, count, _, most), last in zip(SLOW, slow.last):
+            checks.same(f"{form}: told, and how many", server.await_count(form, count, max(0, last + most + LATE - time.monotonic())), count)
+        checks.same("and nobody else is given up", server.count(r"gave up (\d+)"), sum(count for _, count, _, _ in SLOW))
 
 
 def left_out(program, checks):
