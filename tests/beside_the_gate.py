@@ -8,7 +8,7 @@ PROGRAM is the built program; without it, it is what `bin/build --any` makes. Ne
 refused memory, Chromium and Debian's python3-stomp and python3-websocket for two of the clients, Node for the module and Debian's node-typescript
 for its types, dpkg and root for the package, systemd-analyze for its service, groff for the manual page, and nginx, HAProxy, Caddy, Apache and Docker for the recipes of deploy/. It
 takes some thirty minutes, and ends with status 0 only if nothing failed. With --light it runs the part that needs none of these, or strace or Node
-where they are there, with fewer kills, in some ten minutes; those that mostly wait run side by side.
+where they are there, with fewer kills, in less than fifteen minutes; those that mostly wait run side by side.
 """
 
 import argparse
@@ -170,7 +170,7 @@ def run_side_by_side(calls, endings):
 def main():
     parser = argparse.ArgumentParser(description=__doc__, formatter_class=argparse.RawDescriptionHelpFormatter)
     parser.add_argument("program", nargs="?", type=pathlib.Path)
-    parser.add_argument("--light", action="store_true", help="the part that needs Python 3 alone, and strace or Node where they are there, in some ten minutes")
+    parser.add_argument("--light", action="store_true", help="the part that needs Python 3 alone, and strace or Node where they are there, in less than fifteen minutes")
     parser.add_argument("--kills", type=int, default=100, help="how often each of those that kill the broker does so (100)")
     parser.add_argument("--only", default="", metavar="WORD", help="only the scripts in whose path or words this stands")
     words = parser.parse_args()

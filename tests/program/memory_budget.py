@@ -1,9 +1,9 @@
 #!/usr/bin/env python3
 """A server whose clients may hold 256 MiB together: 2,000 subscribe to a topic and read nothing, while somebody sends to it. Those who hold most are
-given up, before they would be for taking nothing; one that reads everything and one that sends hear what is theirs at once; and the server lives under
-a limit of memory that it would pass if all of them held what waits for them. Then 4,000 send most of a head, to a server whose clients may hold 16 MiB;
-and 1,500 one message of 600 SENDs each, to one whose disk is so slow that these wait. Then 3,000 come to a topic and go; and of 20 that send members of
-transactions, only the one that holds most is given up. Last, 400 send one message of 128 KiB each.
+given up, before they would be for taking nothing; one that reads everything and one that sends hear what is theirs at once; and the server lives
+under a limit of memory that it would pass if all of them held what waits for them. Then 4,000 send most of a head, to a server whose clients may hold
+16 MiB; and 1,500 one message of 600 SENDs each, to one whose disk is so slow that these wait. Then 3,000 come to a topic and go. Last, 400 send one
+message of 128 KiB each.
 
     python3 tests/program/memory_budget.py [PROGRAM]
 
@@ -29,7 +29,7 @@ import threading
 import time
 
 from lib import scenario
-from lib.stomp_client import Client, Closed
+from lib.stomp_client import Client
 from lib.wire import TEXT, handshake, message_bytes, stomp_bytes
 
 TOPIC = "/topic/unread"
@@ -49,10 +49,6 @@ RETURNS, GROWTH = 6, 4
 # Of frames that wait: how many clients, with one message each of so many SENDs, so many at a time; how long a sync takes, in microseconds; what they
 # may take beside the budget.
 SENDERS, SENDS, WAVE, SYNC, WAITING_REST = 1_500, 600, 100, 100_000, 67_108_864
-# Of members of transactions that are not committed: each client sits at a desk of its own. So many bytes has a member, and so many a transaction takes.
-# One client has a megabyte of them, and the others so many: more than a fair share of the least budget, and together with it more than that. With so many
-# fewer each they keep to it.
-DESKS, MEMBER, EACH_TRANSACTION, MEMBERS, MOST_MEMBERS, FEWER = 20, 4_000, 64, 208, 250, 16
 # Of the longest messages: how many clients send one each, by how many threads, of how many bytes at most, with how many headers a frame; and what they
 # may take beside the budget.
 LONGEST, THREADS, LONGEST_BYTES, HEADERS, LONGEST_REST = 400, 8, 131_072, (0, 60), 67_108_864
@@ -310,53 +306,6 @@ def frames_that_wait(broker, checks):
         one.close()
 
 
-class Member:
-    """A client that sends members of transactions, each with a receipt, and commits none."""
-
-    def __init__(self, port):
-        self.client, self.sent = Client(port, timeout=20).connect(), 0
-
-    def grow_to(self, members):
-        """Sends members until there are so many, and returns once each is taken. Whether it is still served."""
-        try:
-            for number in range(self.sent, members):
-                name = f"{number // EACH_TRANSACTION}"
-                if number % EACH_TRANSACTION == 0:
-                    self.client.send("BEGIN", [("transaction", name)])
-                self.client.send("SEND", [("destination", "/queue/never"), ("transaction", name), ("receipt", f"{number}")], "x" * MEMBER)
-                self.client.receipt(f"{number}")
-        except (Closed, ConnectionError):
-            return False
-        self.sent = members
-        return True
-
-    def is_served(self):
-        try:
-            self.client.publish("/topic/none", "x")
-        except (Closed, ConnectionError):
-            return False
-        return True
-
-
-def who_holds_most(broker, checks):
-    """whoever holds most is given up, at whichever desk it sits and whoever asks for more; and what those who left held counts no more"""
-    groups = [[Member(broker.port) for _ in range(DESKS)] for _ in range(3)]
-    for most, all_of_them in zip((0, DESKS // 2, DESKS - 1), groups):
-        others = [one for number, one in enumerate(all_of_them) if number != most]
-        all_of_them[most].grow_to(MOST_MEMBERS)
-        grown = [one.grow_to(MEMBERS - FEWER) for one in others]
-        checks.check("they keep to the budget", all(grown) and all_of_them[most].is_served(), grown)
-        # One of these asks for more than all may hold.
-        grown = [one.grow_to(MEMBERS) for one in others]
-        served = [number for number, one in enumerate(all_of_them) if one.is_served()]
-        left = [number for number in range(DESKS) if number != most]
-        checks.check(f"of {DESKS} client {most} is given up, which holds most, and nobody else", all(grown) and served == left, (grown, served))
-        for number in served:
-            all_of_them[number].client.close()
-        # What they held counts no more once their ends are heard.
-        time.sleep(2)
-
-
 class AsServed(Shipped):
     """The same, with the least budget."""
 
@@ -415,8 +364,6 @@ def main():
     with scenario.serving(program, kind=Returning) as broker:
         scenario.try_one(what_is_empty, broker, checks)
     checks.check("docs/RUNNING.md has these settings", KEEPS_NOTHING[1:] in (scenario.TOP / "docs" / "RUNNING.md").read_text(encoding="utf-8"))
-    with scenario.serving(program, kind=with_least_budget) as broker:
-        scenario.try_one(who_holds_most, broker, checks)
     with scenario.serving(program, kind=Slow) as broker:
         scenario.try_one(frames_that_wait, broker, checks)
     with scenario.serving(program, kind=AsServed) as broker:
