@@ -1,6 +1,6 @@
 //! Messages from a stream.
 
-ghost use Rattle.std.specs.Prelude.{◌≡◌, ◌≢◌, ◌≤◌, [], IfErr, IfOk, IfSome, length};
+ghost use Rattle.std.specs.Prelude.{◌≡◌, ◌≢◌, ◌≤◌, [], IfErr, IfOk, IfSome, OnOk, length};
 ghost use Rattle.client_socket.specs.Inputs.{IsLineFault, IsNoBody, IsUnsent};
 
 use crate::calls::open;
@@ -87,7 +87,8 @@ pub fn send_lines<R, I>(way: &Way<'_, R>, input: I) -> Sent
 where
     R: Net<Stream = TcpStream> + Clock + RandomSource + Clone + Drop,
     I: Read + Drop,
-    ensures { IfErr result.ended IsLineFault }
+    ensures fault { IfErr result.ended IsLineFault }
+    ensures all { OnOk result.ended (result.unsure ≡ 0) }
 {
     let mut window = Window::new(way.alloc);
     let ended = match BufReader::with_capacity(way.alloc, INPUT_BYTES, input) {
@@ -112,7 +113,8 @@ fn send_input<R, I>(
 where
     R: Net<Stream = TcpStream> + Clock + RandomSource + Clone + Drop,
     I: Read + Drop,
-    ensures { IfErr result IsLineFault }
+    ensures fault { IfErr result IsLineFault }
+    ensures all { OnOk result (window.new.owed ≡ []) }
 {
     let mut reader = reader;
     let mut link = None;
@@ -135,7 +137,8 @@ fn send_all<R, I>(
 where
     R: Net<Stream = TcpStream> + Clock + RandomSource + Clone + Drop,
     I: Read + Drop,
-    ensures { IfErr result IsLineFault }
+    ensures fault { IfErr result IsLineFault }
+    ensures all { OnOk result (window.new.owed ≡ []) }
 {
     let mut over = None;
     for _turn in 0..u64::MAX {
