@@ -24,6 +24,8 @@ from lib.stomp_client import Client, Closed
 JOURNAL_BYTES = "67108896"
 # In seconds: a server has so long to end.
 LONGEST = 5.0
+# One that has nobody to wait for ends in this time, in the quickest of a few tries.
+AT_ONCE, TRIES = 0.3, 4
 QUIET, SENDERS, DEAF = 200, 16, 8
 MOST = 250
 # How many servers are asked to end at once.
@@ -83,14 +85,24 @@ def ended(process):
 
 
 def idle(program, journal, checks):
-    """a server that nobody has come to"""
+    """a server that nobody has come to, or whose client has left"""
     process = begun(program, journal, scenario.free_port())
     started = process.stderr.readline().decode()
     checks.check("it says that it started", " started: " in started, started)
     status, seconds, told = ended(process)
     checks.same("a server without clients ends with status 0", status, 0)
-    checks.check("and at once", seconds < 2, seconds)
     checks.check("it says that it was asked to", " ending: asked to\n" in told, told)
+    took = [seconds]
+    for _ in range(TRIES):
+        port = scenario.free_port()
+        process = begun(program, journal, port)
+        client = Client(port).connect()
+        client.disconnect()
+        client.close()
+        status, seconds, _ = ended(process)
+        checks.same("so does one whose client has left", status, 0)
+        took.append(seconds)
+    checks.check(f"the quickest within {AT_ONCE} s", min(took) <= AT_ONCE, took)
 
 
 def at_once(program, journal, checks):
