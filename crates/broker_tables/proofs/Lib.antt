@@ -4,6 +4,7 @@ pub mod Awaiting
 pub mod Dues
 pub mod Handing
 pub mod Keeping
+pub mod KeptLines
 pub mod Marks
 pub mod Nexts
 pub mod Operating

@@ -1,4 +1,4 @@
-use Rattle.std.proofs.Common.{◌≡◌, ◌+◌, ◌&&◌, ◌||◌, ◌⊎◌, ◌++◌, List, [], ◌∷◌, ℕ, suc, zero, Bool, true, false, Option, None, Some, MatchOption, cond, count_by, inl, inr, is_some, nat_le, not, refl, slice_get, sym, take, ap, ◌∙◌, arith}
+use Rattle.std.proofs.Common.{◌≡◌, ◌+◌, ◌&&◌, ◌||◌, ◌⊎◌, ◌++◌, List, [], ◌∷◌, ℕ, suc, zero, Bool, true, false, Option, None, Some, cond, count_by, inl, inr, is_some, nat_le, not, refl, slice_get, sym, take, ap, ◌∙◌, arith}
 use Rattle.std.specs.List.{list_any}
 use Rattle.std.proofs.lemmas.Bool.Decides.{nat_tests}
 use Rattle.std.proofs.lemmas.List.Sums.{sum_by-cons}
@@ -10,7 +10,7 @@ use Rattle.broker_state.specs.Names.{Name, text_cmp}
 use Rattle.broker_state.specs.Waiting.{Shared, is_own, line_at, line_for, line_from}
 use Rattle.waiting_order.specs.declared.places.Place.{Place}
 use Rattle.waiting_order.specs.declared.waiter.Waiter.{Waiter}
-use Rattle.waiting_order.specs.Directories.{AreAlike, IsNext, behind_in, is_behind, is_in}
+use Rattle.waiting_order.specs.Directories.{AreAlike, IsFirstFrom, IsNext, NoneFrom, behind_in, is_behind, is_in}
 use Rattle.waiting_order.specs.Waiting.{IsOrdered, Waiting}
 use Rattle.waiting_order.proofs.Rising.{rising_before}
 use Rattle.broker_tables.specs.declared.cursors.Cursor.{Cursor}
@@ -18,24 +18,31 @@ use Rattle.broker_tables.specs.declared.due.Due.{Due}
 use Rattle.broker_tables.specs.declared.scope.Scope.{Scope}
 use Rattle.broker_tables.specs.Cursors.{AwaitAllDue, is_ahead, is_awaited}
 use Rattle.broker_tables.specs.Dues.{is_under}
-use Rattle.broker_tables.specs.Scopes.{IdleUntil, IsScope, WaitsUntil, is_within}
+use Rattle.broker_tables.specs.Scopes.{IdleUntil, IsScope, is_within}
 use Rattle.broker_tables.proofs.Dues.{clash, or_left, or_right}
 use Rattle.broker_tables.proofs.Waiters.{W}
 
--- Those who pass are those of a scope. Nothing waits before the next of them.
-pub waits_is : (scope : Scope) (passes : Waiter → Bool) → ((s : Waiter) → passes s ≡ is_within scope s) → (shared : Shared) (o : Waiting) (from : ℕ) → IsOrdered o → (next : Option Place) → IsNext passes o.all from next
-    → MatchOption next ((until : ℕ) → IdleUntil scope shared o.all from until) (WaitsUntil scope shared o.all from)
-waits_is scope passes same shared o from ordered None none =
-    λ until i w is after before within. absurd (clash (passes w.1) (same w.1 ∙ within) (none i w is after))
-waits_is scope passes same shared o from ordered (Some place) next = record {
+-- Where nobody of a scope is left, nothing waits for any of them.
+pub idle_to_end : (scope : Scope) (shared : Shared) (ws : List W) (from : ℕ) → NoneFrom (is_within scope) ws from → (until : ℕ) → IdleUntil scope shared ws from until
+idle_to_end scope shared ws from none until i w is after before within = absurd (clash (is_within scope w.1) within (none i w is after))
+
+-- and so it is before the next of them
+pub idle_before : (scope : Scope) (shared : Shared) (o : Waiting) (from : ℕ) (place : Place) → IsOrdered o → (next : IsFirstFrom (is_within scope) o.all from place) → IdleUntil scope shared o.all from place.ticket
+idle_before scope shared o from place ordered next i w is after before within =
+    let first = rising_before (λ (v : W). v.1.ticket) o.all i next.at w (place.key, next.waiter) ordered.rising is next.there (omega (arith, before, next.ticket)) in
+    absurd (clash (is_within scope w.1) within (next.before i w is after first))
+
+-- Who passes one test passes another: the next of them is the same.
+pub next_alike : (p q : Waiter → Bool) → ((s : Waiter) → p s ≡ q s) → (ws : List W) (from : ℕ) (next : Option Place) → IsNext p ws from next → IsNext q ws from next
+next_alike p q same ws from None none = λ i w is after. sym (same w.1) ∙ none i w is after
+next_alike p q same ws from (Some place) next = record {
   at = next.at;
   waiter = next.waiter;
   there = next.there;
   ticket = next.ticket;
   after = next.after;
-  idle = λ i w is after before within.
-      let first = rising_before (λ (v : W). v.1.ticket) o.all i next.at w (place.key, next.waiter) ordered.rising is next.there (omega (arith, before, next.ticket)) in
-      absurd (clash (passes w.1) (same w.1 ∙ within) (next.before i w is after first));
+  passing = sym (same next.waiter) ∙ next.passing;
+  before = λ i w is after less. sym (same w.1) ∙ next.before i w is after less;
 }
 
 pub and_true : (b : Bool) → (b && true) ≡ b

@@ -1,4 +1,4 @@
-use Rattle.std.specs.Prelude.{◌≡◌, ◌-◌, ◌<◌, ◌≤◌, ◌&&◌, ◌^◌, List, ◌∷◌, ℕ, Bool, true, nat_le, None, Option}
+use Rattle.std.specs.Prelude.{◌≡◌, ◌-◌, ◌<◌, ◌≤◌, ◌&&◌, ◌^◌, List, ◌∷◌, ℕ, Bool, false, true, nat_le, None, Option}
 use Rattle.std.specs.List.{AllByRecursion, list_any, sum_by}
 use Rattle.std.specs.BinaryHeap.{heap_items}
 use Rattle.broker_state.specs.HandOut.{can_take}
@@ -8,8 +8,11 @@ use Rattle.broker_tables.specs.declared.cursors.Cursors.{Cursors}
 use Rattle.broker_tables.specs.declared.due.Due.{Due}
 use Rattle.broker_tables.specs.declared.stock.Stock.{Stock}
 use Rattle.broker_tables.specs.Dues.{is_due}
-use Rattle.broker_tables.specs.Places.{IsFirstAt}
-use Rattle.broker_tables.specs.Scopes.{is_within}
+use Rattle.broker_tables.specs.declared.scope.Scope.{Scope}
+use Rattle.broker_tables.specs.declared.stock.Readiness.{Readiness}
+use Rattle.broker_tables.specs.declared.stock.Readiness.TheVariants.{Ready, Held, Idle}
+use Rattle.broker_tables.specs.Places.{HoldsAtKey, IsFirstAt}
+use Rattle.broker_tables.specs.Scopes.{IdleUntil, is_within}
 use Rattle.broker_tables.specs.Stocks.{stocked}
 use Rattle.waiting_order.specs.declared.key.Key.{Key}
 use Rattle.waiting_order.specs.declared.waiter.Waiter.{Waiter}
@@ -55,3 +58,9 @@ IsLeast cursor others = AllByRecursion (λ (d : Cursor). cursor.from ≤ d.from)
 -- Unless a key was found, fewer tickets are left than with that cursor.
 abbrev pub IsNearer : Option Key → Cursor → Cursors → Cursors → Type 0
 IsNearer found cursor old new = found ≡ None → tickets_left (cursors_in new) < tickets_left (cursor ∷ cursors_in old)
+
+-- What may be handed to those of a scope, as far as the one at that key shows.
+abbrev pub IsReadiness : Stock → Scope → Key → Readiness → Type 0
+IsReadiness stock scope key Ready = HoldsAtKey stock.order.all key (λ at s. can_take (stocked stock) s.sub ≡ true)
+IsReadiness stock scope key Held = HoldsAtKey stock.order.all key (λ at s. can_take (stocked stock) s.sub ≡ false)
+IsReadiness stock scope key Idle = (from until : ℕ) → IdleUntil scope stock.shared stock.order.all from until

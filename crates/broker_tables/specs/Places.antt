@@ -29,13 +29,6 @@ HoldsAtKey ws key P = (at : ℕ) (s : Waiter) → slice_get ws at ≡ Some (key,
 abbrev pub with_changed : ℕ → (Subscription → Subscription) → Waiting → Waiting
 with_changed at f o = record o { all = changed at (with_sub f) o.all }
 
--- Somebody has that place.
-pub record IsPlaceOf (ws : List (Key × Waiter)) (place : Place) : Type 0 where
-  pub at : ℕ
-  pub waiter : Waiter
-  pub there : slice_get ws at ≡ Some (place.key, waiter)
-  pub ticket : waiter.ticket ≡ place.ticket
-
 -- the first subscription that passes stands at that key
 pub record IsFirstAt (passes : Subscription → Bool) (ws : List (Key × Waiter)) (key : Key) : Type 0 where
   pub at : ℕ

@@ -27,11 +27,14 @@ abbrev pub IdleUntil : Scope → Shared → List (Key × Waiter) → ℕ → ℕ
 IdleUntil scope shared ws from until = (i : ℕ) (w : Key × Waiter) → slice_get ws i ≡ Some w → from ≤ w.1.ticket → w.1.ticket < until
     → is_within scope w.1 ≡ true → is_none (line_for shared w.1.sub) ≡ true
 
--- Nothing waits for those of a scope, from a ticket on, before somebody's place.
-pub record WaitsUntil (scope : Scope) (shared : Shared) (ws : List (Key × Waiter)) (from : ℕ) (place : Place) : Type 0 where
+-- Somebody of a scope stands at that key.
+abbrev pub StandsWithin : Scope → List (Key × Waiter) → Key → Type 0
+StandsWithin scope ws key = (at : ℕ) × (s : Waiter) × (slice_get ws at ≡ Some (key, s)) × (is_within scope s ≡ true)
+
+-- Somebody of a scope has that place.
+pub record IsPlaceWithin (scope : Scope) (ws : List (Key × Waiter)) (place : Place) : Type 0 where
   pub at : ℕ
   pub waiter : Waiter
   pub there : slice_get ws at ≡ Some (place.key, waiter)
   pub ticket : waiter.ticket ≡ place.ticket
-  pub after : from ≤ place.ticket
-  pub idle : IdleUntil scope shared ws from place.ticket
+  pub within : is_within scope waiter ≡ true

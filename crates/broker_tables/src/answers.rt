@@ -32,6 +32,13 @@ impl Answers {
         }
     }
 
+    /// The outputs of a command, after these of others.
+    pub fn after(outs: Vec<Out>) -> Answers
+        ensures { result ≡ Some outs.items }
+    {
+        Answers { kept: Some(outs) }
+    }
+
     /// Nobody hears the outputs.
     pub fn let_go() -> Answers
         ensures { result ≡ None }

@@ -9,8 +9,8 @@ ghost use Rattle.broker_tables.specs.CursorOrder.{cursor_cmp};
 ghost use Rattle.broker_tables.specs.declared.cursors.Cursor.{Cursor};
 
 use crate::due::Due;
-use crate::scope::{Scope, next_waiting, scope_of};
-use crate::stock::Stock;
+use crate::scope::{Scope, next_within, scope_of};
+use crate::stock::{Readiness, Stock};
 use std::alloc::{AllocError, Global};
 use std::cmp::Ordering;
 use std::collections::BinaryHeap;
@@ -135,7 +135,7 @@ impl Cursors {
 impl Stock {
     ghost use Rattle.std.specs.Prelude.{◌≡◌, ◌<◌, ◌^◌, ◌∷◌, IfOk, IfSome, MatchOption, OnOk};
     ghost use Rattle.broker_tables.specs.Cursors.{AreAwaited, IsLeast, IsNearer, IsReady, NoneReady, cursors_in};
-    ghost use Rattle.broker_tables.specs.Places.{IsPlaceOf};
+    ghost use Rattle.broker_tables.specs.Scopes.{IsPlaceWithin};
 
     /// The key of the first subscription in waiting order that can be served, if there is one. Cursors move on meanwhile. If memory is
     /// refused, one of them may be gone.
@@ -154,8 +154,8 @@ impl Stock {
         Ok(None)
     }
 
-    /// The cursor with the least ticket moves on to the first subscription for which something may wait, or is done if there is none.
-    /// If no other cursor is before that one, its key is given if it can be served; else the cursor goes by.
+    /// The cursor with the least ticket moves on to the first subscription of its scope, or is done if there is none. If no other cursor
+    /// is before that one, its key is given if it can be served; else the cursor goes by, or is done if nothing waits for its scope.
     fn advance(&self, cursors: &mut Cursors, cursor: Cursor) -> Result<Option<Key>, AllocError>
         requires least { IsLeast cursor cursors.old }
         requires awaited { AreAwaited (cursor ∷ cursors_in cursors.old) self.now }
@@ -165,7 +165,7 @@ impl Stock {
         ensures nearer { IfOk result (λ found. IsNearer found cursor cursors.old cursors.new) }
     {
         self.order.stand_in_order();
-        let Some(place) = next_waiting(&self.order, &self.shared, cursor.scope, cursor.from) else {
+        let Some(place) = next_within(&self.order, cursor.scope, cursor.from) else {
             return Ok(None);
         };
         let moved = Cursor {
@@ -179,7 +179,8 @@ impl Stock {
         Ok(None)
     }
 
-    /// The key of a place that no cursor is before, if the subscription there can be served. Else the cursor goes by.
+    /// The key of a place that no cursor is before, if the subscription there can be served. Else the cursor goes by, or is done if
+    /// nothing waits for its scope.
     fn serve_or_pass(
         &self,
         cursors: &mut Cursors,
@@ -187,7 +188,7 @@ impl Stock {
         place: Place,
     ) -> Result<Option<Key>, AllocError>
         requires here { cursor.from ≡ place.ticket }
-        requires there { IsPlaceOf self.now.order.all place }
+        requires there { IsPlaceWithin cursor.scope self.now.order.all place }
         requires least { IsLeast cursor cursors.old }
         requires awaited { AreAwaited (cursor ∷ cursors_in cursors.old) self.now }
         requires tickets { self.now.order.next < 2 ^ 64 }
@@ -196,14 +197,19 @@ impl Stock {
         ensures nearer { IfOk result (λ found. IsNearer found cursor cursors.old cursors.new) }
     {
         self.order.stand_in_order();
-        if self.can_serve(place.key) {
-            cursors.put(cursor)?;
-            return Ok(Some(place.key));
+        match self.readiness(cursor.scope, place.key) {
+            Readiness::Ready => {
+                cursors.put(cursor)?;
+                Ok(Some(place.key))
+            }
+            Readiness::Held => {
+                cursors.put(Cursor {
+                    from: place.ticket + 1,
+                    scope: cursor.scope,
+                })?;
+                Ok(None)
+            }
+            Readiness::Idle => Ok(None),
         }
-        cursors.put(Cursor {
-            from: place.ticket + 1,
-            scope: cursor.scope,
-        })?;
-        Ok(None)
     }
 }

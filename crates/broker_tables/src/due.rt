@@ -28,6 +28,11 @@ pub fn mark(marked: &mut Vec<Due>, due: Due) -> Result<(), AllocError>
     ensures kept { OnOk result (AllDue (is_due marked.old.items) marked.new.items) }
     ensures marked { OnOk result (AllDue (is_under due) marked.new.items) }
 {
+    // The names of a topic come by rising name.
+    if marked.last().is_none_or(|last| *last < due) {
+        marked.push(due)?;
+        return Ok(());
+    }
     match marked.binary_search(&due) {
         Ok(_there) => {
             drop(due);

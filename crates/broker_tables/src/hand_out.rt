@@ -79,18 +79,17 @@ pub fn reply(
     answers.add(out)
 }
 
-/// Takes the least message for the subscription at that key out of its line, which has one. If memory is refused, that line
-/// is gone, and the others stand.
-fn take_for(order: &mut Order, shared: &mut SharedLines, key: Key) -> Result<Message, AllocError>
+/// Takes the least message for the subscription at that key out of its line, which has one.
+fn take_for(order: &mut Order, shared: &mut SharedLines, key: Key) -> Message
     requires { StandsSo order.old.all key (λ sub. is_none (line_for shared.old sub) ≡ false) }
-    ensures taken { IfOk result (λ m. HoldsAtKey order.old.all key (λ at s. first_of (line_for shared.old s.sub) ≡ Some m)) }
-    ensures left { OnOk result (HoldsAtKey order.old.all key (λ at s. LeavesLine shared.old s.sub shared.new)) }
-    ensures order { OnOk result (HoldsAtKey order.old.all key (λ at s.
-        order.new ≡ with_changed at (λ sub. left_line sub (drop 1 (line_for shared.old s.sub))) order.old)) }
+    ensures taken { HoldsAtKey order.old.all key (λ at s. first_of (line_for shared.old s.sub) ≡ Some result) }
+    ensures left { HoldsAtKey order.old.all key (λ at s. LeavesLine shared.old s.sub shared.new) }
+    ensures order { HoldsAtKey order.old.all key (λ at s.
+        order.new ≡ with_changed at (λ sub. left_line sub (drop 1 (line_for shared.old s.sub))) order.old) }
 {
     let sub = order.get(key);
     if sub.has_own_line() {
-        return Ok(order.take(key).unwrap());
+        return order.take(key).unwrap();
     }
     shared.take_for(sub)
 }
@@ -159,7 +158,7 @@ impl Stock {
         ensures served { OnOk result (Serves number self.old key self.new answers.old answers.new) }
     {
         let delivery = self.next_delivery;
-        let message = take_for(&mut self.order, &mut self.shared, key)?;
+        let message = take_for(&mut self.order, &mut self.shared, key);
         deliver(
             alloc,
             number,

@@ -29,46 +29,6 @@ pub fn take_line<K: Ord + Drop>(alloc: Global, lines: &mut BTreeMap<K, Line>, ke
     }
 }
 
-/// Takes out the line under that key, with the key. If there is none, gives an empty one under a copy of the key. If
-/// memory is refused for the copy, no line has changed.
-pub fn take_entry<K: Ord + Clone + Drop>(
-    alloc: Global,
-    lines: &mut BTreeMap<K, Line>,
-    key: &K,
-) -> Result<(K, Line), AllocError>
-    requires same { AreSame K.cmp }
-    requires clone { (old copy : K) → K.is_clone old copy → copy ≡ old }
-    ensures key { IfOk result (λ entry. entry.0 ≡ key.now) }
-    ensures line { IfOk result (λ entry. entry.1 ≡ line_at K.cmp key.now lines.old.entries) }
-    ensures others { lines.new.entries ≡ remove_entry (is_at (K.cmp key.now)) lines.old.entries }
-    ensures absent { lookup (is_at (K.cmp key.now)) lines.new.entries ≡ None }
-    ensures ordered { IsStrictlySortedBy K.cmp (keys_of lines.new.entries) }
-{
-    match lines.remove_entry(key) {
-        Some(entry) => Ok(entry),
-        None => {
-            let key = key.clone()?;
-            Ok((key, Line::new(alloc)))
-        }
-    }
-}
-
-/// Puts a line in under that key, unless nothing waits in it. If memory is refused, the other lines stand.
-pub fn put_line<K: Ord + Drop>(
-    lines: &mut BTreeMap<K, Line>,
-    key: K,
-    line: Line,
-) -> Result<(), AllocError>
-    ensures entries { OnOk result (lines.new.entries
-        ≡ (if is_none line then lines.old.entries else insert_entry K.cmp lines.old.entries key line)) }
-    ensures err { OnErr result (lines.new.entries ≡ lines.old.entries) }
-{
-    if !line.is_empty() {
-        lines.insert(key, line)?;
-    }
-    Ok(())
-}
-
 /// From where the place of a message in its line is looked for.
 #[derive(Drop)]
 pub enum Side {
@@ -89,6 +49,31 @@ pub fn put_into(line: &mut Line, message: Message, from: Side) -> Result<(), All
     }
 }
 
+/// Puts a message into the line under that key, at its place by number; an empty line begins there if there is none. If
+/// memory is refused, that line may be empty, and the others stand.
+pub fn put_at<K: Ord + Drop>(
+    alloc: Global,
+    lines: &mut BTreeMap<K, Line>,
+    key: K,
+    message: Message,
+    from: Side,
+) -> Result<(), AllocError>
+    requires same { AreSame K.cmp }
+    ensures entries { OnOk result (lines.new.entries ≡ with_message K.cmp key message lines.old.entries) }
+    ensures others { remove_entry (is_at (K.cmp key)) lines.new.entries ≡ remove_entry (is_at (K.cmp key)) lines.old.entries }
+    ensures weight { OnOk result ((weight : Message → ℕ) → weight_of_lines weight lines.new.entries
+        ≡ weight_of_lines weight lines.old.entries + weight message) }
+{
+    let line = match lines.entry(key) {
+        Ok(entry) => entry.or_insert(Line::new(alloc)),
+        Err(refused) => {
+            drop(message);
+            return Err(AllocError::from(refused));
+        }
+    };
+    put_into(line, message, from)
+}
+
 /// Puts a message into the line under that key, at its place by number. If memory is refused, that line is gone, and the
 /// others stand.
 pub fn put<K: Ord + Clone + Drop>(
@@ -105,29 +90,34 @@ pub fn put<K: Ord + Clone + Drop>(
     ensures weight { OnOk result ((weight : Message → ℕ) → weight_of_lines weight lines.new.entries
         ≡ weight_of_lines weight lines.old.entries + weight message) }
 {
-    let (key, mut line) = take_entry(alloc, lines, key)?;
-    put_into(&mut line, message, from)?;
-    put_line(lines, key, line)
+    let outcome = match key.clone() {
+        Ok(copy) => put_at(alloc, lines, copy, message, from),
+        Err(refused) => {
+            drop(message);
+            Err(refused)
+        }
+    };
+    if outcome.is_err() {
+        lines.remove(key);
+    }
+    outcome
 }
 
-/// Takes the least message out of the line under that key. If memory is refused, that line is gone, and the others
-/// stand.
-pub fn take<K: Ord + Drop>(
-    lines: &mut BTreeMap<K, Line>,
-    key: &K,
-) -> Result<Option<Message>, AllocError>
+/// Takes the least message out of the line under that key. A line that has no more is gone.
+pub fn take<K: Ord + Drop>(lines: &mut BTreeMap<K, Line>, key: &K) -> Option<Message>
     requires { AreSame K.cmp }
-    ensures taken { IfOk result (λ m. m ≡ first_of (line_at K.cmp key.now lines.old.entries)) }
-    ensures err { OnErr result (lines.new.entries ≡ remove_entry (is_at (K.cmp key.now)) lines.old.entries) }
-    ensures rest { OnOk result (lines.new.entries ≡ with_line K.cmp key.now (drop 1 (line_at K.cmp key.now lines.old.entries)) lines.old.entries) }
-    ensures weight { OnOk result (LoseFirst lines.old.entries lines.new.entries (line_at K.cmp key.now lines.old.entries)) }
+    ensures taken { result ≡ first_of (line_at K.cmp key.now lines.old.entries) }
+    ensures rest { lines.new.entries ≡ with_line K.cmp key.now (drop 1 (line_at K.cmp key.now lines.old.entries)) lines.old.entries }
+    ensures weight { LoseFirst lines.old.entries lines.new.entries (line_at K.cmp key.now lines.old.entries) }
 {
-    let Some((key, mut line)) = lines.remove_entry(key) else {
-        return Ok(None);
+    let Some(line) = lines.get_mut(key) else {
+        return None;
     };
     let message = line.take();
-    put_line(lines, key, line)?;
-    Ok(message)
+    if line.is_empty() {
+        lines.remove(key);
+    }
+    message
 }
 
 /// Puts the messages of deliveries back into the line under that key, each at its place by number, which is looked for

@@ -1,14 +1,15 @@
 //! Among whom the next one to be served is looked for.
 
-ghost use Rattle.std.specs.Prelude.{◌≡◌, ℕ, MatchOption, Some, slice_get, true};
+ghost use Rattle.std.specs.Prelude.{◌≡◌, ℕ, true};
 ghost use Rattle.std.specs.Option.{option_map};
+ghost use Rattle.broker_state.specs.Lists.{is_none};
+ghost use Rattle.broker_state.specs.Waiting.{Shared, line_for};
 ghost use Rattle.broker_tables.specs.declared.scope.Scope.TheVariants.{Group};
-ghost use Rattle.broker_tables.specs.Scopes.{IdleUntil, IsScope, WaitsUntil};
-ghost use Rattle.waiting_order.specs.Directories.{is_in};
-ghost use Rattle.waiting_order.specs.declared.waiter.Waiter.{Waiter};
+ghost use Rattle.broker_tables.specs.Places.{HoldsAtKey};
+ghost use Rattle.broker_tables.specs.Scopes.{IdleUntil, IsScope, StandsWithin, is_within};
+ghost use Rattle.waiting_order.specs.Directories.{IsNext};
 
 use crate::due::Due;
-use crate::shared_lines::SharedLines;
 use waiting_order::{Key, Order, Place, Sought};
 
 /// Subscriptions among whom the next one to be served is looked for. The groups stand while what waits is handed out, so
@@ -42,43 +43,29 @@ pub fn scope_of(order: &Order, due: &Due) -> Option<Scope>
     }
 }
 
-/// Whether nothing waits for anybody of a group, one of whom stands at that key.
-fn is_idle(order: &Order, shared: &SharedLines, group: usize, key: Key) -> bool
-    requires { (at : ℕ) × (s : Waiter) × (slice_get order.now.all at ≡ Some (key, s)) × (is_in group s ≡ true) }
-    ensures { result ≡ true → (from until : ℕ) → IdleUntil (Group group) shared.now order.now.all from until }
+/// Whether nothing waits for anybody of a scope, if nothing waits for the subscription at that key, which is of it.
+pub fn is_idle(order: &Order, scope: Scope, key: Key) -> bool
+    requires { StandsWithin scope order.now.all key }
+    ensures { result ≡ true → (shared : Shared) → HoldsAtKey order.now.all key (λ at s. is_none (line_for shared s.sub) ≡ true)
+        → (from until : ℕ) → IdleUntil scope shared order.now.all from until }
 {
+    let Scope::Group(group) = scope else {
+        return false;
+    };
     order.stand_in_order();
     let sub = order.get(key);
     if sub.has_own_line() {
         return order.count_behind(group) == 0;
     }
-    !shared.has_message(sub)
+    true
 }
 
-/// The place of the first subscription of a group, from a ticket on. None if nothing waits for anybody of the group.
-fn next_in(order: &Order, shared: &SharedLines, group: usize, from: u64) -> Option<Place>
-    ensures { MatchOption result ((until : ℕ) → IdleUntil (Group group) shared.now order.now.all from until)
-        (WaitsUntil (Group group) shared.now order.now.all from) }
+/// The place of the first subscription of a scope, from a ticket on, if there is one.
+pub fn next_within(order: &Order, scope: Scope, from: u64) -> Option<Place>
+    ensures { IsNext (is_within scope) order.now.all from result }
 {
-    order.stand_in_order();
-    let Some(place) = order.next_in(group, from) else {
-        return None;
-    };
-    if is_idle(order, shared, group, place.key) {
-        return None;
-    }
-    Some(place)
-}
-
-/// The place of the first subscription of a scope, from a ticket on, for which something may wait. None if nothing waits for
-/// any of them.
-pub fn next_waiting(order: &Order, shared: &SharedLines, scope: Scope, from: u64) -> Option<Place>
-    ensures { MatchOption result ((until : ℕ) → IdleUntil scope shared.now order.now.all from until)
-        (WaitsUntil scope shared.now order.now.all from) }
-{
-    order.stand_in_order();
     match scope {
         Scope::Session(session) => order.next_of(session, Sought::Any, from),
-        Scope::Group(group) => next_in(order, shared, group, from),
+        Scope::Group(group) => order.next_in(group, from),
     }
 }

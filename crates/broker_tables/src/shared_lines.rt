@@ -44,16 +44,12 @@ pub(crate) struct Gone {
     pub deliveries: Vec<(u64, Message)>,
 }
 
-/// Takes the least message out of the line of that queue. If memory is refused, that line is gone, and the others stand.
-fn take_from_queue(
-    queues: &mut BTreeMap<Dest, Line>,
-    destination: &Dest,
-) -> Result<Option<Message>, AllocError>
-    ensures taken { IfOk result (λ m. m ≡ first_of (line_at text_cmp destination.now queues.old.entries)) }
-    ensures err { OnErr result (queues.new.entries ≡ remove_entry (is_at (text_cmp destination.now)) queues.old.entries) }
-    ensures rest { OnOk result (queues.new.entries
-        ≡ with_line text_cmp destination.now (drop 1 (line_at text_cmp destination.now queues.old.entries)) queues.old.entries) }
-    ensures weight { OnOk result (LoseFirst queues.old.entries queues.new.entries (line_at text_cmp destination.now queues.old.entries)) }
+/// Takes the least message out of the line of that queue.
+fn take_from_queue(queues: &mut BTreeMap<Dest, Line>, destination: &Dest) -> Option<Message>
+    ensures taken { result ≡ first_of (line_at text_cmp destination.now queues.old.entries) }
+    ensures rest { queues.new.entries
+        ≡ with_line text_cmp destination.now (drop 1 (line_at text_cmp destination.now queues.old.entries)) queues.old.entries }
+    ensures weight { LoseFirst queues.old.entries queues.new.entries (line_at text_cmp destination.now queues.old.entries) }
 {
     keyed_lines::take(queues, destination)
 }
@@ -109,21 +105,20 @@ impl SharedLines {
         has_waiting(&self.names, &self.queues, sub)
     }
 
-    /// Takes the least message for a subscription with no line of its own out of its line, which has one. If memory is refused,
-    /// that line is gone, and the others stand.
-    pub(crate) fn take_for(&mut self, sub: &Subscription) -> Result<Message, AllocError>
+    /// Takes the least message for a subscription with no line of its own out of its line, which has one.
+    pub(crate) fn take_for(&mut self, sub: &Subscription) -> Message
         requires shared { is_own sub.now ≡ false }
         requires waits { is_none (line_for self.old sub.now) ≡ false }
-        ensures taken { IfOk result (λ m. first_of (line_for self.old sub.now) ≡ Some m) }
-        ensures shared { OnOk result (self.new ≡ left_shared self.old sub.now (drop 1 (line_for self.old sub.now))) }
-        ensures weight { OnOk result (HandFirst self.old sub.now self.new sub.now (line_for self.old sub.now)) }
+        ensures taken { first_of (line_for self.old sub.now) ≡ Some result }
+        ensures shared { self.new ≡ left_shared self.old sub.now (drop 1 (line_for self.old sub.now)) }
+        ensures weight { HandFirst self.old sub.now self.new sub.now (line_for self.old sub.now) }
     {
         if let Some(name) = &sub.durable {
-            let message = keyed_lines::take(&mut self.names, name)?;
-            return Ok(message.unwrap());
+            let message = keyed_lines::take(&mut self.names, name);
+            return message.unwrap();
         }
-        let message = take_from_queue(&mut self.queues, &sub.destination)?;
-        Ok(message.unwrap())
+        let message = take_from_queue(&mut self.queues, &sub.destination);
+        message.unwrap()
     }
 
     /// Puts a message into the line of the queue that it was sent to. If memory is refused, that line may be gone, and the
@@ -133,10 +128,13 @@ impl SharedLines {
             ≡ record self.old { queues = with_message text_cmp message.sending.destination message self.old.queues }) }
         ensures weight { OnOk result ((weight : Message → ℕ) → weight_of_shared weight self.new ≡ weight_of_shared weight self.old + weight message) }
     {
-        let to = message.sending.destination();
-        let (queue, mut line) = keyed_lines::take_entry(alloc, &mut self.queues, to)?;
-        keyed_lines::put_into(&mut line, message, Side::Back)?;
-        keyed_lines::put_line(&mut self.queues, queue, line)
+        match message.sending.destination().clone() {
+            Ok(queue) => keyed_lines::put_at(alloc, &mut self.queues, queue, message, Side::Back),
+            Err(refused) => {
+                drop(message);
+                Err(refused)
+            }
+        }
     }
 
     /// Puts a message into the line under that durable name. If memory is refused, that line is gone, and the others stand.

@@ -1,15 +1,25 @@
 //! What waits, and for whom.
 
-ghost use Rattle.std.specs.Prelude.{◌≡◌, ◌^◌, [], ℕ, Some, nat_lt, slice_get};
-ghost use Rattle.broker_state.specs.HandOut.{can_take};
-ghost use Rattle.broker_tables.specs.Stocks.{stocked};
-ghost use Rattle.waiting_order.specs.Waiting.{Stands};
-ghost use Rattle.waiting_order.specs.declared.waiter.Waiter.{Waiter};
+ghost use Rattle.std.specs.Prelude.{◌≡◌, ◌^◌, [], nat_lt};
+ghost use Rattle.broker_tables.specs.Cursors.{IsReadiness};
+ghost use Rattle.broker_tables.specs.Scopes.{StandsWithin};
 
+use crate::scope::{Scope, is_idle};
 use crate::shared_lines::SharedLines;
 use broker_state::{Held, LAST_DELIVERY};
 use std::alloc::Global;
 use waiting_order::{Key, Order};
+
+/// What may be handed to those of a scope, as far as one of them shows.
+#[derive(Drop)]
+pub enum Readiness {
+    /// It can be served.
+    Ready,
+    /// It can't, and another one may.
+    Held,
+    /// Nothing waits for any of them.
+    Idle,
+}
 
 /// The subscriptions in waiting order, the lines that stay, how much is held, and the number of the next delivery.
 #[derive(Drop)]
@@ -46,18 +56,24 @@ impl Stock {
         self.next_delivery < LAST_DELIVERY
     }
 
-    /// Whether the subscription at that key can be served.
-    pub fn can_serve(&self, key: Key) -> bool
-        requires { Stands self.now.order.all key }
-        ensures { (at : ℕ) (s : Waiter) → slice_get self.now.order.all at ≡ Some (key, s) → result ≡ can_take (stocked self.now) s.sub }
+    /// What may be handed to those of a scope, one of whom stands at that key.
+    pub fn readiness(&self, scope: Scope, key: Key) -> Readiness
+        requires { StandsWithin scope self.now.order.all key }
+        ensures { IsReadiness self.now scope key result }
     {
-        if !self.has_number() {
-            return false;
-        }
         let sub = self.order.get(key);
-        if !sub.has_room() {
-            return false;
+        if !self.shared.has_message(sub) {
+            if is_idle(&self.order, scope, key) {
+                return Readiness::Idle;
+            }
+            return Readiness::Held;
         }
-        self.shared.has_message(sub)
+        if !self.has_number() {
+            return Readiness::Held;
+        }
+        if !sub.has_room() {
+            return Readiness::Held;
+        }
+        Readiness::Ready
     }
 }

@@ -8,7 +8,7 @@ use Rattle.broker_tables.proofs.due.mark.Goals as goal
 
 pub returns-in-Ok-clause-marked : goal.returns-in-Ok-clause-marked
 returns-in-Ok-clause-marked c =
-    marked_already c.args.marked.now.items c.deref.result.now c.in-Ok._there c.args.due c.deref.ensures.value c.in-Ok.ensures.bound c.in-Ok.ensures.ok
+    marked_already c.args.marked.now.items c.deref-2.result.now c.in-Ok._there c.args.due c.deref-2.ensures.value c.in-Ok.ensures.bound c.in-Ok.ensures.ok
 
 pub returns-in_ok-insert-in-Err-clause-kept : goal.returns-in_ok-insert-in-Err-clause-kept
 returns-in_ok-insert-in-Err-clause-kept c sub is =

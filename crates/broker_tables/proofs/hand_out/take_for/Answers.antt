@@ -1,5 +1,4 @@
 use Rattle.std.proofs.Common.{◌≡◌, ◌∙◌, Some, true, false, ap, cond, drop, subst, sym}
-use Rattle.std.proofs.lemmas.Result.{IfOk-weaker}
 use Rattle.line_core.specs.Lines.{first_of}
 use Rattle.broker_state.specs.declared.subscription.Subscription.{Subscription}
 use Rattle.broker_state.specs.Lists.{is_none}
@@ -7,7 +6,7 @@ use Rattle.broker_state.specs.Waiting.{is_own, left_line, left_shared, line_for}
 use Rattle.waiting_order.specs.Keeping.{taken_from, with_sub}
 use Rattle.broker_tables.specs.Returns.{HandFirst}
 use Rattle.broker_tables.proofs.Handing.{other_left, own_line, own_shared, own_weight, some_first}
-use Rattle.broker_tables.proofs.Waiters.{both_ok, changed_alike, changed_none, on_ok}
+use Rattle.broker_tables.proofs.Waiters.{changed_alike, changed_none}
 use Rattle.broker_tables.proofs.hand_out.take_for.Goals as goal
 
 pub unwrap-requires : goal.unwrap-requires
@@ -42,25 +41,23 @@ returns-then-has_own_line-clause-order c at s there =
     (c.take.ensures at s there).1 ∙ ap (λ l. record o { all = l }) (changed_alike taken_from (with_sub f) o.all at (c.args.key, s) there (ap (λ (x : Subscription). (c.args.key, record s { sub = x })) same))
 
 pub returns-clause-taken : goal.returns-clause-taken
-returns-clause-taken c =
-    IfOk-weaker c.take_for.result _ _ (λ m is at s there. subst (λ (x : Subscription). first_of (line_for c.args.shared.now x) ≡ Some m) (c.get-sub.ensures.sub at s there) is) c.take_for.ensures.taken
+returns-clause-taken c at s there =
+    subst (λ (x : Subscription). first_of (line_for c.args.shared.now x) ≡ Some c.take_for.result) (c.get-sub.ensures.sub at s there) c.take_for.ensures.taken
 
 pub returns-clause-left : goal.returns-clause-left
-returns-clause-left c =
-    both_ok c.take_for.result _ _ _ (λ rest weight at s there.
+returns-clause-left c at s there =
     let shared = c.args.shared.now in
     let same = c.get-sub.ensures.sub at s there in
     let other : is_own s.sub ≡ false = ap is_own (sym same) ∙ sym c.has_own_line.ensures ∙ c.if-has_own_line.false in
     record {
-      rest = subst (λ (x : Subscription). c.take_for.new.self ≡ left_shared shared x (drop 1 (line_for shared x))) same rest;
+      rest = subst (λ (x : Subscription). c.take_for.new.self ≡ left_shared shared x (drop 1 (line_for shared x))) same c.take_for.ensures.shared;
       weight = subst (λ (x : Subscription). HandFirst shared s.sub c.take_for.new.self x (line_for shared s.sub)) (sym (other_left s.sub other (drop 1 (line_for shared s.sub))))
-          (subst (λ (x : Subscription). HandFirst shared x c.take_for.new.self x (line_for shared x)) same weight);
-    }) c.take_for.ensures.shared c.take_for.ensures.weight
+          (subst (λ (x : Subscription). HandFirst shared x c.take_for.new.self x (line_for shared x)) same c.take_for.ensures.weight);
+    }
 
 pub returns-clause-order : goal.returns-clause-order
-returns-clause-order c =
-    on_ok c.take_for.result _ (λ at s there.
+returns-clause-order c at s there =
     let o = c.args.order.now in
     let rest = drop 1 (line_for c.args.shared.now s.sub) in
     let other : is_own s.sub ≡ false = ap is_own (sym (c.get-sub.ensures.sub at s there)) ∙ sym c.has_own_line.ensures ∙ c.if-has_own_line.false in
-    ap (λ l. record o { all = l }) (changed_none (with_sub (λ x. left_line x rest)) o.all at (c.args.key, s) there (ap (λ (x : Subscription). (c.args.key, record s { sub = x })) (other_left s.sub other rest))))
+    ap (λ l. record o { all = l }) (changed_none (with_sub (λ x. left_line x rest)) o.all at (c.args.key, s) there (ap (λ (x : Subscription). (c.args.key, record s { sub = x })) (other_left s.sub other rest)))

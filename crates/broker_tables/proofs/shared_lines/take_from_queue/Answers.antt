@@ -7,9 +7,6 @@ take-requires c = same_texts
 pub returns-clause-taken : goal.returns-clause-taken
 returns-clause-taken c = c.take.ensures.taken
 
-pub returns-clause-err : goal.returns-clause-err
-returns-clause-err c = c.take.ensures.err
-
 pub returns-clause-rest : goal.returns-clause-rest
 returns-clause-rest c = c.take.ensures.rest
 

@@ -1,5 +1,5 @@
 use Rattle.broker_state.proofs.Keys.{same_names}
 use Rattle.broker_tables.proofs.shared_lines.SharedLines.take_for.Goals as goal
 
-pub take-requires : goal.take-requires
-take-requires c = same_names
+pub take-message-requires : goal.take-message-requires
+take-message-requires c = same_names

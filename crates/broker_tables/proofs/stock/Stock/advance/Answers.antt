@@ -4,18 +4,19 @@ use Rattle.broker_state.proofs.Weights.{all_at}
 use Rattle.broker_tables.specs.Cursors.{cursors_in}
 use Rattle.broker_tables.proofs.Awaiting.{awaited_moved, awaited_permuted, awaited_without, before_place, idle_waits, moved_left, nearer}
 use Rattle.broker_tables.proofs.Dues.{clash}
+use Rattle.broker_tables.proofs.Scopes.{idle_before, idle_to_end}
 use Rattle.broker_tables.proofs.Waiters.{W}
 use Rattle.broker_tables.proofs.stock.Stock.advance.Goals as goal
 
 pub returns-in_default-clause-awaited : goal.returns-in_default-clause-awaited
-returns-in_default-clause-awaited c = awaited_without c.args.self.now c.args.cursor (cursors_in c.args.cursors.now) c.requires.awaited c.in_default.ensures
+returns-in_default-clause-awaited c = awaited_without c.args.self.now c.args.cursor (cursors_in c.args.cursors.now) c.requires.awaited (idle_to_end c.args.cursor.scope c.args.self.now.shared c.args.self.now.order.all c.args.cursor.from c.in_default.ensures)
 
 pub serve_or_pass-requires-clause-awaited : goal.serve_or_pass-requires-clause-awaited
 serve_or_pass-requires-clause-awaited c =
     let stock = c.args.self.now in
     let cursor = c.args.cursor in
     let ticket = c.in-Some.place.ticket in
-    awaited_moved stock cursor (cursors_in c.args.cursors.now) ticket c.requires.awaited (idle_waits stock cursor.scope cursor.from ticket c.in-Some.ensures.idle)
+    awaited_moved stock cursor (cursors_in c.args.cursors.now) ticket c.requires.awaited (idle_waits stock cursor.scope cursor.from ticket (idle_before cursor.scope stock.shared stock.order cursor.from c.in-Some.place c.stand_in_order.ensures.order c.in-Some.ensures))
 
 pub returns-then-are_past-clause-nearer : goal.returns-then-are_past-clause-nearer
 returns-then-are_past-clause-nearer c =
@@ -28,7 +29,7 @@ returns-clause-awaited c =
     let cursor = c.args.cursor in
     let ticket = c.in-Some.place.ticket in
     awaited_permuted stock (record cursor { from = ticket } ∷ cursors_in c.args.cursors.now) (cursors_in c.put.new.self) c.in_ok-put.ensures
-    (awaited_moved stock cursor (cursors_in c.args.cursors.now) ticket c.requires.awaited (idle_waits stock cursor.scope cursor.from ticket c.in-Some.ensures.idle))
+    (awaited_moved stock cursor (cursors_in c.args.cursors.now) ticket c.requires.awaited (idle_waits stock cursor.scope cursor.from ticket (idle_before cursor.scope stock.shared stock.order cursor.from c.in-Some.place c.stand_in_order.ensures.order c.in-Some.ensures)))
 
 pub returns-clause-nearer : goal.returns-clause-nearer
 returns-clause-nearer c _ =
