@@ -1,6 +1,6 @@
 //! The broker, one command after another.
 
-ghost use Rattle.std.specs.Prelude.{◌≡◌, ◌+◌, ◌<◌, ◌^◌, ◌↔◌, false, true, IfOk, IfSome, IsSome, OnOk, length, map, ℕ};
+ghost use Rattle.std.specs.Prelude.{◌≡◌, ◌+◌, ◌++◌, ◌<◌, ◌^◌, ◌↔◌, false, true, IfOk, IfSome, IsSome, OnOk, length, map, ℕ};
 ghost use Rattle.std.specs.List.{sum_by};
 ghost use Rattle.broker_core.specs.Outcomes.{IsOutcome};
 ghost use Rattle.broker_state.specs.Operations.{restarted};
@@ -24,6 +24,7 @@ use indexmap::map::Slice;
 use std::alloc::{AllocError, Global};
 use std::collections::BTreeMap;
 use std::marker::Model;
+use std::mem::replace;
 use waiting_order::{Key, Waiter};
 
 /// The broker: it carries out commands one after another, numbered from 0, and answers each. Contracts see its state and
@@ -79,6 +80,25 @@ impl Broker {
         ensures outcome { IsOutcome self.old self.new result }
     {
         self.answer_by(alloc, NackRule::Keeps, command)
+    }
+
+    /// Carries out the command of the next number as `step` does, and its outputs come after those that wait already. If memory
+    /// is refused, some of them may.
+    pub fn step_onto(
+        &mut self,
+        alloc: Global,
+        command: Command,
+        waiting: &mut Vec<Out>,
+    ) -> Result<(), BrokerFault>
+        requires { self.old.state.count < 2 ^ 62 }
+        ensures state { OnOk result (self.new.state ≡ step self.old.state command) }
+        ensures outs { OnOk result (waiting.new.items ≡ waiting.old.items ++ outs self.old.state command) }
+        ensures outcome { IsOutcome self.old self.new result }
+    {
+        let mut answers = Answers::after(replace(waiting, Vec::new(alloc)));
+        let outcome = self.step_by(alloc, NackRule::Keeps, command, &mut answers);
+        *waiting = answers.into_outs(alloc);
+        outcome
     }
 
     /// Carries out the command of the next number as `step` does, but for a NACK: it drops all messages that it settles, as

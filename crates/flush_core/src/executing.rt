@@ -95,10 +95,7 @@ fn take_step(
     ensures outs { OnOk result (waiting.new.items ≡ waiting.old.items ++ outs broker.old.state command) }
     ensures fault { IsMemory result }
 {
-    let mut given = broker.step(alloc, command)?;
-    let added = waiting.append(&mut given);
-    drop(given);
-    added?;
+    broker.step_onto(alloc, command, waiting)?;
     Ok(())
 }
 
