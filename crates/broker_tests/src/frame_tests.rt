@@ -49,6 +49,40 @@ fn a_stream_in_pieces_gives_its_frames_and_its_fault(rt: HostRuntime) -> Result<
     Ok(())
 }
 
+// A SEND of 48 bytes, whose body has a NUL.
+const SENT: &[u8] = b"SEND\ndestination:/queue/a\ncontent-length:3\n\na\0b\0";
+
+// How many calls in turn, each of which has a byte of the SEND, give nothing before one gives its frame.
+fn calls_before(alloc: Global, reader: &mut FrameReader) -> Result<Option<usize>, FeedFault> {
+    let mut calls: usize = 0;
+    for byte in SENT {
+        let fed = reader.feed(alloc, &[*byte])?;
+        let is_nothing = fed.frames.is_empty() && fed.fault.is_none();
+        let is_sent = match fed.frames.as_slice() {
+            [sent] => fed.fault.is_none() && sent.body.as_slice() == b"a\0b".as_slice(),
+            _ => false,
+        };
+        drop(fed);
+        if is_sent {
+            return Ok(Some(calls));
+        }
+        if !is_nothing {
+            return Ok(None);
+        }
+        calls = calls.saturating_add(1);
+    }
+    Ok(None)
+}
+
+#[test]
+fn a_frame_comes_with_its_last_byte(rt: HostRuntime) -> Result<(), Fail> {
+    let mut reader = FrameReader::new(rt.alloc());
+    let calls = calls_before(rt.alloc(), &mut reader);
+    drop(reader);
+    assert_eq!(rt; calls?, Some(47));
+    Ok(())
+}
+
 fn header(alloc: Global, name: &str, value: &str) -> Result<(Text, Text), AllocError> {
     let name = String::from_str(alloc, name)?;
     let value = String::from_str(alloc, value)?;

@@ -6,11 +6,10 @@ ghost use Rattle.std.specs.Prelude.{◌≡◌, ◌<◌, ◌+◌, IsSome, length}
 ghost use Rattle.flush_core.specs.Flushed.{Flushed};
 ghost use Rattle.engine_core.specs.Hubs.{IsWhole};
 
-use area_core::format;
-use claim_core::{BrokerRing, BrokerSeat};
-use disk_core::MemDisk;
-use engine_core::{Gate, Hub, HubFlusher, flush_loop, worker};
-use outbox_core::{OutSender, Silent};
+use engine_core::{
+    BrokerRing, BrokerSeat, Gate, Hub, HubFlusher, MemDisk, MemLink, OutSender, Silent, flush_loop,
+    format, worker,
+};
 use std::alloc::{AllocError, Global};
 use std::io::Write;
 use std::process::ExitCode;
@@ -18,7 +17,6 @@ use std::sync::Wait;
 use std::sync::atomic::{AtomicU64, Ordering};
 use std::thread::{self, Threads};
 use std::time::{Clock, Duration};
-use ws_core::MemLink;
 
 type Ring = BrokerRing<OutSender<Silent>>;
 

@@ -28,8 +28,11 @@ mod waiting;
 mod worked;
 mod working;
 
+pub use area_core::format;
+pub use claim_core::{BrokerRing, BrokerSeat};
 pub use closed::Closed;
 pub use desk_core::{Kept, Relayed, relay};
+pub use disk_core::{Disk, FileDisk, MemDisk};
 pub use ended::Ended;
 pub use fault::ScriptFault;
 pub use flushing::{compact_last, flush_loop};
@@ -40,7 +43,9 @@ pub use laws::{
     a_line_too_far_prints_nothing, a_script_has_one_text, a_script_that_prints_has_not_failed,
 };
 pub use limit::{HELD_BYTES, desk_bytes};
+pub use outbox_core::{Bell, OutSender, Silent};
 pub use run::run_script;
 pub use snapshot_laws::{sessions_take_what_they_add, snapshots_leave_room};
 pub use worked::flushes_print_what_is_answered;
 pub use working::worker;
+pub use ws_core::{Link, MemLink, WsLink};
