@@ -1,5 +1,5 @@
 -- What a read of a client's socket does.
-use Rattle.std.specs.Prelude.{◌≡◌, ◌≢◌, ◌≤◌, ◌<◌, ◌+◌, ℕ, Bool, true, false, List, [], Option, Result, Err, IsOk, MatchResult, drop, length}
+use Rattle.std.specs.Prelude.{◌≡◌, ◌≢◌, ◌≤◌, ◌<◌, ◌+◌, ◌-◌, ◌^◌, ℕ, min, Bool, true, false, List, [], Option, Result, Ok, Err, IsOk, MatchResult, drop, length}
 use Rattle.std.specs.IoError.{error_kind}
 use Rattle.std.specs.Io.KnownBytes.{prepend_known}
 use Rattle.std.specs.declared.io.Error.{Error}
@@ -9,6 +9,11 @@ use Rattle.client_schedule.specs.declared.read_budget.Flow.{Flow}
 use Rattle.client_schedule.specs.declared.read_budget.ReadBudget.{ReadBudget}
 use Rattle.client_schedule.specs.declared.read_budget.TheConstants.{READS}
 use Rattle.client_schedule.specs.declared.supply.Reported.{Reported}
+
+-- how many bytes a socket gave in all, with one read more: 2^64 - 1 if they are more
+abbrev pub counted_by : Result ℕ Error → ℕ → ℕ
+counted_by (Ok count) given = min (given + count) (2 ^ 64 - 1)
+counted_by (Err error) given = given
 
 module _ {S : Type 0} where
   -- what is left to be given: what was read and not given, and what the socket has
@@ -22,6 +27,7 @@ module _ {S : Type 0} where
     pub left : new.left ≡ READS
     pub rest : new.flow.has_rest ≡ has_rest
     pub spare : new.spare ≡ old.spare
+    pub given : new.given ≡ old.given
 
   -- no more changed than what is kept, and how far it has come in a frame
   pub record IsSame (old new : ReadBudget S) : Type 0 where
@@ -29,6 +35,7 @@ module _ {S : Type 0} where
     pub left : new.left ≡ old.left
     pub flow : new.flow ≡ old.flow
     pub supply : new.supply ≡ old.supply
+    pub given : new.given ≡ old.given
 
   -- Of these bytes, so many are given: some, unless there are none. The others are kept.
   pub record IsPortion (bytes : List ℕ) (old new : ReadBudget S) (count : ℕ) : Type 0 where
@@ -37,13 +44,14 @@ module _ {S : Type 0} where
     pub spare : new.spare.items ≡ drop count bytes
     pub same : IsSame old new
 
-  -- The socket was asked for so many bytes, and came to that.
+  -- The socket was asked for so many bytes, and came to that. What it gave is counted.
   pub record Asks (asked : ℕ) (old new : ReadBudget S) (result : Result ℕ Error) : Type 0 where
     pub read : Result ℕ Error
     pub left : MatchResult read (λ _. new.left + 1 ≡ old.left) (λ _. new.left ≡ READS)
     pub flow : new.flow ≡ old.flow
     pub supply_is : new.supply ≡ drained asked read old.supply
     pub gives : MatchResult result (λ _. IsOk read) (λ error. read ≡ Err error)
+    pub given : new.given ≡ counted_by read old.given
 
   -- Something was given of what was read before, if so many bytes are asked for.
   pub record Gives (asked : ℕ) (old new : ReadBudget S) (result : Result ℕ Error) : Type 0 where
@@ -51,6 +59,7 @@ module _ {S : Type 0} where
     pub left : new.left + 1 ≡ old.left
     pub flow : new.flow ≡ old.flow
     pub supply_is : new.supply ≡ old.supply
+    pub given : new.given ≡ old.given
 
   -- once the poll had told this
   abbrev pub told_of : Reported → ReadBudget S → ReadBudget S

@@ -74,6 +74,7 @@ impl<S: Drop> ReadBudget<S> {
 
     /// A budget over that socket, of which nothing is known yet.
     pub fn new(alloc: Global, socket: S) -> ReadBudget<S>
+        ensures given { result.given ≡ 0 }
         ensures begins { (result.socket ≡ socket) × (result.left ≡ READS) × (result.supply ≡ Supply.Unknown) × (result.flow ≡ record { taken = 0; has_rest = false }) }
         ensures spare { result.spare.items ≡ [] }
     {
@@ -172,6 +173,7 @@ impl<S: Read> ReadBudget<S> {
     fn decline(&mut self, has_rest: bool) -> io::Result<usize>
         ensures declines { Declines has_rest self.old self.new result }
         ensures same { (self.new.supply ≡ self.old.supply) × (self.new.flow.taken ≡ self.old.flow.taken) }
+        ensures given { self.new.given ≡ self.old.given }
     {
         self.left = READS;
         self.flow.has_rest = has_rest;
@@ -247,6 +249,7 @@ impl<S> ReadBudget<S> {
         ensures most { ended self.old.place (take result self.old.spare.items) ≤ FRAMES }
         ensures left { self.new.left + 1 ≡ self.old.left }
         ensures same { (self.new.socket ≡ self.old.socket) × (self.new.flow ≡ self.old.flow) × (self.new.supply ≡ self.old.supply) }
+        ensures count { self.new.given ≡ self.old.given }
     {
         let spare = mem::replace(&mut self.spare, Vec::new(self.alloc));
         let there = spare.len().min(buf.len());
@@ -304,6 +307,7 @@ impl<S: Write> Write for ReadBudget<S> {
         ensures counts { IfOk result (λ count. self.new.flow.taken ≡ min (self.old.flow.taken + count) (2 ^ 64 - 1)) }
         ensures none { OnErr result (self.new.flow.taken ≡ self.old.flow.taken) }
         ensures same { (self.new.flow.has_rest ≡ self.old.flow.has_rest) × (self.new.left ≡ self.old.left) × (self.new.supply ≡ self.old.supply) }
+        ensures given { self.new.given ≡ self.old.given }
     {
         let outcome = self.socket.write(buf);
         if let Ok(count) = outcome {
@@ -315,12 +319,15 @@ impl<S: Write> Write for ReadBudget<S> {
     fn flush(&mut self) -> io::Result<()>
         ensures bytes { Keeps (S.contents self.old.socket) (S.contents self.new.socket) }
         ensures same { (self.new.flow ≡ self.old.flow) × (self.new.left ≡ self.old.left) × (self.new.supply ≡ self.old.supply) }
+        ensures given { self.new.given ≡ self.old.given }
     {
         self.socket.flush()
     }
 }
 
 impl Ending for ReadBudget<TcpStream> {
+    ghost count_given = { λ p. p.given };
+
     fn drop_some(&self) -> io::Result<usize> {
         let mut some = [0u8; DROPPED];
         (&self.socket).read(&mut some)

@@ -3,6 +3,7 @@ pub mod Fields
 pub mod Greeted
 pub mod Greetings
 pub mod Handshakes
+pub mod Holdings
 pub mod Limits
 pub mod Links
 pub mod Memory

@@ -1,5 +1,5 @@
 -- What one read of a link gives.
-use Rattle.std.specs.Prelude.{◌≡◌, ◌≢◌, ◌⊎◌, ◌++◌, ◌<◌, ◌≤◌, ℕ, List, [], Bool, false, Option, None, Some, Err, cond, option_map, ⊤}
+use Rattle.std.specs.Prelude.{◌≡◌, ◌≢◌, ◌⊎◌, ◌++◌, ◌<◌, ◌≤◌, ◌+◌, ℕ, List, [], Bool, false, Option, None, Some, Err, cond, length, option_map, ⊤}
 use Rattle.std.specs.Io.KnownBytes.{Consumes}
 use Rattle.tungstenite.specs.CloseCode.{close_code_of}
 use Rattle.tungstenite.specs.Connection.{Connection, close_step, read_step}
@@ -15,6 +15,7 @@ use Rattle.ws_core.specs.declared.link.Received.{Received}
 use Rattle.ws_core.specs.declared.link.Received.TheVariants.{Bytes, Skipped, Nothing, Failed, Closed}
 use Rattle.ws_core.specs.declared.phase.LinkPhase.{LinkPhase}
 use Rattle.ws_core.specs.declared.phase.LinkPhase.TheVariants as phases
+use Rattle.ws_core.specs.Holdings.{HoldingValue, settled, with_read}
 use Rattle.ws_core.specs.Links.{HasFailed, Linked}
 use Rattle.ws_core.specs.Pieces.{IsPiece}
 
@@ -75,6 +76,22 @@ Counts old new Skipped = (old < new) × (new ≤ 16777216)
 Counts old new Nothing = new ≡ old
 Counts old new Failed = ⊥
 Counts old new Closed = ⊤
+
+-- what is counted after a read that came to this, by how many bytes the stream has given: what a peer that has failed was told was written too
+abbrev pub counted_after : ℕ → Bool → Received → HoldingValue → HoldingValue
+counted_after given held_up (Bytes v) h = with_read given (Bytes v) h
+counted_after given held_up Skipped h = with_read given Skipped h
+counted_after given held_up Nothing h = with_read given Nothing h
+counted_after given held_up Failed h = settled held_up (with_read given Failed h)
+counted_after given held_up Closed h = with_read given Closed h
+
+-- How many bytes of a message were given that are kept with those that are left: all of them, or none if none is left.
+abbrev pub KeepsFed : ℕ → List ℕ → Received → ℕ → Type 0
+KeepsFed old left (Bytes v) new = (left ≢ [] → new ≡ old + length v.items) × (left ≡ [] → new ≡ 0)
+KeepsFed old left Skipped new = new ≡ old
+KeepsFed old left Nothing new = new ≡ old
+KeepsFed old left Failed new = new ≡ old
+KeepsFed old left Closed new = new ≡ old
 
 module _ {S : Type 0} where
   -- These frames were read, one after the other, off the bytes that were there and those that the stream gave, and no byte after
@@ -172,3 +189,10 @@ module _ {S : Type 0} where
     pub held_up : (HasFailed old.phase → ⊥) → got ≢ Failed → new.held_up ≡ old.held_up
     pub rest : old.phase ≡ phases.Open → got ≡ Failed → new.held_up ≡ false → new.socket.output ≡ []
     pub stays : old.phase ≡ phases.Over → (got ≡ Closed) × (new ≡ old)
+
+  -- What a read does to what a link counts, by how far it had come.
+  pub record CountsRead (count_given : S → ℕ) (old new : Linked S) (got : Received) : Type 0 where
+    pub reads : (old.phase ≡ phases.Open) ⊎ (old.phase ≡ phases.Closing) → new.holding ≡ counted_after (count_given new.socket.stream) new.held_up got old.holding
+    pub leaves : HasFailed old.phase → got ≢ Closed → new.holding ≡ settled new.held_up old.holding
+    pub fed : old.phase ≡ phases.Open → KeepsFed old.fed new.unfed got new.fed
+    pub stays : old.phase ≢ phases.Open → (new.unfed ≡ old.unfed) × (new.fed ≡ old.fed)

@@ -7,6 +7,7 @@ use Rattle.tungstenite.specs.Socket.{Flushed, Writes}
 use Rattle.ws_core.specs.declared.fault.LinkFault.{LinkFault}
 use Rattle.ws_core.specs.declared.fault.LinkFault.TheVariants.{Memory, Gone}
 use Rattle.ws_core.specs.declared.phase.LinkPhase.TheVariants as phases
+use Rattle.ws_core.specs.Holdings.{settled, with_put}
 use Rattle.ws_core.specs.Links.{Linked}
 
 -- one message more, if the link tells them
@@ -66,3 +67,15 @@ module _ {S : Type 0} where
   -- a flush was done so, or it failed
   abbrev pub IsFlushed : (S → Option (List ℕ)) → Linked S → Linked S → Type 0
   IsFlushed contents old new = ((all : Bool) × Flushes contents old new all) ⊎ ((fault : LinkFault) × Fails old new fault)
+
+  -- A message of so many bytes is counted. Nothing else has changed, except the socket and whether the stream is held up.
+  abbrev pub CountsPut : ℕ → Linked S → Linked S → Type 0
+  CountsPut bytes old new = new ≡ record old { socket = new.socket; held_up = new.held_up; holding = with_put bytes new.held_up old.holding }
+
+  -- What was written counts no more. Nothing else has changed, except the socket, how far the link has come, and whether the stream is held up.
+  abbrev pub CountsWritten : Linked S → Linked S → Type 0
+  CountsWritten old new = new ≡ record old { socket = new.socket; phase = new.phase; held_up = new.held_up; holding = settled new.held_up old.holding }
+
+  -- A refusal changes nothing, except the socket and how far the link has come.
+  abbrev pub CountsOn : Linked S → Linked S → Type 0
+  CountsOn old new = new ≡ record old { socket = new.socket; phase = new.phase }

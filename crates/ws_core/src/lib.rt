@@ -9,6 +9,7 @@ mod fault;
 mod fields;
 mod greeting;
 mod handshake;
+mod holding;
 mod link;
 mod mem_link;
 mod messages;

@@ -1,10 +1,10 @@
 //! The messages that carry a STOMP stream, and the frames that close it.
 
-ghost use Rattle.std.specs.Prelude.{◌≡◌, ◌≢◌, ◌<◌, ◌≤◌, IfOk, IfErr, OnOk, IsTrue, [], false, true, ◌⊎◌, Some, OnErr, not};
+ghost use Rattle.std.specs.Prelude.{◌≡◌, ◌≢◌, ◌<◌, ◌≤◌, IfOk, IfErr, OnOk, IsTrue, [], false, true, ◌⊎◌, Some, OnErr, length, not};
 ghost use Rattle.std.specs.Str.{IsUtf8};
 ghost use Rattle.tungstenite.specs.Failure.{IsIo};
 ghost use Rattle.tungstenite.specs.declared.error.Error.TheVariants.{OutOfMemory};
-ghost use Rattle.tungstenite.specs.Socket.{content_of, Flushed, Writes};
+ghost use Rattle.tungstenite.specs.Socket.{byte_count, content_of, Flushed, Writes};
 ghost use Rattle.tungstenite.specs.Connection.{close_step, write_step};
 ghost use Rattle.tungstenite.specs.CloseCode.{close_code_of};
 ghost use Rattle.ws_core.specs.Closing.{breach_code, close_of};
@@ -186,6 +186,7 @@ fn failure_code(error: &Error) -> Option<u16>
 pub fn message_of(written: Written) -> Result<Message, LinkFault>
     requires { written.is_text ≡ true → IsUtf8 written.bytes.items }
     ensures ok { IfOk result (λ message. IsMessageOf written.bytes.items (content_of message)) }
+    ensures count { IfOk result (λ message. byte_count message ≡ length written.bytes.items) }
     ensures err { IfErr result (λ fault. fault ≡ LinkFault.Memory) }
 {
     let Written { bytes, is_text } = written;

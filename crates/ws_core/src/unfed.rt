@@ -20,14 +20,14 @@ pub struct Unfed {
 }
 
 impl Model for Unfed {
-    ghost use Rattle.std.specs.Prelude.{◌≤◌, drop, length};
+    ghost use Rattle.std.specs.Prelude.{◌≡◌, ◌≤◌, [], drop, length};
     ghost use Rattle.ws_core.specs.Pieces.{Feeding};
 
     ghost Value = { Feeding };
 
     ghost view = { λ a. record { left = drop a.fed a.message.items; fed = a.fed } };
 
-    ghost invariant = { λ a. a.fed ≤ length a.message.items };
+    ghost invariant = { λ a. (a.fed ≤ length a.message.items) × (length a.message.items ≡ a.fed → a.fed ≡ 0) };
 }
 
 impl Unfed {
@@ -40,7 +40,8 @@ impl Unfed {
 
     /// How many bytes are left.
     pub fn len(&self) -> usize
-        ensures { result ≡ length self.now.left }
+        ensures left { result ≡ length self.now.left }
+        ensures none { result ≡ 0 → self.now.fed ≡ 0 }
     {
         self.message.len() - self.fed
     }

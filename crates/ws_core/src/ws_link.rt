@@ -5,6 +5,7 @@ ghost use Rattle.ws_core.specs.Limits.{HasOurLimits};
 
 use crate::closing::CloseReason;
 use crate::fault::LinkFault;
+use crate::holding::{Holding, MESSAGE_BYTES, READ_BYTES, WAITING_BYTES, WRITING_BYTES};
 use crate::link::{Link, Outgoing, Received};
 use crate::messages::{count_dropped, flush, hear, hear_close, message_of, put, say_close};
 use crate::phase::LinkPhase;
@@ -20,22 +21,10 @@ use std::marker::Model;
 use std::mem;
 use tungstenite::{Bytes, Error, Message, NoMask, Role, WebSocket, WebSocketConfig};
 
-// The most bytes of a message that a peer may send, and of a frame of it.
-const MESSAGE_BYTES: usize = 131_072;
-// The most bytes that may wait to be sent.
-const WAITING_BYTES: usize = 1_048_576;
-// How many of them a send leaves to the next flush.
-const WRITING_BYTES: usize = 65_536;
-// The most bytes that are read of a message before it is whole.
-const UNREAD_BYTES: u64 = (MESSAGE_BYTES + READ_BYTES) as u64;
-// What one read of the stream asks for. A peer may fill it with the smallest fragments, some 700, before others have their turns.
-const READ_BYTES: usize = 4_096;
-// The most bytes that a ping or a pong of a client takes (RFC 6455, section 5.5): its head, its mask and what it says.
-const CONTROL_BYTES: u64 = 131;
-
 /// A WebSocket over a stream, after its handshake. If a stream has nothing to give, or takes nothing, a read or a write fails with
 /// `WouldBlock`; any other failure but `Interrupted` ends the link. Contracts see the socket, how far the link has come, and how many bytes
-/// were dropped after the close. They also see whether the stream has not taken all that it was last offered, and what is left of a message.
+/// were dropped after the close. They also see whether the stream has not taken all that it was last offered, what is left of a message and
+/// how much of it was given, and what the link counts of what it sends and reads.
 ///
 /// A message is given in pieces of 1,024 bytes, one a call: the next message is read once all are.
 ///
@@ -53,12 +42,7 @@ pub struct WsLink<S> {
     dropped: u64,
     // What is left of the last message.
     unfed: Unfed,
-    // How many bytes of messages were put into the socket since nothing waited there.
-    unsent: u64,
-    // How many bytes the stream had given when the last message was whole.
-    whole: u64,
-    // The most bytes that were read of a message before it was whole. From then on the socket has room for twice as many.
-    most_read: u64,
+    holding: Holding,
 }
 
 impl<S> Model for WsLink<S> {
@@ -68,28 +52,28 @@ impl<S> Model for WsLink<S> {
 
     ghost coded = { linked_code S.code };
 
-    ghost view = { λ a. record { socket = a.socket; phase = a.phase; held_up = a.held_up; dropped = a.dropped; unfed = a.unfed.left } };
+    ghost view = { λ a. record { socket = a.socket; phase = a.phase; held_up = a.held_up; dropped = a.dropped; unfed = a.unfed.left; fed = a.unfed.fed; holding = a.holding } };
 }
 
 fn limits() -> WebSocketConfig
     ensures { HasOurLimits result }
 {
     WebSocketConfig::default()
-        .max_message_size(Some(MESSAGE_BYTES))
-        .max_frame_size(Some(MESSAGE_BYTES))
-        .max_write_buffer_size(WAITING_BYTES)
-        .write_buffer_size(WRITING_BYTES)
-        .read_buffer_size(READ_BYTES)
+        .max_message_size(Some(MESSAGE_BYTES as usize))
+        .max_frame_size(Some(MESSAGE_BYTES as usize))
+        .max_write_buffer_size(WAITING_BYTES as usize)
+        .write_buffer_size(WRITING_BYTES as usize)
+        .read_buffer_size(READ_BYTES as usize)
 }
 
 impl<S: Read + Write + Drop> WsLink<S> {
-    ghost use Rattle.std.specs.Prelude.{◌≡◌, ◌≢◌, OnOk, IfErr, true};
+    ghost use Rattle.std.specs.Prelude.{◌≡◌, ◌≢◌, OnErr, OnOk, IfErr, length, true};
     ghost use Rattle.std.specs.Str.{IsUtf8};
-    ghost use Rattle.tungstenite.specs.Socket.{content_of};
+    ghost use Rattle.tungstenite.specs.Socket.{byte_count, content_of};
     ghost use Rattle.tungstenite.specs.declared.error.Error.TheVariants.{OutOfMemory};
     ghost use Rattle.ws_core.specs.declared.phase.LinkPhase.TheVariants.{Open, Over};
     ghost use Rattle.ws_core.specs.Links.{IsReady};
-    ghost use Rattle.ws_core.specs.Sending.{Puts, Sends, Refuses};
+    ghost use Rattle.ws_core.specs.Sending.{CountsOn, CountsPut, Puts, Sends, Refuses};
 
     /// The link of a client to which this stream leads, and whose handshake is done. No memory is taken.
     pub(crate) fn new(alloc: Global, stream: S) -> WsLink<S>
@@ -104,9 +88,7 @@ impl<S: Read + Write + Drop> WsLink<S> {
             held_up: false,
             dropped: 0,
             unfed: Unfed::new(Vec::new(alloc)),
-            unsent: 0,
-            whole: 0,
-            most_read: 0,
+            holding: Holding::new(),
         }
     }
 
@@ -122,7 +104,9 @@ impl<S: Read + Write + Drop> WsLink<S> {
         requires open { self.old.phase ≡ Open }
         requires text { written.is_text ≡ true → IsUtf8 written.bytes.items }
         ensures sends { OnOk result (Sends S.contents written.bytes.items self.old self.new) }
+        ensures counts { OnOk result (CountsPut (length written.bytes.items) self.old self.new) }
         ensures refuses { IfErr result (Refuses self.old self.new) }
+        ensures stays { OnErr result (CountsOn self.old self.new) }
     {
         let message = message_of(written)?;
         self.put(message)
@@ -132,7 +116,9 @@ impl<S: Read + Write + Drop> WsLink<S> {
     fn put(&mut self, message: Message) -> Result<(), LinkFault>
         requires { self.old.phase ≡ Open }
         ensures puts { OnOk result (Puts S.contents (content_of message) self.old self.new) }
+        ensures counts { OnOk result (CountsPut (byte_count message) self.old self.new) }
         ensures refuses { IfErr result (Refuses self.old self.new) }
+        ensures stays { OnErr result (CountsOn self.old self.new) }
     {
         let bytes = message.len() as u64;
         match put(&mut self.socket, message) {
@@ -140,30 +126,18 @@ impl<S: Read + Write + Drop> WsLink<S> {
                 if !all {
                     self.held_up = true;
                 }
-                self.count_unsent(bytes);
+                self.holding.put(bytes, self.held_up);
                 Ok(())
             }
             Err(error) => Err(self.refuse(&error)),
         }
     }
 
-    // Counts a message that was put into the socket. From `WRITING_BYTES` on all was offered to the stream, which has taken it unless it is
-    // held up.
-    fn count_unsent(&mut self, bytes: u64)
-        ensures { self.new ≡ self.old }
-    {
-        let unsent = self.unsent.saturating_add(bytes);
-        self.unsent = if unsent >= WRITING_BYTES as u64 && !self.held_up {
-            0
-        } else {
-            unsent
-        };
-    }
-
     // What a failed write leaves: a link that is over, unless memory was refused.
     fn refuse(&mut self, error: &Error) -> LinkFault
         ensures memory { error.now ≡ OutOfMemory → (result ≡ LinkFault.Memory) × (self.new ≡ self.old) }
         ensures gone { error.now ≢ OutOfMemory → (result ≡ LinkFault.Gone) × (self.new.phase ≡ Over) }
+        ensures stays { CountsOn self.old self.new }
     {
         if matches!(error, Error::OutOfMemory) {
             return LinkFault::Memory;
@@ -174,9 +148,9 @@ impl<S: Read + Write + Drop> WsLink<S> {
 }
 
 impl<S: Read + Write + Drop> Outgoing for WsLink<S> {
-    ghost use Rattle.std.specs.Prelude.{◌≡◌, IfOk, OnOk, IfErr};
+    ghost use Rattle.std.specs.Prelude.{◌≡◌, IfOk, OnErr, OnOk, IfErr, length};
     ghost use Rattle.frame_core.specs.Written.{written};
-    ghost use Rattle.ws_core.specs.Sending.{Fails, Flushes, IsFlushed, Sends, Refuses};
+    ghost use Rattle.ws_core.specs.Sending.{CountsOn, CountsPut, CountsWritten, Fails, Flushes, IsFlushed, Sends, Refuses};
 
     ghost refuses = { Refuses };
 
@@ -186,7 +160,9 @@ impl<S: Read + Write + Drop> Outgoing for WsLink<S> {
 
     fn send(&mut self, alloc: Global, released: &Released) -> Result<(), LinkFault>
         ensures sends { OnOk result (Sends S.contents (written released.now.frame) self.old self.new) }
+        ensures counts { OnOk result (CountsPut (length (written released.now.frame)) self.old self.new) }
         ensures refuses { IfErr result (Refuses self.old self.new) }
+        ensures stays { OnErr result (CountsOn self.old self.new) }
     {
         if self.phase != LinkPhase::Open {
             return Err(LinkFault::Gone);
@@ -198,6 +174,8 @@ impl<S: Read + Write + Drop> Outgoing for WsLink<S> {
     fn flush(&mut self) -> Result<bool, LinkFault>
         ensures flushes { IfOk result (Flushes S.contents self.old self.new) }
         ensures fails { IfErr result (Fails self.old self.new) }
+        ensures counts { OnOk result (CountsWritten self.old self.new) }
+        ensures stays { OnErr result (CountsOn self.old self.new) }
     {
         if self.phase == LinkPhase::Over {
             return Err(LinkFault::Gone);
@@ -205,9 +183,7 @@ impl<S: Read + Write + Drop> Outgoing for WsLink<S> {
         match flush(&mut self.socket) {
             Ok(all) => {
                 self.held_up = !all;
-                if all {
-                    self.unsent = 0;
-                }
+                self.holding.settle(self.held_up);
                 Ok(all)
             }
             Err(_) => {
@@ -225,18 +201,20 @@ impl<S: Read + Write + Drop> Outgoing for WsLink<S> {
 }
 
 impl<S: Read + Write + Ending + Drop> Link for WsLink<S> {
-    ghost use Rattle.std.specs.Prelude.{◌≡◌, OnOk, IfErr};
+    ghost use Rattle.std.specs.Prelude.{◌≡◌, OnErr, OnOk, IfErr, length};
     ghost use Rattle.frame_core.specs.Written.{written};
-    ghost use Rattle.ws_core.specs.Links.{IsEnded, Keeps};
-    ghost use Rattle.ws_core.specs.Receiving.{Receives};
-    ghost use Rattle.ws_core.specs.Sending.{Pings, Sends, Refuses};
+    ghost use Rattle.ws_core.specs.declared.phase.LinkPhase.TheVariants.{Open};
+    ghost use Rattle.ws_core.specs.Links.{IsCounted, IsEnded, Keeps};
+    ghost use Rattle.ws_core.specs.Receiving.{CountsRead, Receives};
+    ghost use Rattle.ws_core.specs.Sending.{CountsOn, CountsPut, CountsWritten, Pings, Sends, Refuses};
 
     ghost pings = { Pings S.contents };
 
-    ghost keeps = { Keeps };
+    ghost keeps = { IsCounted S.count_given };
 
     fn receive(&mut self, alloc: Global) -> Received
-        ensures { Receives S.remaining S.contents self.old self.new result }
+        ensures receives { Receives S.remaining S.contents self.old self.new result }
+        ensures counts { CountsRead S.count_given self.old self.new result }
     {
         match self.phase {
             LinkPhase::Open => {
@@ -254,20 +232,20 @@ impl<S: Read + Write + Ending + Drop> Link for WsLink<S> {
         }
     }
 
-    // What is counted may be more than it is. What wasn't sent has messages of up to 64 KiB that the stream has taken, until a flush. What was
-    // read has the heads of a message's fragments. The socket grows by doubling, and keeps what it has. A message stays whole while it is fed.
     fn held(&self) -> u64
-        ensures { Keeps self.now result }
+        ensures counted { IsCounted S.count_given self.now result }
+        ensures keeps { Keeps self.now result }
     {
-        let unsent = self.unsent.min(WAITING_BYTES as u64);
-        let room = 2 * self.most_read.max(self.unread()).min(UNREAD_BYTES);
-        let fed = self.unfed.fed().min(MESSAGE_BYTES);
-        (unsent + room + fed as u64).saturating_add(self.unfed.len() as u64)
+        let counted = self.holding.bytes(self.socket.get_ref().given());
+        let fed = (self.unfed.fed() as u64).min(MESSAGE_BYTES);
+        (counted + fed).saturating_add(self.unfed.len() as u64)
     }
 
     fn send_direct(&mut self, alloc: Global, notice: &Notice) -> Result<(), LinkFault>
         ensures sends { OnOk result (Sends S.contents (written notice.now) self.old self.new) }
+        ensures counts { OnOk result (CountsPut (length (written notice.now)) self.old self.new) }
         ensures refuses { IfErr result (Refuses self.old self.new) }
+        ensures stays { OnErr result (CountsOn self.old self.new) }
     {
         if self.phase != LinkPhase::Open {
             return Err(LinkFault::Gone);
@@ -281,7 +259,9 @@ impl<S: Read + Write + Ending + Drop> Link for WsLink<S> {
 
     fn ping(&mut self) -> Result<(), LinkFault>
         ensures pings { OnOk result (Pings S.contents self.old self.new) }
+        ensures counts { OnOk result (CountsPut 0 self.old self.new) }
         ensures refuses { IfErr result (Refuses self.old self.new) }
+        ensures stays { OnErr result (CountsOn self.old self.new) }
     {
         if self.phase != LinkPhase::Open {
             return Err(LinkFault::Gone);
@@ -291,7 +271,9 @@ impl<S: Read + Write + Ending + Drop> Link for WsLink<S> {
 
     fn end(&mut self, reason: CloseReason) -> Result<(), LinkFault>
         ensures ends { OnOk result (IsEnded S.contents reason self.old self.new) }
+        ensures counts { OnOk result (self.old.phase ≡ Open → CountsWritten self.old self.new) }
         ensures refuses { IfErr result (Refuses self.old self.new) }
+        ensures stays { OnErr result (CountsOn self.old self.new) }
     {
         match self.phase {
             LinkPhase::Open => {}
@@ -301,6 +283,7 @@ impl<S: Read + Write + Ending + Drop> Link for WsLink<S> {
         match say_close(&mut self.socket, reason) {
             Ok(all) => {
                 self.held_up = !all;
+                self.holding.settle(self.held_up);
                 self.phase = LinkPhase::Closing;
                 Ok(())
             }
@@ -312,13 +295,15 @@ impl<S: Read + Write + Ending + Drop> Link for WsLink<S> {
 impl<S: Read + Write + Ending + Drop> WsLink<S> {
     ghost use Rattle.std.specs.Prelude.{◌≡◌, ◌≢◌, [], cond, false, not};
     ghost use Rattle.ws_core.specs.Links.{HasFailed};
-    ghost use Rattle.ws_core.specs.Receiving.{Feeds, Leaves, Listens, after};
+    ghost use Rattle.ws_core.specs.Holdings.{settled};
+    ghost use Rattle.ws_core.specs.Receiving.{Feeds, KeepsFed, Leaves, Listens, after, counted_after};
     ghost use Rattle.ws_core.specs.declared.phase.LinkPhase.TheVariants.{Failed, Shut};
 
     // The next piece of a message: of the one that is left, or of the next one.
     fn listen(&mut self, alloc: Global) -> Received
         ensures listens { Listens S.remaining S.contents self.old self.new result }
-        ensures same { self.new ≡ record self.old { socket = self.new.socket; held_up = self.new.held_up; unfed = self.new.unfed } }
+        ensures same { self.new ≡ record self.old { socket = self.new.socket; held_up = self.new.held_up; unfed = self.new.unfed; fed = self.new.fed } }
+        ensures fed { KeepsFed self.old.fed self.new.unfed result self.new.fed }
         ensures held_up { result ≢ Received.Failed → self.new.held_up ≡ self.old.held_up }
         ensures rest { result ≡ Received.Failed → self.new.held_up ≡ false → self.new.socket.output ≡ [] }
     {
@@ -337,45 +322,36 @@ impl<S: Read + Write + Ending + Drop> WsLink<S> {
     // The next piece of the message that is left. If memory is refused for it, the link is over.
     fn feed(&mut self, alloc: Global) -> Received
         ensures piece { Feeds self.old.unfed self.new.unfed result }
-        ensures same { self.new ≡ record self.old { unfed = self.new.unfed } }
+        ensures fed { KeepsFed self.old.fed self.new.unfed result self.new.fed }
+        ensures same { self.new ≡ record self.old { unfed = self.new.unfed; fed = self.new.fed } }
     {
-        match self.unfed.next(alloc) {
-            Ok(piece) => Received::Bytes(piece),
-            Err(_) => Received::Closed,
-        }
+        let Ok(piece) = self.unfed.next(alloc) else {
+            return Received::Closed;
+        };
+        Received::Bytes(piece)
     }
 
-    // How many bytes were read of a message that isn't whole.
-    fn unread(&self) -> u64 {
-        self.socket.get_ref().given().saturating_sub(self.whole)
-    }
-
-    // Notes how far it has come by what a read gave.
+    // Notes how far it has come by what a read gave, and counts that.
     fn note(&mut self, received: &Received)
-        ensures { self.new ≡ record self.old { phase = after self.old.phase received.now } }
+        ensures { self.new ≡ record self.old { phase = after self.old.phase received.now; holding = counted_after (S.count_given self.old.socket.stream) self.old.held_up received.now self.old.holding } }
     {
-        self.most_read = self.most_read.max(self.unread());
+        self.holding.read(self.socket.get_ref().given(), received);
         match received {
-            Received::Failed => self.phase = LinkPhase::Failed,
+            Received::Failed => {
+                self.holding.settle(self.held_up);
+                self.phase = LinkPhase::Failed;
+            }
             Received::Closed => self.phase = LinkPhase::Over,
-            Received::Bytes(_) => self.whole = self.socket.get_ref().given(),
-            Received::Skipped => self.skip_control(),
-            Received::Nothing => {}
+            Received::Bytes(_) | Received::Skipped | Received::Nothing => {}
         }
-    }
-
-    // A ping or a pong came, which is no part of a message.
-    fn skip_control(&mut self)
-        ensures { self.new ≡ self.old }
-    {
-        let given = self.socket.get_ref().given();
-        self.whole = self.whole.saturating_add(CONTROL_BYTES).min(given);
     }
 
     // Has what was said go to the stream, shuts that once nothing waits any more, and drops what comes.
     fn leave(&mut self) -> Received
         requires { HasFailed self.old.phase }
-        ensures { Leaves S.contents self.old self.new result }
+        ensures leaves { Leaves S.contents self.old self.new result }
+        ensures counts { result ≢ Received.Closed → self.new.holding ≡ settled self.new.held_up self.old.holding }
+        ensures same { (self.new.unfed ≡ self.old.unfed) × (self.new.fed ≡ self.old.fed) }
     {
         let received = match flush(&mut self.socket) {
             Ok(all) => {
@@ -392,7 +368,7 @@ impl<S: Read + Write + Ending + Drop> WsLink<S> {
 
     // Shuts the stream's writing side if all was written, unless it is shut.
     fn shut(&mut self, all: bool)
-        ensures { self.new ≡ record self.old { phase = cond all Shut Failed; held_up = not all } }
+        ensures { self.new ≡ record self.old { phase = cond all Shut Failed; held_up = not all; holding = settled (not all) self.old.holding } }
     {
         if all && self.phase != LinkPhase::Shut {
             let _ = self.socket.get_ref().shut_down();
@@ -403,5 +379,6 @@ impl<S: Read + Write + Ending + Drop> WsLink<S> {
             LinkPhase::Failed
         };
         self.held_up = !all;
+        self.holding.settle(self.held_up);
     }
 }

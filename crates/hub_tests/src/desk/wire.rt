@@ -143,4 +143,8 @@ impl Ending for &Wire<'_> {
     fn shut_down(&self) -> io::Result<()> {
         self.put(b"|")
     }
+
+    fn given(&self) -> u64 {
+        0
+    }
 }
