@@ -1,6 +1,6 @@
 -- How a connection lives through the calls of its desk.
 use Rattle.std.proofs.Common.{◌≡◌, ℕ, List, [], ◌∷◌, ◌++◌, Option, Some, None, length, sym, ap, ◌∙◌, subst, inl, inr, append_assoc, append-nil}
-use Rattle.std.specs.Prelude.{◌==◌, cond, option_map}
+use Rattle.std.specs.Prelude.{◌==◌, cond, option_map, slice_get}
 use Rattle.std.proofs.lemmas.Bool.{cases_eq, cases_lt}
 use Rattle.std.proofs.lemmas.List.{get_or_past}
 use Rattle.std.proofs.lemmas.Option.{get_or_from_slice_get, slice_get-get_or}
@@ -40,15 +40,17 @@ module _ {B L : Type 0} (sent : L → Option (List (List ℕ))) (received : L �
   at_place old new at (inr (inr (inl changes))) s sat taken =
       let is = subst (λ o. ChangedAt evicted o (seated_at new.places at)) (get_or_from_slice_get old.places at (Some s) None sat) changes.changed in
       (is.0, sits_there new.places at is.0 is.1, evicts received s.slot is.0.slot s.link is.0.link (ap received is.2.link) is.2.connection is.2.waiting)
-  at_place old new at (inr (inr (inr (link, inl admits)))) s sat taken = absurd (never_free old.places at s admits.was_free sat)
-  at_place old new at (inr (inr (inr (link, inr leaves)))) s sat taken = absurd (never_free new.places at taken.0 leaves.free taken.1)
+  at_place old new at (inr (inr (inr (inl looks)))) s sat taken = (s, ap (λ (d : DeskValue B L). slice_get d.places at) looks.1 ∙ sat, (heeds_none received s.slot s.link).heeds)
+  at_place old new at (inr (inr (inr (inr (link, inl admits))))) s sat taken = absurd (never_free old.places at s admits.was_free sat)
+  at_place old new at (inr (inr (inr (inr (link, inr leaves))))) s sat taken = absurd (never_free new.places at taken.0 leaves.free taken.1)
 
   others_stay : (old new : DeskValue B L) (at : ℕ) → Calls sent received old new at → (k : ℕ) → (k ≡ at → ⊥) → (s : Seated B L) → SitsAt old.places k s → SitsAt new.places k s
   others_stay old new at (inl turn) k other s sat = turn.2.others k other ∙ sat
   others_stay old new at (inr (inl touch)) k other s sat = touch.others.others k other ∙ sat
   others_stay old new at (inr (inr (inl changes))) k other s sat = changes.others.others k other ∙ sat
-  others_stay old new at (inr (inr (inr (link, inl admits)))) k other s sat = sits_there new.places k s (admits.others k other ∙ get_or_from_slice_get old.places k (Some s) None sat)
-  others_stay old new at (inr (inr (inr (link, inr leaves)))) k other s sat = sits_there new.places k s (leaves.others k other ∙ get_or_from_slice_get old.places k (Some s) None sat)
+  others_stay old new at (inr (inr (inr (inl looks)))) k other s sat = ap (λ (d : DeskValue B L). slice_get d.places k) looks.1 ∙ sat
+  others_stay old new at (inr (inr (inr (inr (link, inl admits))))) k other s sat = sits_there new.places k s (admits.others k other ∙ get_or_from_slice_get old.places k (Some s) None sat)
+  others_stay old new at (inr (inr (inr (inr (link, inr leaves))))) k other s sat = sits_there new.places k s (leaves.others k other ∙ get_or_from_slice_get old.places k (Some s) None sat)
 
   one_call : (old new : DeskValue B L) (at place : ℕ) (c : Calls sent received old new at) (s : Seated B L) → SitsAt old.places place s → (t : Seated B L) × SitsAt new.places place t
       → Went new place s (cond (at == place) (deeds_of sent received old new at c) [])

@@ -11,6 +11,8 @@ use Rattle.desk_core.specs.declared.place.Seated.{Seated}
 use Rattle.desk_core.specs.declared.slot.Slot.{Slot}
 use Rattle.desk_core.specs.declared.turned.Turned.{Turned}
 use Rattle.desk_core.specs.Answers.{Answers}
+use Rattle.desk_core.specs.Concluding.{Concludes}
+use Rattle.desk_core.specs.Effects.{commands_of}
 use Rattle.desk_core.specs.Desks.{IsCounted, Trims, counted_in, reaching, seated_at}
 use Rattle.desk_core.specs.Halting.{HasHalted}
 use Rattle.desk_core.specs.Places.{ChangedAt, HasLimit, KeepsWithin, ServedAt, UnservedAt, counted_at}
@@ -120,6 +122,9 @@ served_at sent received room o was is mid s t turned sat allows same g answers =
   served = reserve sent _ was.slot mid is.slot was.link is.link (ap (λ (c : ConnectionValue). c.progress) allows) same.2 same.3 g.served;
   heeds = record { got = g.heeds.got; read = g.heeds.read; lives = λ bytes before x. g.heeds.lives bytes before (allowed room was.slot mid bytes before allows same.0 x) };
   has_room = g.keeps.room ∙ ap (λ (c : ConnectionValue). c.footprint.room) allows;
+  concludes =
+      let k = subst (λ c. Concludes sent c was.link is.slot.connection is.link (commands_of g.effects)) allows g.concludes in
+      record { follows = k.follows; silent = k.silent; tells = k.tells };
   evicted = λ e. subst (λ (c : ConnectionValue). IsEvicted c.footprint.cut) allows (g.keeps.evicted e);
   halts = λ before h. g.halts (λ m. before (subst (λ (c : ConnectionValue). HasHalted c.stage) allows m)) h;
   answers = answers;

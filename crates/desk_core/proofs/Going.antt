@@ -1,6 +1,6 @@
 -- How a slot goes on: what its client is sent, what its seat gets, and what of its client's bytes that is.
 use Rattle.std.proofs.Common.{◌≡◌, ◌<◌, ◌≤◌, ◌++◌, ◌∷◌, [], ℕ, List, Option, Some, None, refl, sym, ap, ◌∙◌, subst, inl, inr, append_assoc, append-nil, arith, ◌⊎◌}
-use Rattle.std.specs.Prelude.{Result, Ok, Err, OnOk, OnErr, option_map}
+use Rattle.std.specs.Prelude.{map, Result, Ok, Err, OnOk, OnErr, option_map}
 use Rattle.command_core.specs.Commands.{CommandValue}
 use Rattle.command_core.specs.declared.command.Op.{Op}
 use Rattle.frame_core.specs.declared.frame.Frame.{Frame}
@@ -13,7 +13,8 @@ use Rattle.session_core.specs.declared.act.Act.{Act}
 use Rattle.desk_core.specs.Connections.{ConnectionValue, Fails, HearsBytes, IsLost, Listens, Takes, closed_by, filled, with_appended, with_room}
 use Rattle.desk_core.specs.Progress.{IsDone, IsNext, asked, is_last, role_of}
 use Rattle.desk_core.specs.Footprints.{FootprintValue, IsFootprint, charged, spent, total}
-use Rattle.desk_core.specs.Stages.{Executes, IsEnding, rested, stopped}
+use Rattle.desk_core.specs.Concluding.{Concludes, follow}
+use Rattle.desk_core.specs.Stages.{CanTell, Executes, IsEnding, rested, stopped}
 use Rattle.desk_core.specs.declared.progress.Progress.{Progress}
 use Rattle.desk_core.specs.declared.stage.Stage.{Stage}
 use Rattle.desk_core.specs.declared.stage.Stage.TheVariants.{Running, GivingUp}
@@ -27,11 +28,12 @@ use Rattle.desk_core.specs.Halting.{FindsEnd, HasHalted, IsFinal}
 use Rattle.desk_core.specs.Histories.{DoesUndone, HasTold, Heeds, Idles, Lives, LivesAt, LivesOn, Nothing, Restaged, Steady, Taken, Undone, Waits, act_of, undone_of}
 use Rattle.desk_core.specs.Relays.{ReadsMark}
 use Rattle.desk_core.specs.Spending.{IsEvicted, KeepsRoom, Spends, waiting_of}
-use Rattle.desk_core.specs.Slots.{IsNew, Served, Stays, Unserved}
+use Rattle.desk_core.specs.Slots.{IsNew, Served, Stays, Unserved, bytes_of}
 use Rattle.desk_core.specs.Boxes.{BoxEntry}
 use Rattle.desk_core.specs.declared.slot.Slot.{Slot}
+use Rattle.desk_core.proofs.Concluding.{concludes_quietly, concludes_then}
 use Rattle.desk_core.proofs.Doing.{IsSilent, commands_append, told_append}
-use Rattle.desk_core.proofs.Living.{again_next, asks_it, begins, closes, halted_giving, hears_more, leaves_it, none_lost_yet, not_halted, passes_it, restages, restays, rests, same_stage, same_taken, says_it, stopped_over, stops, takes_none, takes_one, tells_it, tells_none}
+use Rattle.desk_core.proofs.Living.{again_next, asks_it, begins, can_giving, closes, halted_giving, hears_more, leaves_it, none_lost_yet, not_halted, passes_it, restages, restays, rests, same_stage, same_taken, says_it, stopped_over, stops, takes_none, takes_one, tells_it, tells_none}
 use Rattle.desk_core.proofs.Spending.{counts_it, cut_by_count, cuts_it, spends_as, spends_charged, spends_filled, spends_new, spends_no_more, spends_on, spends_room, spends_said, spends_taken}
 use Rattle.desk_core.proofs.Messages.{quiet, restay, reserve, served, still, takes_no_other, unserved}
 use Rattle.desk_core.proofs.Talking.{ends_so, joined, reads_so, stays}
@@ -75,6 +77,7 @@ heeds_quietly received was is from to unread steady waits = let restaged = stead
         (spends_on before (waiting_of was.waiting) was.connection is.connection restaged.executes restaged.footprint l.1);
   };
   footprint = restaged.footprint;
+  tells = steady.tells;
   halts = steady.halts;
 }
 
@@ -103,6 +106,9 @@ goes_then sent received was mid is s t u l m n a b = record {
   served = subst (λ frames. Served sent frames was l is n) (sym (told_append a.effects b.effects)) (served sent (told_of a.effects) (told_of b.effects) was mid is l m n a.served b.served);
   heeds = heeds_then received was mid is l m n a.effects b.effects a.heeds b.heeds;
   keeps = keeps_then was.connection mid.connection is.connection a.keeps b.keeps;
+  concludes = subst (λ said. Concludes sent was.connection l is.connection n said) (sym (commands_append a.effects b.effects))
+      (concludes_then sent was.connection mid.connection is.connection l m n (commands_of a.effects) (commands_of b.effects) (map bytes_of a.served.passes.messages) (map bytes_of b.served.passes.messages)
+      a.served.passes.told b.served.passes.told a.concludes b.concludes);
   halts = λ before h. b.halts (λ m. a.halts before m) h;
 }
 
@@ -119,6 +125,7 @@ goes_quietly sent received was is s l m u h = record {
   served = unserved sent was is l m u;
   heeds = h.heeds;
   keeps = keeps_same was.connection is.connection h.footprint;
+  concludes = concludes_quietly sent was.connection is.connection l m u.progress u.sent h.tells;
   halts = λ before e. before (h.halts e);
 }
 
@@ -131,14 +138,15 @@ found_later s t mark seen no_less (inr far) = inr (omega (arith, far, no_less))
 
 -- where the mark is read, and outputs are sent
 pub goes_reading : {B L : Type 0} (sent : L → Option (List (List ℕ))) (received : L → Option (List ℕ)) (was is : Slot B) (s t : SessionSeatValue) (l m : L)
-    → StaysOrEnds was.connection.progress is.connection.progress → ReadsMark s t → Served sent [] was l is m → Idles received was l is m → GoesOn sent received was s l is t m
-goes_reading sent received was is s t l m ends reads served idles = record {
+    → StaysOrEnds was.connection.progress is.connection.progress → ReadsMark s t → Served sent [] was l is m → Idles received was l is m → Concludes sent was.connection l is.connection m [] → GoesOn sent received was s l is t m
+goes_reading sent received was is s t l m ends reads served idles concludes = record {
   effects = [];
   added = ap (λ (x : SessionSeatValue). x.own) reads.seen ∙ sym (append-nil s.own);
   continues = reads_so was.connection.progress was.connection.progress is.connection.progress s s t t.seen (stays was.connection.progress s) ends reads.seen;
   served = served;
   heeds = idles.heeds;
   keeps = keeps_same was.connection is.connection idles.footprint;
+  concludes = concludes;
   halts = λ before e. found_later s t t.seen reads.seen reads.no_less (before (idles.halts e));
 }
 
@@ -183,6 +191,7 @@ heeds_unheard received was is from to got read over steady waits = let restaged 
         (spends_on before (waiting_of was.waiting) was.connection is.connection restaged.executes restaged.footprint l.1);
   };
   footprint = restaged.footprint;
+  tells = steady.tells;
   halts = steady.halts;
 }
 
@@ -205,6 +214,7 @@ fails_restaged old new listens f = record {
 
 fails_so : (old new : ConnectionValue) → Listens old → Fails old new → Steady old new
 fails_so old new listens f = record {
+  tells = λ t. subst CanTell (sym listens.0) tt;
   halts = λ h. absurd (subst HasHalted (ap (λ (c : ConnectionValue). c.stage) f.same) h);
   restaged = fails_restaged old new listens f;
 }
@@ -223,6 +233,7 @@ heeds_bytes received was is from to got (Ok x) listens none heard failed read wa
         (subst (λ p. Spends before was.connection (waiting_of p)) none l.1));
   };
   footprint = ap (λ (c : ConnectionValue). c.footprint) heard.same;
+  tells = λ t. subst CanTell (ap (λ (c : ConnectionValue). c.stage) heard.same) t;
   halts = λ h. subst HasHalted (ap (λ (c : ConnectionValue). c.stage) heard.same) h;
 }
 heeds_bytes received was is from to got (Err e) listens none heard failed read waits =
@@ -266,12 +277,13 @@ again_so old new p undone act executes first is_act same none = λ bytes before 
     none_more_waits bytes before new p none (again_next bytes before old new undone act executes first is_act same l)
     (spends_on before [] old new (λ e. executes) (ap (λ (x : ConnectionValue). x.footprint) same) s)
 
-pub nothing_done : (undone : Undone) (old new : ConnectionValue) (p : Option BoxEntry) (waiting : List Op) (s t : SessionSeatValue) → t.own ≡ s.own → KeepsRoom old new → (HasHalted new.stage → HasHalted old.stage ⊎ FindsEnd t) → LivesOn undone waiting old new p [] → DoesUndone undone waiting old s new p t
-nothing_done undone old new p waiting s t own keeps halts lives = record { effects = []; added = own ∙ sym (append-nil s.own); none_told = refl; keeps = keeps; halts = halts; lives = lives }
+pub nothing_done : (undone : Undone) (old new : ConnectionValue) (p : Option BoxEntry) (waiting : List Op) (s t : SessionSeatValue) → t.own ≡ s.own → KeepsRoom old new → new.progress ≡ old.progress → (CanTell new.stage → CanTell old.stage)
+    → (HasHalted new.stage → HasHalted old.stage ⊎ FindsEnd t) → LivesOn undone waiting old new p [] → DoesUndone undone waiting old s new p t
+nothing_done undone old new p waiting s t own keeps progress tells halts lives = record { effects = []; added = own ∙ sym (append-nil s.own); none_told = refl; follows = progress; tells = tells; keeps = keeps; halts = halts; lives = lives }
 
 pub said_it : (window : ℕ) (old new : ConnectionValue) (p : Option BoxEntry) (s t : SessionSeatValue) (c : CommandValue) (ticket : ℕ) → Executes old.stage → Appends window s t ticket c → new ≡ with_appended old (role_of c.op) (is_last c) ticket → p ≡ None
     → DoesUndone (Waits c) (c.op ∷ []) old s new p t
-said_it window old new p s t c ticket executes a same none = record { effects = Said (ticket, c) ∷ []; added = ap (λ (x : SessionSeatValue). x.own) a.added; none_told = refl; keeps = subst (λ x. KeepsRoom old x) (sym same) record { room = refl; limit = refl; evicted = λ e. e }; halts = λ h. inl (subst HasHalted (ap (λ (x : ConnectionValue). x.stage) same) h); lives = said_so old new p c ticket executes same none }
+said_it window old new p s t c ticket executes a same none = record { effects = Said (ticket, c) ∷ []; added = ap (λ (x : SessionSeatValue). x.own) a.added; none_told = refl; follows = ap (λ (x : ConnectionValue). x.progress) same; tells = λ t. subst CanTell (ap (λ (x : ConnectionValue). x.stage) same) t; keeps = subst (λ x. KeepsRoom old x) (sym same) record { room = refl; limit = refl; evicted = λ e. e }; halts = λ h. inl (subst HasHalted (ap (λ (x : ConnectionValue). x.stage) same) h); lives = said_so old new p c ticket executes same none }
 
 pub said_next : (old new : ConnectionValue) (p : Option BoxEntry) (s t : SessionSeatValue) (c : CommandValue) (ticket : ℕ) → Executes old.stage → SaysNext c old s new t ticket → p ≡ None → DoesUndone (Waits c) (c.op ∷ []) old s new p t
 said_next old new p s t c ticket executes so none = said_it WINDOW old new p s t c ticket executes so.appends so.connection none
@@ -286,17 +298,19 @@ found_so window refusals.Stopped s t is final = inl (ap (λ (x : SessionSeatValu
 found_so window refusals.Exhausted s t is final = inr is.1
 found_so window (refusals.Busy mark) s t is final = absurd final
 
-pub refused_so : (window : ℕ) (refused : Refused) (old mid new : ConnectionValue) (p : Option BoxEntry) (s t : SessionSeatValue) (c d : CommandValue) → Refuses window s t refused → mid ≡ old → d ≡ c → new.footprint ≡ mid.footprint → (HasHalted new.stage → HasHalted mid.stage ⊎ IsFinal refused) → LivesOn (Waits d) (d.op ∷ []) mid new p []
+pub refused_so : (window : ℕ) (refused : Refused) (old mid new : ConnectionValue) (p : Option BoxEntry) (s t : SessionSeatValue) (c d : CommandValue) → Refuses window s t refused → mid ≡ old → d ≡ c → (new.progress ≡ mid.progress) × (new.footprint ≡ mid.footprint) → (CanTell new.stage → CanTell mid.stage) → (HasHalted new.stage → HasHalted mid.stage ⊎ IsFinal refused) → LivesOn (Waits d) (d.op ∷ []) mid new p []
     → DoesUndone (Waits c) (c.op ∷ []) old s new p t
-refused_so window refused old mid new p s t c d is same command counted halts lives =
-    nothing_done (Waits c) old new p (c.op ∷ []) s t (own_refused window refused s t is) (keeps_same old new (counted ∙ ap (λ (x : ConnectionValue). x.footprint) same))
+refused_so window refused old mid new p s t c d is same command unsaid tells halts lives =
+    nothing_done (Waits c) old new p (c.op ∷ []) s t (own_refused window refused s t is) (keeps_same old new (unsaid.1 ∙ ap (λ (x : ConnectionValue). x.footprint) same))
+    (unsaid.0 ∙ ap (λ (x : ConnectionValue). x.progress) same) (λ t. subst (λ (x : ConnectionValue). CanTell x.stage) same (tells t))
     (λ h. elim (halts h) [ inl before ↦ inl (subst (λ (x : ConnectionValue). HasHalted x.stage) same before) | inr final ↦ inr (found_so window refused s t is final) ])
     (subst (λ (x : CommandValue). LivesOn (Waits x) (x.op ∷ []) old new p []) command (subst (λ x. LivesOn (Waits d) (d.op ∷ []) x new p []) same lives))
 
 -- the command would have the session pass its bytes, and is dropped with all that waits behind it
 pub cut_so : (old new : ConnectionValue) (p : Option BoxEntry) (s : SessionSeatValue) (c : CommandValue) → Executes old.stage → IsFootprint old.footprint → old.footprint.room < total (charged old.footprint.parts c.op) → new ≡ filled old → p ≡ None
     → DoesUndone (Waits c) [] old s new p s
-cut_so old new p s c executes form passes same none = nothing_done (Waits c) old new p [] s s refl (subst (λ x. KeepsRoom old x) (sym same) record { room = refl; limit = refl; evicted = λ e. absurd e }) (λ h. inl (halted_giving old.stage (subst HasHalted (ap (λ (x : ConnectionValue). x.stage) same) h))) (λ bytes before l spends.
+cut_so old new p s c executes form passes same none = nothing_done (Waits c) old new p [] s s refl (subst (λ x. KeepsRoom old x) (sym same) record { room = refl; limit = refl; evicted = λ e. absurd e })
+    (ap (λ (x : ConnectionValue). x.progress) same) (λ t. can_giving old.stage (subst CanTell (ap (λ (x : ConnectionValue). x.stage) same) t)) (λ h. inl (halted_giving old.stage (subst HasHalted (ap (λ (x : ConnectionValue). x.stage) same) h))) (λ bytes before l spends.
     let by = cut_by_count before old c.op executes form spends passes in
     none_more_waits bytes before new p none (cuts_it bytes before old new c executes same by.0 by.1 l)
     (spends_filled before old new executes same spends))
@@ -310,6 +324,8 @@ charged_so old mid new p s t c d executes fits counted command does =
       effects = own.effects;
       added = own.added;
       none_told = own.none_told;
+      follows = own.follows ∙ ap (λ (x : ConnectionValue). follow x.progress (commands_of own.effects)) counted;
+      tells = λ t. subst CanTell (ap (λ (x : ConnectionValue). x.stage) counted) (own.tells t);
       keeps = keeps_then old mid new (subst (λ x. KeepsRoom old x) (sym counted) record { room = refl; limit = refl; evicted = λ e. e }) own.keeps;
       halts = λ h. elim (own.halts h) [ inl before ↦ inl (subst HasHalted (ap (λ (x : ConnectionValue). x.stage) counted) before) | inr found ↦ inr found ];
       lives = λ bytes before l spends.
@@ -324,14 +340,16 @@ asked_so old new p s t op receipt c executes is next d = record {
   effects = d.effects;
   added = d.added;
   none_told = d.none_told;
+  follows = d.follows;
+  tells = d.tells;
   keeps = d.keeps;
   halts = d.halts;
   lives = λ bytes before l spends. d.lives bytes before (asks_it bytes before old op receipt c executes is next l) spends;
 }
 
 -- nothing is to be done for it from outside
-pub passed_so : (old new : ConnectionValue) (p : Option BoxEntry) (s : SessionSeatValue) (act : Act) → Executes old.stage → IsSilent old.progress act → Steady old new → p ≡ None → DoesUndone (Taken act) [] old s new p s
-passed_so old new p s act executes silent steady none = nothing_done (Taken act) old new p [] s s refl (keeps_same old new steady.restaged.footprint) (λ h. inl (steady.halts h))
+pub passed_so : (old new : ConnectionValue) (p : Option BoxEntry) (s : SessionSeatValue) (act : Act) → Executes old.stage → IsSilent old.progress act → Steady old new → new.progress ≡ old.progress → p ≡ None → DoesUndone (Taken act) [] old s new p s
+passed_so old new p s act executes silent steady progress none = nothing_done (Taken act) old new p [] s s refl (keeps_same old new steady.restaged.footprint) progress steady.tells (λ h. inl (steady.halts h))
     (λ bytes before l spends. none_more_waits bytes before new p none (restays bytes before old new Nothing steady.restaged (passes_it bytes before old act executes silent l)) (spends_on before [] old new steady.restaged.executes steady.restaged.footprint spends))
 
 spending : (before : List Effect) (c : ConnectionValue) (p : Option BoxEntry) → p ≡ None → Spends before c (waiting_of p) → Spends before c []
@@ -342,8 +360,10 @@ living bytes before c p none l = subst (λ x. Lives bytes before c (undone_of x)
 
 -- the command of an entry that waited, or the next act
 goes_doing : {B L : Type 0} (sent : L → Option (List (List ℕ))) (received : L → Option (List ℕ)) (was is : Slot B) (s t : SessionSeatValue) (l : L) (effects : List Effect) → t.own ≡ s.own ++ commands_of effects → told_of effects ≡ []
-    → Continues was.connection.progress s is.connection.progress t → Stays was is → KeepsRoom was.connection is.connection → ((bytes : List ℕ) (before : List Effect) → LivesAt bytes before was → LivesAt bytes (before ++ effects) is) → (HasHalted is.connection.stage → FindsEnd t) → GoesOn sent received was s l is t l
-goes_doing sent received was is s t l effects added none_told continues same keeps lives halts = record {
+    → Continues was.connection.progress s is.connection.progress t → Stays was is → KeepsRoom was.connection is.connection → ((bytes : List ℕ) (before : List Effect) → LivesAt bytes before was → LivesAt bytes (before ++ effects) is) → (HasHalted is.connection.stage → FindsEnd t)
+    → is.connection.progress ≡ follow was.connection.progress (commands_of effects) → (CanTell is.connection.stage → CanTell was.connection.stage) → GoesOn sent received was s l is t l
+goes_doing sent received was is s t l effects added none_told continues same keeps lives halts follows tells = record {
+  concludes = record { follows = inl follows; silent = λ over. refl; tells = tells };
   keeps = keeps;
   effects = effects;
   added = added;
@@ -370,6 +390,7 @@ goes_taken sent received was mid is s t l act executes none w outbox kept contin
     (λ bytes before x. d.lives bytes before (takes_one bytes before was.connection mid.connection act executes w (living bytes before was.connection was.waiting none x.0))
     (spends_taken before [] was.connection mid.connection (Some act) executes w (spending before was.connection was.waiting none x.1)))
     (λ h. only_found mid.connection.stage t (still_executes was.connection mid.connection (Some act) w executes) (d.halts h))
+    (d.follows ∙ ap (λ p. follow p (commands_of d.effects)) progress) (λ c. subst CanTell (same_taken was.connection mid.connection (Some act) w) (d.tells c))
 
 pub goes_waiting : {B L : Type 0} (sent : L → Option (List (List ℕ))) (received : L → Option (List ℕ)) (was mid is : Slot B) (s t : SessionSeatValue) (l : L) (entry : BoxEntry) → Executes was.connection.stage → was.waiting ≡ Some entry
     → mid.connection ≡ was.connection → mid.outbox ≡ was.outbox → mid.kept ≡ was.kept → Continues mid.connection.progress s is.connection.progress t → Stays mid is
@@ -381,6 +402,7 @@ goes_waiting sent received was mid is s t l entry executes some connection outbo
     (λ bytes before x. d.lives bytes before (subst (λ c. Lives bytes before c (Waits entry.command)) (sym connection) (subst (λ p. Lives bytes before was.connection (undone_of p)) some x.0))
     (subst (λ c. Spends before c (entry.command.op ∷ [])) (sym connection) (subst (λ p. Spends before was.connection (waiting_of p)) some x.1)))
     (λ h. only_found mid.connection.stage t (subst (λ (c : ConnectionValue). Executes c.stage) (sym connection) executes) (d.halts h))
+    (d.follows ∙ ap (λ p. follow p (commands_of d.effects)) progress) (λ c. subst (λ (x : ConnectionValue). CanTell x.stage) connection (d.tells c))
 
 -- a frame is told
 pub goes_telling : {B L : Type 0} (sent : L → Option (List (List ℕ))) (received : L → Option (List ℕ)) (was mid is : Slot B) (s : SessionSeatValue) (l m : L) (frame : Frame) → Executes was.connection.stage → was.waiting ≡ None
@@ -396,6 +418,14 @@ goes_telling sent received was mid is s l m frame executes none w outbox kept un
       heeds = by_deeds received was is l m t.effects unread
           (λ bytes before x. t.lives still_so bytes before (takes_one bytes before was.connection mid.connection (Direct frame) executes w (living bytes before was.connection was.waiting none x.0))
           (spends_taken before [] was.connection mid.connection (Some (Direct frame)) executes w (spending before was.connection was.waiting none x.1)));
+      concludes =
+          let k = t.concludes still_so in
+          let stage = same_taken was.connection mid.connection (Some (Direct frame)) w in
+          subst (λ said. Concludes sent was.connection l is.connection m said) (sym t.none_said) record {
+            follows = elim k.follows [ inl x ↦ inl (x ∙ progress) | inr y ↦ inr (subst CanTell stage y.0, y.1) ];
+            silent = λ over. k.silent (λ c. over (subst CanTell stage c));
+            tells = λ c. subst CanTell stage (k.tells c);
+          };
       halts = λ before h. absurd (not_halted mid.connection.stage still_so (t.halts still_so h));
     }
 
@@ -405,13 +435,14 @@ pub goes_closing : {B L : Type 0} (sent : L → Option (List (List ℕ))) (recei
 goes_closing sent received was is mid s l code executes none still_none outbox kept w closed =
     let still_so = still_executes was.connection mid (Some (Close code)) w executes in
     let steady = closes mid is.connection code still_so closed in
-    let d = passed_so mid is.connection is.waiting s (Close code) still_so tt steady still_none in
+    let d = passed_so mid is.connection is.waiting s (Close code) still_so tt steady (ap (λ (c : ConnectionValue). c.progress) closed) still_none in
     let progress = ap (λ (c : ConnectionValue). c.progress) closed ∙ takes_no_other was.connection mid (Some (Close code)) w in
     goes_doing sent received was is s s l d.effects d.added d.none_told (stands was.connection.progress is.connection.progress s s progress refl) (still was is progress outbox kept)
     (keeps_then was.connection mid is.connection (keeps_same was.connection mid (ap (λ (c : ConnectionValue). c.footprint) w.same)) d.keeps)
     (λ bytes before x. d.lives bytes before (takes_one bytes before was.connection mid (Close code) executes w (living bytes before was.connection was.waiting none x.0))
     (spends_taken before [] was.connection mid (Some (Close code)) executes w (spending before was.connection was.waiting none x.1)))
     (λ h. absurd (not_halted mid.stage still_so (steady.halts h)))
+    (d.follows ∙ ap (λ p. follow p (commands_of d.effects)) (takes_no_other was.connection mid (Some (Close code)) w)) (λ c. subst CanTell (same_taken was.connection mid (Some (Close code)) w) (steady.tells c))
 
 -- no act is left
 pub goes_resting : {B L : Type 0} (sent : L → Option (List (List ℕ))) (received : L → Option (List ℕ)) (was is : Slot B) (mid : ConnectionValue) (s : SessionSeatValue) (l : L) → Executes was.connection.stage → was.waiting ≡ None → is.waiting ≡ None → is.outbox ≡ was.outbox → is.kept ≡ was.kept
@@ -428,6 +459,7 @@ goes_resting sent received was is mid s l executes none still_none outbox kept w
     (restays bytes before mid is.connection Nothing steady.restaged (takes_none bytes before was.connection mid executes w (living bytes before was.connection was.waiting none x.0)))
     (spends_on before [] mid is.connection steady.restaged.executes steady.restaged.footprint (spends_taken before [] was.connection mid None executes w (spending before was.connection was.waiting none x.1))))
     (λ h. absurd (not_halted mid.stage still_so (steady.halts h)))
+    progress (λ c. subst CanTell (same_taken was.connection mid None w) (steady.tells c))
 
 pub not_some : {X : Type 0} (o : Option X) → ((x : X) → o ≡ Some x → ⊥) → o ≡ None
 not_some None other = refl
@@ -437,8 +469,9 @@ not_some (Some x) other = absurd (other x refl)
 
 -- The link took it; it was over, now or before; or memory was refused, and it is the next act again.
 pub tells_told : {B L : Type 0} (sent : L → Option (List (List ℕ))) (frame : Frame) (was is : Slot B) (l m : L) → was.waiting ≡ None → is.waiting ≡ was.waiting → (Executes was.connection.stage → Steady was.connection is.connection)
-    → KeepsRoom was.connection is.connection → Served sent (frame ∷ []) was l is m → TellsIt sent frame was l is m
-tells_told sent frame was is l m none waits steady keeps s = record {
+    → KeepsRoom was.connection is.connection → (Executes was.connection.stage → Concludes sent was.connection l is.connection m []) → Served sent (frame ∷ []) was l is m → TellsIt sent frame was l is m
+tells_told sent frame was is l m none waits steady keeps concludes s = record {
+  concludes = concludes;
   halts = λ executes. (steady executes).halts;
   keeps = keeps;
   effects = Told frame ∷ [];
@@ -448,8 +481,9 @@ tells_told sent frame was is l m none waits steady keeps s = record {
 }
 
 pub tells_nobody : {B L : Type 0} (sent : L → Option (List (List ℕ))) (frame : Frame) (was is : Slot B) (l m : L) → was.waiting ≡ None → is.waiting ≡ was.waiting → Steady was.connection is.connection
-    → (Executes was.connection.stage → HasTold is.connection.stage → ⊥) → Served sent [] was l is m → TellsIt sent frame was l is m
-tells_nobody sent frame was is l m none waits steady over s = record {
+    → (Executes was.connection.stage → HasTold is.connection.stage → ⊥) → is.connection.progress ≡ was.connection.progress → sent m ≡ sent l → Served sent [] was l is m → TellsIt sent frame was l is m
+tells_nobody sent frame was is l m none waits steady over progress unsent s = record {
+  concludes = λ executes. concludes_quietly sent was.connection is.connection l m progress unsent steady.tells;
   halts = λ executes. steady.halts;
   keeps = keeps_same was.connection is.connection steady.restaged.footprint;
   effects = Untold frame ∷ [];
@@ -458,5 +492,5 @@ tells_nobody sent frame was is l m none waits steady over s = record {
   lives = λ executes. told_so was.connection is.connection is.waiting frame (Untold frame) executes steady.restaged (inr refl) (λ t. absurd (over executes t)) (waits ∙ none);
 }
 
-pub tells_later : {B L : Type 0} (sent : L → Option (List (List ℕ))) (frame : Frame) (was is : Slot B) (l m : L) → Served sent [] was l is m → KeepsRoom was.connection is.connection → (HasHalted is.connection.stage → HasHalted was.connection.stage) → (Executes was.connection.stage → LivesOn (Taken (Direct frame)) [] was.connection is.connection is.waiting []) → TellsIt sent frame was l is m
-tells_later sent frame was is l m s keeps halts lives = record { keeps = keeps; halts = λ executes. halts; effects = []; none_said = refl; served = s; lives = lives }
+pub tells_later : {B L : Type 0} (sent : L → Option (List (List ℕ))) (frame : Frame) (was is : Slot B) (l m : L) → Served sent [] was l is m → KeepsRoom was.connection is.connection → (HasHalted is.connection.stage → HasHalted was.connection.stage) → Concludes sent was.connection l is.connection m [] → (Executes was.connection.stage → LivesOn (Taken (Direct frame)) [] was.connection is.connection is.waiting []) → TellsIt sent frame was l is m
+tells_later sent frame was is l m s keeps halts concludes lives = record { concludes = λ executes. concludes; keeps = keeps; halts = λ executes. halts; effects = []; none_said = refl; served = s; lives = lives }

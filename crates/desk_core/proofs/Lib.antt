@@ -1,5 +1,6 @@
 pub mod Answering
 pub mod Chaining
+pub mod Concluding
 pub mod Counting
 pub mod Doing
 pub mod Evicting

@@ -18,7 +18,7 @@ use Rattle.desk_core.specs.Progress.{IsDone, IsFinished, IsNext, after, asked, i
 use Rattle.desk_core.specs.Footprints.{FootprintValue, footprint}
 use Rattle.desk_core.specs.declared.footprint.Cut.{Cut}
 use Rattle.desk_core.specs.declared.footprint.Cut.TheVariants as cuts
-use Rattle.desk_core.specs.Stages.{Executes, IsEnding, IsOwnEnd, given_up, lost, parted, rested, stopped}
+use Rattle.desk_core.specs.Stages.{CanTell, Executes, IsEnding, IsOwnEnd, given_up, lost, parted, rested, stopped}
 use Rattle.desk_core.specs.Tasks.{Tasks, all_of}
 use Rattle.desk_core.specs.declared.ended.Ended.{Ended}
 use Rattle.desk_core.specs.declared.ended.Ended.TheVariants.{Bye, Lost, Bad, Stopped}
@@ -693,6 +693,25 @@ ending_stop (Over ended) i = i
 pub stops : (old new : ConnectionValue) → new ≡ record old { stage = stopped old.stage } → Restaged old new
 stops old new is = as_restaged old new _ is (by_stage old (stopped old.stage) (λ r. absurd (no_run (stopped old.stage) (never_again old.stage) r)) (untold_stop old.stage) (λ e. absurd (never_again old.stage e)) (ending_stop old.stage))
 
+can_stopping : (stage : Stage) → CanTell (stopped stage) → CanTell stage
+can_stopping Running t = tt
+can_stopping GivingUp t = tt
+can_stopping Leaving t = absurd t
+can_stopping (Closing ended) t = t
+can_stopping (Parting ended) t = t
+can_stopping (Over ended) t = t
+
+pub stops_telling : (old new : ConnectionValue) → new ≡ record old { stage = stopped old.stage } → CanTell new.stage → CanTell old.stage
+stops_telling old new is t = can_stopping old.stage (subst CanTell (ap (λ (c : ConnectionValue). c.stage) is) t)
+
+pub can_where : (stage : Stage) → Executes stage → (stage ≡ Leaving → ⊥) → CanTell stage
+can_where Running e heard = tt
+can_where GivingUp e heard = tt
+can_where Leaving e heard = absurd (heard refl)
+can_where (Closing ended) e heard = absurd e
+can_where (Parting ended) e heard = absurd e
+can_where (Over ended) e heard = absurd e
+
 pub stopped_over : (old new : ConnectionValue) → new ≡ record old { stage = stopped old.stage } → Executes new.stage → ⊥
 stopped_over old new is e = never_again old.stage (subst Executes (ap (λ (c : ConnectionValue). c.stage) is) e)
 
@@ -809,6 +828,14 @@ halts_closing NormalClosure None Gone stage e h = h
 halts_closing NormalClosure (Some number) progress stage e h = not_halted stage e h
 halts_closing ProtocolError last progress stage e h = not_halted stage e h
 
+can_closing : (code : CloseCode) (last : Option ℕ) (progress : Progress) (stage : Stage) → CanTell (closed_by code last progress stage) → CanTell stage
+can_closing NormalClosure None New stage t = absurd t
+can_closing NormalClosure None (Open number) stage t = t
+can_closing NormalClosure None (Finished number) stage t = absurd t
+can_closing NormalClosure None Gone stage t = absurd t
+can_closing NormalClosure (Some number) progress stage t = t
+can_closing ProtocolError last progress stage t = t
+
 pub closes : (old new : ConnectionValue) (code : CloseCode) → Executes old.stage → new ≡ record old { stage = closed_by code old.last old.progress old.stage } → Steady old new
 closes old new code executes is = record {
   restaged = as_restaged old new _ is (record {
@@ -823,6 +850,7 @@ closes old new code executes is = record {
     stood = inl refl;
     ended = λ last before e. ends_closing code old.last old.progress old.stage executes e;
   });
+  tells = λ t. can_closing code old.last old.progress old.stage (subst CanTell (ap (λ (c : ConnectionValue). c.stage) is) t);
   halts = λ h. absurd (halts_closing code old.last old.progress old.stage executes (subst HasHalted (ap (λ (c : ConnectionValue). c.stage) is) h));
 }
 
@@ -859,6 +887,14 @@ halts_resting (Parting ended) e h = e
 halts_resting Leaving e h = h
 halts_resting (Over ended) e h = e
 
+can_resting : (stage : Stage) → CanTell (rested stage) → CanTell stage
+can_resting Running t = t
+can_resting GivingUp t = tt
+can_resting (Closing ended) t = t
+can_resting (Parting ended) t = t
+can_resting Leaving t = absurd t
+can_resting (Over ended) t = t
+
 pub rests : (old new : ConnectionValue) → Executes old.stage → (IsLost old.stage → IsDone old.progress) → new ≡ record old { stage = rested old.stage } → Steady old new
 rests old new executes lost is = record {
   restaged = as_restaged old new _ is (record {
@@ -873,12 +909,28 @@ rests old new executes lost is = record {
     stood = inl refl;
     ended = λ last before e. ends_resting old.stage (IsDone old.progress) executes lost e;
   });
+  tells = λ t. can_resting old.stage (subst CanTell (ap (λ (c : ConnectionValue). c.stage) is) t);
   halts = λ h. absurd (halts_resting old.stage executes (subst HasHalted (ap (λ (c : ConnectionValue). c.stage) is) h));
 }
+
+can_loss : (stage : Stage) → CanTell (lost stage) → CanTell stage
+can_loss Running t = tt
+can_loss GivingUp t = tt
+can_loss Leaving t = t
+can_loss (Closing ended) t = of_closing ended t
+  where
+    of_closing : (ended : Ended) → CanTell (lost (Closing ended)) → ⊥
+    of_closing Bye t = t
+    of_closing Bad t = t
+    of_closing Lost t = t
+    of_closing Stopped t = t
+can_loss (Parting ended) t = t
+can_loss (Over ended) t = t
 
 pub loses : (old new : ConnectionValue) → new ≡ record old { stage = lost old.stage } → Steady old new
 loses old new is = record {
   restaged = as_restaged old new _ is (by_stage old (lost old.stage) (λ r. absurd ((lost_stage old.stage).0 r)) (untold_loss old.stage) (lost_stage old.stage).1 (ending_loss old.stage));
+  tells = λ t. can_loss old.stage (subst CanTell (ap (λ (c : ConnectionValue). c.stage) is) t);
   halts = λ h. halted_loss old.stage (subst HasHalted (ap (λ (c : ConnectionValue). c.stage) is) h);
 }
 
@@ -909,9 +961,18 @@ ending_giving (Closing ended) i = i
 ending_giving (Parting ended) i = i
 ending_giving (Over ended) i = i
 
+pub can_giving : (stage : Stage) → CanTell (given_up stage) → CanTell stage
+can_giving Running t = tt
+can_giving GivingUp t = t
+can_giving Leaving t = t
+can_giving (Closing ended) t = t
+can_giving (Parting ended) t = t
+can_giving (Over ended) t = t
+
 pub gives_up : (old new : ConnectionValue) → new ≡ record old { stage = given_up old.stage } → Steady old new
 gives_up old new is = record {
   restaged = as_restaged old new _ is (by_stage old (given_up old.stage) (given_up_stage old.stage).0 (untold_giving old.stage) (given_up_stage old.stage).1 (ending_giving old.stage));
+  tells = λ t. can_giving old.stage (subst CanTell (ap (λ (c : ConnectionValue). c.stage) is) t);
   halts = λ h. halted_giving old.stage (subst HasHalted (ap (λ (c : ConnectionValue). c.stage) is) h);
 }
 
@@ -939,9 +1000,18 @@ ending_parting (Closing ended) i = i
 ending_parting (Parting ended) i = i
 ending_parting (Over ended) i = i
 
+can_parting : (stage : Stage) → CanTell (parted stage) → CanTell stage
+can_parting Running t = t
+can_parting GivingUp t = t
+can_parting Leaving t = t
+can_parting (Closing ended) t = t
+can_parting (Parting ended) t = t
+can_parting (Over ended) t = t
+
 pub parts : (old new : ConnectionValue) → new ≡ record old { stage = parted old.stage } → Steady old new
 parts old new is = record {
   restaged = as_restaged old new _ is (by_stage old (parted old.stage) (parted_stage old.stage).0 (untold_parting old.stage) (parted_stage old.stage).1 (ending_parting old.stage));
+  tells = λ t. can_parting old.stage (subst CanTell (ap (λ (c : ConnectionValue). c.stage) is) t);
   halts = λ h. halted_parting old.stage (subst HasHalted (ap (λ (c : ConnectionValue). c.stage) is) h);
 }
 
@@ -979,6 +1049,7 @@ closes_so old new p ended told stood is_done goes is = record {
     stood = stood;
     ended = λ last before e. is_done last;
   });
+  tells = λ t. absurd (subst CanTell (ap (λ (c : ConnectionValue). c.stage) is) t);
   halts = λ h. absurd (goes (subst HasHalted (ap (λ (c : ConnectionValue). c.stage) is) h));
 }
 
@@ -1048,6 +1119,7 @@ same_stage old new is = record {
     stood = inl refl;
     ended = λ last ended. ended;
   });
+  tells = λ t. subst CanTell (ap (λ (c : ConnectionValue). c.stage) is) t;
   halts = λ h. subst HasHalted (ap (λ (c : ConnectionValue). c.stage) is) h;
 }
 

@@ -311,6 +311,7 @@ turns {B} {L} sent received old limit before seat after places at was is turned 
       let its : counted_at was ≡ s.was.slot.connection.footprint.counted = ap counted_at s.sat in
       let all : counted_in places ≡ counted_in old.places = ap (λ (d : DeskValue B L). counted_in d.places) same in
       omega (arith, s.has_room, its, all, n.sum, n.within, less, ap (λ (d : DeskValue B L). d.limit) same);
+  concludes = s.concludes;
   evicted = s.evicted;
   halts = λ before h. s.halts (λ m. subst (λ (d : DeskValue B L). FindsEnd d.seat) (sym same) (before m)) h;
   answers = subst (λ (x : SessionSeatValue). Answers received turned x s.was.link s.is.slot after s.is.link) (ap (λ (d : DeskValue B L). d.seat) same) s.answers;

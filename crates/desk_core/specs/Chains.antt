@@ -6,13 +6,18 @@ use Rattle.desk_core.specs.Connections.{evicted}
 use Rattle.desk_core.specs.declared.place.Seated.{Seated}
 use Rattle.desk_core.specs.declared.turned.Turned.{Turned}
 use Rattle.desk_core.specs.Effects.{Effect}
-use Rattle.desk_core.specs.Desks.{Admits, Changes, DeskValue, Leaves, Others, SitsAt, Touches, Turns}
+use Rattle.claim_core.specs.Seats.{with_seen}
+use Rattle.desk_core.specs.Desks.{Admits, Changes, DeskValue, desk, Leaves, Others, SitsAt, Touches, Turns}
 use Rattle.desk_core.specs.Histories.{LivesAt}
 
 module _ {B L : Type 0} (sent : L → Option (List (List ℕ))) (received : L → Option (List ℕ)) where
-  -- One call for a place of a desk: a turn there; a ping or a loss; an eviction; or a client comes, or goes.
+  -- the seat has read the ring's mark, and nothing else has changed
+  abbrev pub Looks : DeskValue B L → DeskValue B L → Type 0
+  Looks old new = (mark : ℕ) × (new ≡ desk old.limit old.before (with_seen old.seat mark) old.places)
+
+  -- One call of a desk: a turn at a place; a ping or a loss there; an eviction; a look at the mark; or a client comes, or goes.
   abbrev pub Calls : DeskValue B L → DeskValue B L → ℕ → Type 0
-  Calls old new at = ((turned : Turned) × Turns sent received old new at turned × Others old.places new.places at) ⊎ (Touches sent received old new at ⊎ (Changes evicted old new at ⊎ ((link : L) × (Admits old new link at ⊎ Leaves old new at link))))
+  Calls old new at = ((turned : Turned) × Turns sent received old new at turned × Others old.places new.places at) ⊎ (Touches sent received old new at ⊎ (Changes evicted old new at ⊎ (Looks old new ⊎ ((link : L) × (Admits old new link at ⊎ Leaves old new at link)))))
 
   -- from one desk to others, each by one call
   abbrev pub Chain : DeskValue B L → List (DeskValue B L) → Type 0

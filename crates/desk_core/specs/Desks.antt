@@ -2,6 +2,7 @@
 use Rattle.std.specs.Prelude.{◌≡◌, ◌≢◌, ◌+◌, ◌-◌, ◌<◌, ◌≤◌, ℕ, List, ◌++◌, Option, Some, None, IsSome, true, map, max, length, replicate, get_or, slice_get}
 use Rattle.std.specs.List.{sum_by}
 use Rattle.claim_core.specs.Seats.{SessionSeatValue}
+use Rattle.desk_core.specs.Concluding.{Concludes}
 use Rattle.desk_core.specs.Connections.{ConnectionValue}
 use Rattle.desk_core.specs.declared.progress.Progress.{Progress}
 use Rattle.desk_core.specs.declared.place.NotAdmitted.{NotAdmitted}
@@ -64,7 +65,7 @@ SitsAt places at seated = slice_get places at ≡ Some (Some seated)
 
 -- These effects were done at that place. The seat got the commands among them, which are of its own session. Its client was sent the
 -- frames among them, beside outputs of that session. They are what it has next of what its bytes ask for. Its session might have what
--- the others left. It is stopped only if the seat has found that the ring takes nothing more. The turn answers so.
+-- the others left. Its conversation ends by its commands, or by an ERROR that its client is sent. It is stopped only if the seat has found that the ring takes nothing more. The turn answers so.
 pub record Turns {B L : Type 0} (sent : L → Option (List (List ℕ))) (received : L → Option (List ℕ)) (old new : DeskValue B L) (at : ℕ) (turned : Turned) : Type 0 where
   pub was : Seated B L
   pub is : Seated B L
@@ -77,6 +78,7 @@ pub record Turns {B L : Type 0} (sent : L → Option (List (List ℕ))) (receive
   pub served : Served sent (told_of effects) was.slot was.link is.slot is.link
   pub heeds : Heeds received was.slot was.link is.slot is.link effects
   pub room : is.slot.connection.footprint.room + counted_in old.places ≡ old.limit + was.slot.connection.footprint.counted
+  pub concludes : Concludes sent was.slot.connection was.link is.slot.connection is.link (commands_of effects)
   pub evicted : IsEvicted is.slot.connection.footprint.cut → IsEvicted was.slot.connection.footprint.cut
   pub halts : (HasHalted was.slot.connection.stage → FindsEnd old.seat) → HasHalted is.slot.connection.stage → FindsEnd new.seat
   pub answers : Answers received turned old.seat was.link is.slot new.seat is.link

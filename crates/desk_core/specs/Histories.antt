@@ -11,7 +11,8 @@ use Rattle.session_core.specs.declared.act.Act.TheVariants.{Do}
 use Rattle.session_core.specs.Sessions.{Hearing, Hears, IsOver, fresh}
 use Rattle.desk_core.specs.Connections.{ConnectionValue}
 use Rattle.desk_core.specs.Progress.{IsDone, IsFinished, IsNext, asked}
-use Rattle.desk_core.specs.Stages.{Executes, IsEnding}
+use Rattle.desk_core.specs.Concluding.{follow}
+use Rattle.desk_core.specs.Stages.{CanTell, Executes, IsEnding}
 use Rattle.desk_core.specs.Tasks.{all_of}
 use Rattle.desk_core.specs.declared.progress.Progress.{Progress}
 use Rattle.desk_core.specs.declared.progress.Progress.TheVariants.{New}
@@ -125,9 +126,10 @@ pub record Restaged (old new : ConnectionValue) : Type 0 where
   pub stood : StaysOrEnds old.progress new.progress
   pub ended : IsLast old → (IsEnding old.stage → IsDone old.progress) → IsEnding new.stage → IsDone new.progress
 
--- the same, and it is not stopped if it was not before
+-- the same, and it is not stopped if it was not before, nor may its client be told what it might not before
 pub record Steady (old new : ConnectionValue) : Type 0 where
   pub restaged : Restaged old new
+  pub tells : CanTell new.stage → CanTell old.stage
   pub halts : HasHalted new.stage → HasHalted old.stage
 
 -- A slot goes on so, with the bytes that its link says it received, and these effects.
@@ -136,10 +138,12 @@ pub record Heeds {B L : Type 0} (received : L → Option (List ℕ)) (was : Slot
   pub read : received to ≡ option_map (λ bytes. bytes ++ got) (received from)
   pub lives : (bytes : List ℕ) (before : List Effect) → LivesAt bytes before was → LivesAt (bytes ++ got) (before ++ effects) is
 
--- it goes on so with no effect, what is counted of it stays, and it is not stopped if it was not before
+-- It goes on so with no effect, and what is counted of it stays. It is not stopped if it was not before, nor may its client be told what it
+-- might not before.
 pub record Idles {B L : Type 0} (received : L → Option (List ℕ)) (was : Slot B) (from : L) (is : Slot B) (to : L) : Type 0 where
   pub heeds : Heeds received was from is to []
   pub footprint : is.connection.footprint ≡ was.connection.footprint
+  pub tells : CanTell is.connection.stage → CanTell was.connection.stage
   pub halts : HasHalted is.connection.stage → HasHalted was.connection.stage
 
 -- it goes on so from where this is undone, and this is counted beside what was appended, with these effects
@@ -153,6 +157,8 @@ pub record DoesUndone (undone : Undone) (counted : List Op) (old : ConnectionVal
   pub effects : List Effect
   pub added : is.own ≡ was.own ++ commands_of effects
   pub none_told : told_of effects ≡ []
+  pub follows : new.progress ≡ follow old.progress (commands_of effects)
+  pub tells : CanTell new.stage → CanTell old.stage
   pub keeps : KeepsRoom old new
   pub halts : HasHalted new.stage → HasHalted old.stage ⊎ FindsEnd is
   pub lives : LivesOn undone counted old new waiting effects

@@ -1,6 +1,7 @@
 pub mod Answers
 pub mod Boxes
 pub mod Chains
+pub mod Concluding
 pub mod Connections
 pub mod Continues
 pub mod Conversations

@@ -1,5 +1,6 @@
 -- What is done at a place of a desk.
 use Rattle.std.specs.Prelude.{◌≡◌, ◌≤◌, ◌+◌, ◌++◌, ℕ, List, Bool, true, false, Option, Some, None, is_some}
+use Rattle.desk_core.specs.Concluding.{Concludes}
 use Rattle.desk_core.specs.Connections.{ConnectionValue}
 use Rattle.desk_core.specs.declared.footprint.Cut.{Cut}
 use Rattle.desk_core.specs.declared.footprint.Cut.TheVariants as cuts
@@ -36,6 +37,7 @@ pub record ServedAt {B L : Type 0} (sent : L → Option (List (List ℕ))) (rece
   pub served : Served sent (told_of effects) was.slot was.link is.slot is.link
   pub heeds : Heeds received was.slot was.link is.slot is.link effects
   pub has_room : is.slot.connection.footprint.room ≡ room
+  pub concludes : Concludes sent was.slot.connection was.link is.slot.connection is.link (commands_of effects)
   pub evicted : IsEvicted is.slot.connection.footprint.cut → IsEvicted was.slot.connection.footprint.cut
   pub halts : (HasHalted was.slot.connection.stage → FindsEnd before) → HasHalted is.slot.connection.stage → FindsEnd after
   pub answers : Answers received turned before was.link is.slot after is.link

@@ -13,6 +13,15 @@ Executes (Closing ended) = ⊥
 Executes (Parting ended) = ⊥
 Executes (Over ended) = ⊥
 
+-- its client may be told an ERROR: its link is not over, and it is not to be closed
+abbrev pub CanTell : Stage → Type 0
+CanTell Running = Unit {0}
+CanTell GivingUp = Unit {0}
+CanTell Leaving = ⊥
+CanTell (Closing ended) = ⊥
+CanTell (Parting ended) = ⊥
+CanTell (Over ended) = ⊥
+
 -- it ends so by itself, and not because the broker takes nothing more
 abbrev pub IsOwnEnd : Ended → Type 0
 IsOwnEnd Bye = Unit {0}

@@ -7,6 +7,7 @@ use Rattle.claim_core.specs.declared.limits.TheConstants.{WINDOW}
 use Rattle.command_core.specs.Commands.{CommandValue}
 use Rattle.command_core.specs.declared.command.Op.{Op}
 use Rattle.session_core.specs.declared.act.Act.TheVariants.{Direct}
+use Rattle.desk_core.specs.Concluding.{Concludes}
 use Rattle.desk_core.specs.Connections.{ConnectionValue, with_appended}
 use Rattle.desk_core.specs.Progress.{IsNext, is_last, role_of}
 use Rattle.desk_core.specs.Stages.{Executes}
@@ -48,7 +49,8 @@ CarriesOut undone counted was old is new = Executes was.connection.stage → Doe
 
 -- These effects were done at a slot, of what its client's bytes ask for next. Its seat got the commands among them, and nothing
 -- else, which go on with its own conversation. Its link was sent the frames among them, beside its own session's outputs. What it may have
--- stays. It is stopped only if its seat has found that the ring takes nothing more.
+-- stays. Its conversation ends by its commands, or by an ERROR that its client is sent. It is stopped only if its seat has found that the
+-- ring takes nothing more.
 pub record GoesOn {B L : Type 0} (sent : L → Option (List (List ℕ))) (received : L → Option (List ℕ)) (was : Slot B) (old : SessionSeatValue) (from : L) (is : Slot B) (new : SessionSeatValue) (to : L) : Type 0 where
   pub effects : List Effect
   pub added : new.own ≡ old.own ++ commands_of effects
@@ -56,6 +58,7 @@ pub record GoesOn {B L : Type 0} (sent : L → Option (List (List ℕ))) (receiv
   pub served : Served sent (told_of effects) was from is to
   pub heeds : Heeds received was from is to effects
   pub keeps : KeepsRoom was.connection is.connection
+  pub concludes : Concludes sent was.connection from is.connection to (commands_of effects)
   pub halts : (HasHalted was.connection.stage → FindsEnd old) → HasHalted is.connection.stage → FindsEnd new
 
 -- what became of a frame that the client's bytes ask for
@@ -64,5 +67,6 @@ pub record TellsIt {B L : Type 0} (sent : L → Option (List (List ℕ))) (frame
   pub none_said : commands_of effects ≡ []
   pub served : Served sent (told_of effects) was from is to
   pub keeps : KeepsRoom was.connection is.connection
+  pub concludes : Executes was.connection.stage → Concludes sent was.connection from is.connection to []
   pub halts : Executes was.connection.stage → HasHalted is.connection.stage → HasHalted was.connection.stage
   pub lives : Executes was.connection.stage → LivesOn (Taken (Direct frame)) [] was.connection is.connection is.waiting effects

@@ -32,6 +32,7 @@ impl<B: Bell> Slot<B> {
     ghost use Rattle.desk_core.specs.Continues.{Continues};
     ghost use Rattle.desk_core.specs.Conversations.{StaysOrEnds};
     ghost use Rattle.desk_core.specs.Halting.{HasHalted, IsFinal};
+    ghost use Rattle.desk_core.specs.Stages.{CanTell};
     ghost use Rattle.desk_core.specs.Refusals.{WaitsIfFull};
     ghost use Rattle.desk_core.specs.Steps.{CarriesOut, GoesOn, IsUnsaid, MayAppend, TakesStep, TellsIt};
     ghost use Rattle.desk_core.specs.Histories.{LivesOn};
@@ -175,6 +176,7 @@ impl<B: Bell> Slot<B> {
         ensures same { IsUnsaid self.old.connection self.new.connection }
         ensures stays { (self.new.outbox ≡ self.old.outbox) × (self.new.kept ≡ self.old.kept) }
         ensures waits { WaitsIfFull entry refused self.new.waiting result }
+        ensures tells { CanTell self.new.connection.stage → CanTell self.old.connection.stage }
         ensures halts { HasHalted self.new.connection.stage → HasHalted self.old.connection.stage ⊎ IsFinal refused }
         ensures lives { LivesOn (Waits entry.command) (entry.command.op ∷ []) self.old.connection self.new.connection self.new.waiting [] }
     {

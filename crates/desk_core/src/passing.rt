@@ -1,6 +1,7 @@
 //! How a connection's outputs are sent.
 
-ghost use Rattle.std.specs.Prelude.{◌≡◌, ◌≢◌, true};
+ghost use Rattle.std.specs.Prelude.{◌≡◌, ◌≢◌, ◌⊎◌, true};
+ghost use Rattle.desk_core.specs.Concluding.{IsError};
 ghost use Rattle.desk_core.specs.Conversations.{StaysOrEnds};
 ghost use Rattle.desk_core.specs.Histories.{Steady};
 ghost use Rattle.desk_core.specs.Relays.{ReadsMark};
@@ -25,6 +26,7 @@ const RELAYED_BYTES: usize = 131_072;
 
 impl<B: Bell> Slot<B> {
     ghost use Rattle.std.specs.Prelude.{[]};
+    ghost use Rattle.desk_core.specs.Concluding.{Concludes};
     ghost use Rattle.desk_core.specs.Steps.{GoesOn};
     ghost use Rattle.desk_core.specs.Histories.{Idles};
     ghost use Rattle.desk_core.specs.Slots.{Served};
@@ -73,6 +75,7 @@ impl<B: Bell> Slot<B> {
         ensures reads { ReadsMark seat.old seat.new }
         ensures served { Served L.sent [] self.old link.old self.new link.new }
         ensures lives { Idles L.received self.old link.old self.new link.new }
+        ensures concludes { Concludes L.sent self.old.connection link.old self.new.connection link.new [] }
         ensures waiting { self.new.waiting ≡ self.old.waiting }
         ensures unread { L.received link.new ≡ L.received link.old }
     {
@@ -106,12 +109,15 @@ fn report<B: Bell, M: Wakers<B>>(wakers: &M, relayed: Relayed) {
     }
 }
 
-// What comes of an output that was handled. A connection is given up if its outbox is cut, or has another's output.
+// What comes of an output that was handled. A connection is given up if its outbox is cut, or has another's output. Only an ERROR that was
+// sent ends its conversation.
 fn note(connection: &mut Connection, relayed: Relayed) -> Option<usize>
     requires { connection.old.stage ≡ Stage.Running }
     ensures ends { StaysOrEnds connection.old.progress connection.new.progress }
     ensures rest { Steady connection.old connection.new }
+    ensures error { (connection.new.progress ≡ connection.old.progress) ⊎ IsError relayed }
     ensures gives_up { relayed ≡ Relayed.Foreign → connection.new.stage ≢ Stage.Running }
+    ensures cut { relayed ≡ Relayed.Cut → connection.new.stage ≢ Stage.Running }
 {
     match relayed {
         Relayed::Sent {

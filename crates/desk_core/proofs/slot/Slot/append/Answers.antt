@@ -16,7 +16,7 @@ pub returns-in-Err-clause-lives : goal.returns-in-Err-clause-lives
 returns-in-Err-clause-lives g c = λ executes.
     let back = c.in-Err.ensures.back in
     refused_so c.window-window.result c.in-Err.refused c.args.self.now.connection c.speak.new.connection c.handle_refusal.new.self.connection c.handle_refusal.new.self.waiting c.args.seat.now c.speak.new.seat c.args.entry.command c.in-Err.entry.command
-    back.1 back.2 (ap (λ (e : EntryValue _). e.command) back.0) c.handle_refusal.ensures.same.1 c.handle_refusal.ensures.halts c.handle_refusal.ensures.lives
+    back.1 back.2 (ap (λ (e : EntryValue _). e.command) back.0) c.handle_refusal.ensures.same c.handle_refusal.ensures.tells c.handle_refusal.ensures.halts c.handle_refusal.ensures.lives
 
 pub returns-in-Some-clause-takes : goal.returns-in-Some-clause-takes
 returns-in-Some-clause-takes g c = record {

@@ -1,6 +1,8 @@
 use Rattle.std.proofs.Common.{◌≡◌, ◌∙◌, None, Some, refl, sym, ap}
 use Rattle.desk_core.specs.Connections.{ConnectionValue}
 use Rattle.desk_core.specs.Progress.{number_in}
+use Rattle.desk_core.specs.Relays.{passage}
+use Rattle.desk_core.proofs.Concluding.{concludes_quietly, concludes_relaying}
 use Rattle.desk_core.proofs.Going.{heeds_quietly}
 use Rattle.desk_core.proofs.Living.{loses, same_stage, waits_still}
 use Rattle.desk_core.proofs.Messages.{keeps_own, quiet, refused_on, relayed_on, same_number, slot_relayed, still}
@@ -33,6 +35,27 @@ returns-in-Err-Gone-clause-served g c =
     slot_relayed g.L.Outgoing.sent c.args.self.now _ c.args.link.now c.relay.new.link c.in-Some-outbox.taker c.relay.new.taker c.relay.new.kept
     c.in-Some-outbox.is refl refl (ap (λ (x : ConnectionValue). number_in x.progress) c.lose.ensures)
     (refused_on c.in-Some.session _ _ _ c.relay.new.seat.seen c.in-Err-Gone.ensures.refused)
+
+pub returns-then-not-runs-clause-concludes : goal.returns-then-not-runs-clause-concludes
+returns-then-not-runs-clause-concludes g c = concludes_quietly g.L.Outgoing.sent _ _ _ _ refl refl (λ t. t)
+
+pub returns-in_default-clause-concludes : goal.returns-in_default-clause-concludes
+returns-in_default-clause-concludes g c = concludes_quietly g.L.Outgoing.sent _ _ _ _ refl refl (λ t. t)
+
+pub returns-in_default-outbox-clause-concludes : goal.returns-in_default-outbox-clause-concludes
+returns-in_default-outbox-clause-concludes g c = concludes_quietly g.L.Outgoing.sent _ _ _ _ refl refl (λ t. t)
+
+pub returns-in-Ok-clause-concludes : goal.returns-in-Ok-clause-concludes
+returns-in-Ok-clause-concludes g c =
+    concludes_relaying g.L.Outgoing.sent c.args.self.now.connection c.note.new.connection c.args.link.now c.relay.new.link c.in-Some.session (passage c.in-Some-outbox.taker c.args.self.now.kept (g.L.Outgoing.sent c.args.link.now))
+    (passage c.relay.new.taker c.relay.new.kept (g.L.Outgoing.sent c.relay.new.link)) c.relay.new.seat.seen c.in-Ok.relayed (sym c.stage.ensures ∙ c.runs.ensures c.if-not-runs.false) refl refl c.in-Ok.ensures.relays c.note.ensures.error c.note.ensures.rest.tells
+
+pub returns-in-Err-Memory-clause-concludes : goal.returns-in-Err-Memory-clause-concludes
+returns-in-Err-Memory-clause-concludes g c = concludes_quietly g.L.Outgoing.sent _ _ _ _ refl c.in-Err-Memory.ensures.refused.untold (λ t. t)
+
+pub returns-in-Err-Gone-clause-concludes : goal.returns-in-Err-Gone-clause-concludes
+returns-in-Err-Gone-clause-concludes g c =
+    concludes_quietly g.L.Outgoing.sent _ _ _ _ (ap (λ (x : ConnectionValue). x.progress) c.lose.ensures) c.in-Err-Gone.ensures.refused.untold (loses _ _ c.lose.ensures).tells
 
 pub returns-then-not-runs-clause-lives : goal.returns-then-not-runs-clause-lives
 returns-then-not-runs-clause-lives g c = heeds_quietly g.L.Outgoing.received _ _ _ _ refl (same_stage _ _ refl) refl

@@ -7,6 +7,7 @@ use Rattle.desk_core.specs.Progress.{IsNext}
 use Rattle.desk_core.specs.declared.progress.Progress.{Progress}
 use Rattle.desk_core.specs.Footprints.{charged, total}
 use Rattle.desk_core.specs.Halting.{HasHalted}
+use Rattle.desk_core.specs.Stages.{CanTell}
 use Rattle.desk_core.specs.Histories.{Taken}
 use Rattle.desk_core.proofs.Going.{again_so, asked_so, charged_so, cut_so, keeps_same, nothing_done, passed_so}
 use Rattle.desk_core.proofs.Living.{same_stage}
@@ -14,7 +15,7 @@ use Rattle.desk_core.proofs.slot.Slot.request.Goals as goal
 
 pub returns-in_default-clause-lives : goal.returns-in_default-clause-lives
 returns-in_default-clause-lives g c = λ executes.
-    passed_so c.args.self.now.connection c.args.self.now.connection c.args.self.now.waiting c.args.seat.now (Do c.args.op c.args.receipt) executes c.in_default.ensures (same_stage _ _ refl) c.requires.taken.1
+    passed_so c.args.self.now.connection c.args.self.now.connection c.args.self.now.waiting c.args.seat.now (Do c.args.op c.args.receipt) executes c.in_default.ensures (same_stage _ _ refl) refl c.requires.taken.1
 
 pub returns-then-not-affords-clause-lives : goal.returns-then-not-affords-clause-lives
 returns-then-not-affords-clause-lives g c = λ executes.
@@ -36,6 +37,8 @@ returns-in-Err-clause-lives g c = λ executes.
     let command : c.in-Err.command ≡ c.in-Some.command = c.in-Err.ensures.back.0 in
     nothing_done (Taken (Do c.args.op c.args.receipt)) c.args.self.now.connection c.put_back.new.self c.args.self.now.waiting [] c.args.seat.now c.args.seat.now refl
     (keeps_same _ _ (ap (λ (x : ConnectionValue). x.footprint) c.put_back.ensures ∙ ap (λ (x : ConnectionValue). x.footprint) c.in-Err.ensures.back.1))
+    (ap (λ (x : ConnectionValue). x.progress) c.put_back.ensures ∙ ap (λ (x : ConnectionValue). x.progress) c.in-Err.ensures.back.1)
+    (λ t. subst CanTell (ap (λ (x : ConnectionValue). x.stage) c.put_back.ensures ∙ ap (λ (x : ConnectionValue). x.stage) c.in-Err.ensures.back.1) t)
     (λ h. inl (subst HasHalted (ap (λ (x : ConnectionValue). x.stage) c.put_back.ensures ∙ ap (λ (x : ConnectionValue). x.stage) c.in-Err.ensures.back.1) h))
     (again_so c.args.self.now.connection c.put_back.new.self c.args.self.now.waiting (Taken (Do c.args.op c.args.receipt)) act executes c.requires.taken.0
     (ap (λ (x : CommandValue). Do x.op x.receipt ∷ []) (sym c.in-Some.ensures.0 ∙ sym command ∙ c.into_parts-op.ensures.value))
