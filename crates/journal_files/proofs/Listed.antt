@@ -1,7 +1,7 @@
 -- What is added to an object, token by token.
 use Rattle.std.proofs.Common.{◌≡◌, ◌∙◌, ◌++◌, ◌∷◌, [], List, ℕ, ap, append_assoc}
 use Rattle.json.specs.Token.{Token, begin_array, end_array, key}
-use Rattle.journal_files.specs.Objects.{list_member}
+use Rattle.json_line.specs.Objects.{list_member}
 
 -- a list: its name and its beginning, its items, and its end
 pub list_added : (old one two three items : List Token) (name : List ℕ) → one ≡ old ++ (key name ∷ begin_array ∷ []) → two ≡ one ++ items → three ≡ two ++ (end_array ∷ []) → three ≡ old ++ list_member name items

@@ -10,7 +10,7 @@ use Rattle.broker_state.specs.States.{State, bytes}
 use Rattle.broker_state.specs.Waiting.{line_at}
 use Rattle.recover_core.specs.Standing.{Stands}
 use Rattle.journal_files.specs.Held.{gone_from, held_in}
-use Rattle.journal_files.specs.Objects.{WritesLine, list_member, number_member, object_of, text_member}
+use Rattle.json_line.specs.Objects.{WritesLine, list_member, number_member, object_of, text_member}
 
 -- so many messages, and so many bytes
 abbrev pub amount_members : ℕ → ℕ → List Token

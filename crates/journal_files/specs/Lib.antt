@@ -3,6 +3,5 @@ pub mod JournalFiles
 pub mod Copies
 pub mod Sessions
 pub mod HeldObjects
-pub mod Objects
 pub mod SeenObjects
 pub mod SessionObjects

@@ -3,7 +3,7 @@ use Rattle.std.specs.Prelude.{◌++◌, List, ℕ, Option, codes}
 use Rattle.json.specs.Token.{Token}
 use Rattle.recover_core.specs.declared.seen.Seen.{Seen}
 use Rattle.recover_core.specs.Seen.{IsSeen}
-use Rattle.journal_files.specs.Objects.{WritesLine, number_member, object_of}
+use Rattle.json_line.specs.Objects.{WritesLine, number_member, object_of}
 
 -- its version, its live area, and how much of that is used
 abbrev pub area_members : Seen → List Token

@@ -6,7 +6,7 @@ use Rattle.broker_state.specs.declared.subscription.Subscription.{Subscription}
 use Rattle.broker_state.specs.Names.{Name}
 use Rattle.broker_state.specs.States.{State}
 use Rattle.recover_core.specs.Standing.{Stands}
-use Rattle.journal_files.specs.Objects.{WritesLine, list_member, number_member, object_of, option_member, text_member}
+use Rattle.json_line.specs.Objects.{WritesLine, list_member, number_member, object_of, option_member, text_member}
 use Rattle.journal_files.specs.Sessions.{mode_text}
 
 -- a session by its number, with the name of its client

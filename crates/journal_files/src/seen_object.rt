@@ -2,14 +2,15 @@
 
 ghost use Rattle.std.specs.Prelude.{◌≡◌, ◌≢◌, IfErr, IfOk, OnOk};
 ghost use Rattle.area_core.specs.Reading.{Quiet};
-ghost use Rattle.journal_files.specs.Objects.{Adds, line_of};
+ghost use Rattle.json_line.specs.Objects.{Adds, line_of};
 ghost use Rattle.journal_files.specs.SeenObjects.{ShowsObject, ShowsObjectOf, area_members, seen_object, state_members};
 
 use crate::journal_files::ShowFault;
-use crate::objects::{line_of, put_number, write_line};
+use crate::objects::write_line;
 use area_core::ReadFault;
 use disk_core::Disk;
 use json::Writer;
+use json_line::{line_of, put_number};
 use recover_core::{OpenFault, Seen, read};
 use std::alloc::{AllocError, Global};
 use std::io::Write;

@@ -3,11 +3,11 @@
 ghost use Rattle.std.specs.Prelude.{◌≡◌, ◌≢◌, ◌++◌, IfErr, IfOk, OnOk, codes, map};
 ghost use Rattle.std.specs.List.{flat_map};
 ghost use Rattle.area_core.specs.Reading.{Quiet};
-ghost use Rattle.journal_files.specs.Objects.{Adds, WritesLine, line_of, list_member, object_of, option_member};
+ghost use Rattle.json_line.specs.Objects.{Adds, WritesLine, line_of, list_member, object_of, option_member};
 ghost use Rattle.journal_files.specs.SessionObjects.{ShowsSessionsObject, ShowsSessionsObjectIn, durable_name, session_object, sessions_object, standing_members, subscription_object, target_members};
 
 use crate::journal_files::ShowFault;
-use crate::objects::{begin_list, line_of, put_number, put_option, put_text, write_line};
+use crate::objects::write_line;
 use crate::sessions::text_of_mode;
 use crate::steady::steady_broker;
 use area_core::ReadFault;
@@ -15,6 +15,7 @@ use broker_core::Broker;
 use broker_state::{DurableName, GivenName, Subscription};
 use disk_core::Disk;
 use json::Writer;
+use json_line::{begin_list, line_of, put_number, put_option, put_text};
 use recover_core::OpenFault;
 use std::alloc::{AllocError, Global};
 use std::collections::BTreeMap;

@@ -1,5 +1,5 @@
 use Rattle.std.proofs.Common.{◌∙◌, codes, subst}
-use Rattle.journal_files.specs.Objects.{Adds, text_member}
+use Rattle.json_line.specs.Objects.{Adds, text_member}
 use Rattle.journal_files.proofs.held_object.put_own_name.Goals as goal
 
 pub returns : goal.returns

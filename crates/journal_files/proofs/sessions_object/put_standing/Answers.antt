@@ -1,5 +1,5 @@
 use Rattle.std.proofs.Common.{◌∙◌, ◌++◌, ap, codes}
-use Rattle.journal_files.specs.Objects.{number_member, text_member}
+use Rattle.json_line.specs.Objects.{number_member, text_member}
 use Rattle.journal_files.proofs.Gathered.{on_ok}
 use Rattle.journal_files.proofs.Listed.{three_added}
 use Rattle.journal_files.proofs.sessions_object.put_standing.Goals as goal
