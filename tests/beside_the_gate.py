@@ -70,11 +70,13 @@ SCRIPTS = [
     # bin/test runs them whole by itself.
     Script("tests/scripts.py", "--everywhere"),
     Script("tests/program/statuses.py", light=""),
+    Script("tests/program/version.py", light=""),
     Script("tests/program/ping.py", light=""),
     Script("tests/program/client.py", light=""),
     Script("tests/program/closed_streams.py", light=""),
     Script("tests/program/ending.py", light="--few"),
     Script("tests/program/telling.py", light=""),
+    Script("tests/program/log_objects.py", light=""),
     Script("tests/program/kinds.py", light="", waits=True),
     Script("tests/program/alerts.py", light=""),
     Script("tests/program/metrics.py", light=""),

@@ -1,12 +1,14 @@
 #!/usr/bin/env python3
-"""Looks whether the pattern that docs/RUNNING.md gives operators finds each line of the log that needs them, and no other. Needs Python 3 alone.
+"""Looks whether the patterns that docs/RUNNING.md gives operators find each line of the log that needs them, in words and as an object, and no other. Needs
+Python 3 alone.
 
     python3 tests/program/alerts.py
 
 Which lines need somebody is said here, by what docs/RUNNING.md and docs/CLI.md say of each. The program's sources are read for one thing only: a text
-that this table doesn't have fails, so that a new one is classed. No program is run.
+or a kind that this table doesn't have fails, so that a new one is classed. No program is run.
 """
 
+import itertools
 import pathlib
 import re
 import sys
@@ -50,17 +52,45 @@ CALM = (
 # They come before a server serves, and say how far its start is.
 STARTING = ("opening the journal, 3 s so far", "made the journal /var/lib/stompd/rooms.journal")
 
+# The objects: the kind, the name behind `why`, or the code, of those that have one, and whether they need somebody.
+URGENT_OBJECTS = (("fault", None), ("reopening", None), ("too_full", None), ("nearly_full", None), ("journal_nearly_full", None), ("compacted_slowly", None),
+                  ("not_accepted", "no_descriptors_or_memory"), ("refused", "full"), ("gave_up", "takes_nothing"), ("gave_up", "most_memory"), ("gave_up", "long_names"),
+                  ("gave_up", "outbox_full"), ("errors", 12), ("errors", 18))
+CALM_OBJECTS = (("opening", None), ("made", None), ("started", None), ("journal_small", None), ("compacted", None), ("doing", None), ("ending", None),
+                ("refused", "malformed"), ("refused", "other_protocol"), ("refused", "other_origin"), ("refused", "other_method"), ("refused", "no_websocket"),
+                ("refused", "other_version"), ("refused", "large_head"), ("gave_up", "silent"), ("gave_up", "no_session"), ("left_out", "unread"),
+                ("errors", 1), ("errors", 5), ("errors", 8), ("errors", 2), ("errors", 10))
+# Where the program has their names: the functions that answer them.
+NAMERS = (("event_log/src/object.rt", "kind_of"), ("event_log/src/notice_object.rt", "kind_of"), ("event_log/src/object.rt", "deed"),
+          ("event_log/src/object.rt", "reason"))
+
 # Where the program has these texts: by the names of the files below crates/.
-SOURCES = ("event_log/src/event.rt", "event_log/src/fault.rt", "event_log/src/kind.rt", "event_log/src/device.rt", "area_core/src/faults.rt",
+SOURCES = ("event_log/src/event.rt", "event_log/src/notice.rt", "event_log/src/fault.rt", "event_log/src/kind.rt", "event_log/src/device.rt", "area_core/src/faults.rt",
            "recover_core/src/faults.rt", "flush_core/src/faults.rt", "stompd/src/reporting.rt", "stompd/src/serving.rt")
 
 
-def pattern():
+def patterns():
+    """That of words, and that of objects."""
     text = (TOP / "docs" / "RUNNING.md").read_text(encoding="utf-8")
     found = re.findall(r"`journalctl -u stompd -g '([^']+)'`", text)
-    if len(found) != 1:
-        sys.exit(f"alerts: docs/RUNNING.md gives {len(found)} patterns")
-    return re.compile(found[0])
+    if len(found) != 2:
+        sys.exit(f"alerts: docs/RUNNING.md gives {len(found)} patterns, not one of words and one of objects")
+    return map(re.compile, found)
+
+
+def objects():
+    """Each object of docs/CLI.md as far as it tells whether it needs somebody."""
+    for (kind, why), needs in [*((it, True) for it in URGENT_OBJECTS), *((it, False) for it in CALM_OBJECTS)]:
+        of_it = {"errors": f',"code":{why}'}.get(kind, f',"why":"{why}"') if why else ""
+        yield f'{{"time":"{MOMENT.strip()}","kind":"{kind}"{of_it},"count":12}}', needs
+
+
+def names_of_the_program():
+    """The names that the program has for kinds, and for what stands behind `why`."""
+    for path, function in NAMERS:
+        source = (TOP / "crates" / path).read_text(encoding="utf-8")
+        body = re.search(rf"fn {function}\(.*?\n    ?\}}\n", source, re.S)[0]
+        yield from ((path, it) for it in re.findall(r'"([a-z_]+)"', body))
 
 
 def lines():
@@ -87,17 +117,21 @@ def texts_of_the_program():
 
 
 def main():
-    wanted, faults = pattern(), []
-    all_lines = list(lines())
-    for line, needs in all_lines:
+    (of_words, of_objects), faults = patterns(), []
+    all_lines, all_objects = list(lines()), list(objects())
+    for wanted, (line, needs) in [*((of_words, it) for it in all_lines), *((of_objects, it) for it in all_objects)]:
         if bool(wanted.search(line)) != needs:
             faults.append(f"{'missed' if needs else 'found in vain'}: {line}")
+    known = set(itertools.chain(*URGENT_OBJECTS, *CALM_OBJECTS))
+    names = list(names_of_the_program())
+    faults += [f"no class for a name of crates/{path}: {name}" for path, name in names if name not in known]
+    faults += [f"the program has no name {it}" for it in known - {name for _, name in names} if isinstance(it, str)]
     for name, literal, said in texts_of_the_program():
         if not any(said.search(line) for line, _ in all_lines):
             faults.append(f"no class for a text of crates/{name}: {literal}")
     for fault in faults:
         print(f"alerts: {fault}")
-    print(f"alerts: {len(all_lines)} lines, {len(faults)} faults")
+    print(f"alerts: {len(all_lines)} lines and {len(all_objects)} objects, {len(faults)} faults")
     return 1 if faults else 0
 
 

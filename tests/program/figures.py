@@ -1,24 +1,28 @@
 #!/usr/bin/env python3
-"""Looks at the line in which a server says once a minute how it does: each of its figures against what clients did. Needs Python 3 alone, and waits for
-that minute.
+"""Looks at the line in which a server says once a minute how it does: each of its figures against what clients did, and that it comes each minute to one
+that does nothing, whatever else is logged meanwhile. Needs Python 3 alone, and waits for two minutes.
 
     python3 tests/program/figures.py [PROGRAM]
 """
 
+import json
 import pathlib
 import re
+import socket
 import subprocess
 import sys
 import tempfile
 import threading
+import time
 
 from lib import scenario
 from lib.stomp_client import Client
 
 # Two areas of 32 MiB.
 JOURNAL_BYTES = 67_108_896
-# The line comes within the first minute in which there is something to say, and then the next.
 LONGEST = 130
+# It comes each minute. So many seconds may pass on a busy machine.
+MINUTE, LATE = 60, 4
 LINE = re.compile(
     r"stompd: \S+ doing: (\d+) connections, (\d+) bytes of memory for them, (\d+) commands, (\d+) frames out, (\d+) ERRORs, (\d+) messages held,"
     r" (\d+) bytes held, (\d+) dead letters, (\d+) bytes used, (\d+) commands to repeat\n"
@@ -76,6 +80,50 @@ def figures(program, checks):
             process.wait()
 
 
+def idle(program, checks):
+    """A server over five messages, with no client and one refused request: the log's objects, each with when it came."""
+    with tempfile.TemporaryDirectory(prefix="figures-") as folder:
+        journal, port = pathlib.Path(folder) / "journal", scenario.free_port()
+        subprocess.run([program, "format", "--sparse", journal, str(JOURNAL_BYTES)], check=True)
+        found = []
+        for is_idle in (False, True):
+            words = [program, "serve", journal, str(port), "--json", "--until-eof"]
+            process = subprocess.Popen(words, stdin=subprocess.PIPE, stdout=subprocess.PIPE, stderr=subprocess.PIPE, text=True)
+            try:
+                assert process.stdout.readline() == f"listening {port}\n"
+                began = time.monotonic()
+                if is_idle:
+                    # In the midst of the second minute: what is logged then puts nothing off.
+                    asking = threading.Timer(1.5 * MINUTE, ask_in_vain, [port])
+                    asking.start()
+                    for line in process.stderr:
+                        found.append((time.monotonic() - began, json.loads(line)))
+                        if len([it for _, it in found if it["kind"] == "doing"]) == 2 or time.monotonic() - began > 3 * MINUTE:
+                            break
+                    asking.cancel()
+                else:
+                    sender = Client(port).connect()
+                    for number in range(5):
+                        sender.publish("/queue/work", f"{number}")
+                    sender.disconnect()
+            finally:
+                process.stdin.close()
+                process.kill()
+                process.wait()
+        told = [(when, it) for when, it in found if it["kind"] == "doing"]
+        checks.same("an idle server says twice in two minutes how it does", len(told), 2)
+        for number, (when, it) in enumerate(told, 1):
+            checks.check(f"idle minute {number}: in time", number * MINUTE - 1 < when < number * MINUTE + LATE, when)
+            checks.same(f"idle minute {number}: its figures", (it["connections"], it["messages"], it["errors"], it["dead_letters"]), (0, 5, 0, 0))
+        checks.check("what was logged meanwhile", any(it["kind"] == "refused" for _, it in found), found)
+
+
+def ask_in_vain(port):
+    with socket.create_connection(("127.0.0.1", port), timeout=5) as one:
+        one.sendall(b"GET / HTTP/1.1\r\nHost: a\r\n\r\n")
+        one.recv(4_096)
+
+
 def compare(found, commands, frames, checks):
     connections, memory, counted, published, refused, messages, held, dead, used, to_repeat = found
     checks.same("connections", connections, 2)
@@ -94,7 +142,10 @@ def compare(found, commands, frames, checks):
 def main():
     program = scenario.words_of(__doc__).parse_args().program
     checks = scenario.Checks()
+    resting = threading.Thread(target=idle, args=(program, checks))
+    resting.start()
     figures(program, checks)
+    resting.join()
     return checks.status()
 
 

@@ -3,8 +3,8 @@
 
     python3 tests/program/metrics.py
 
-The `doing: ` line is that of docs/RUNNING.md ("What it logs"), with a number for each letter, and what is held has the form of docs/CLI.md ("Objects"); no
-program is run.
+The `doing: ` line is that of docs/RUNNING.md ("What it logs"), with a number for each letter, its object has the members of docs/CLI.md ("Objects of the
+log"), and what is held has the form of "Objects" there; no program is run.
 """
 
 import json
@@ -32,6 +32,33 @@ def doing():
     return f"stompd: {DONE_AT} {line}", len(re.findall(r"(?<=[ ])[A-Z](?= )", told))
 
 
+def object_of(kind, moment="2026-11-30T12:00:00Z", **members):
+    return json.dumps({"time": moment, "kind": kind, **members})
+
+
+def doing_object():
+    """The object of the table in docs/CLI.md with 1, 2, 3 .. for its members, which stand in the order of the line."""
+    row = re.search(r"^\| `doing` \| ([^|]*) \|", (TOP / "docs" / "CLI.md").read_text(encoding="utf-8"), re.M)[1]
+    return object_of("doing", DONE_AT, **{name: number for number, name in enumerate(re.findall(r"`(\w+)`", row), 1)})
+
+
+def objects(checks, words):
+    """the same of a log of objects: metrics as of the line's words, and each end"""
+    started = object_of("started", version=2, area_bytes=1000, messages=0, clients=9500, memory_bytes=99)
+    checks.same("an object has the metrics of its line", metrics_of(started, doing_object()), words)
+    for name, last in (("a fault", object_of("fault", text='J3 "device" failed')), ("its end", object_of("ending")), ("a kill", KILLED),
+                       ("a full journal", object_of("reopening", seconds=4)), ("a start too full", object_of("too_full"))):
+        told = metrics_of(started, doing_object(), last)
+        checks.same(f"after the object of {name} it is down, and its figures age", (told.get("stompd_up"), told.get("stompd_figures_age_seconds")), (0, AGE))
+        checks.same(f"after the object of {name} and a new start it is up", metrics_of(started, doing_object(), last, started), {"stompd_up": 1})
+    checks.same("one that is opening its journal is not up", metrics_of(started, object_of("ending"), object_of("opening", seconds=3)), {"stompd_up": 0})
+    checks.same("other objects leave it up", metrics_of(started, object_of("gave_up", why="silent", count=3)), {"stompd_up": 1})
+    undated = metrics_of(started, object_of("doing", "", connections=3))
+    checks.same("figures without a moment have no age", undated, {"stompd_up": 1, "stompd_connections": 3})
+    for name, line in (("half an object", started[:-5]), ("a list", "[1]"), ("a number", "7"), ("an object of another program", '{"level":"info"}')):
+        checks.same(f"{name} changes nothing", metrics_of(started, object_of("ending"), line), {"stompd_up": 0})
+
+
 HELD = {
     "messages": 7, "messages_limit": 4096, "bytes": 70, "bytes_limit": 16777216,
     "queues": [{"destination": "/queue/a b", "messages": 4, "bytes": 40}],
@@ -57,6 +84,7 @@ def main():
     checks = scenario.Checks()
     line, count = doing()
     served = metrics_of(STARTED, line)
+    objects(checks, dict(served))
     checks.same("one that serves is up, and all its figures are there", (served.pop("stompd_up", None), served.pop("stompd_figures_age_seconds", None), sorted(served.values())),
                 (1, AGE, list(range(1, count + 1))))
     checks.same("one that has told nothing is up, with no figures", metrics_of(STARTED), {"stompd_up": 1})

@@ -32,7 +32,7 @@ no_script given some (Show file is_json) asked = apart (codes "script") (codes "
 no_script given some (Held file is_json) asked = apart (codes "script") (codes "held") refl refl asked.0
 no_script given some (Sessions file is_json) asked = apart (codes "script") (codes "sessions") refl refl asked.0
 no_script given some (Copy file copy bytes is_sparse) asked = apart (codes "script") (codes "copy") refl refl asked.0
-no_script given some (Serve file port origins threads memory new until_eof) asked = apart (codes "script") (codes "serve") refl refl asked.0
+no_script given some (Serve file port origins threads memory new until_eof is_json) asked = apart (codes "script") (codes "serve") refl refl asked.0
 
 pub no_version : (given : Words) → given.arguments ≢ [] → AskNothingWith (codes "--version") given
 no_version given some Script asked = apart (codes "--version") (codes "script") refl refl asked.0
@@ -44,7 +44,7 @@ no_version given some (Show file is_json) asked = apart (codes "--version") (cod
 no_version given some (Held file is_json) asked = apart (codes "--version") (codes "held") refl refl asked.0
 no_version given some (Sessions file is_json) asked = apart (codes "--version") (codes "sessions") refl refl asked.0
 no_version given some (Copy file copy bytes is_sparse) asked = apart (codes "--version") (codes "copy") refl refl asked.0
-no_version given some (Serve file port origins threads memory new until_eof) asked = apart (codes "--version") (codes "serve") refl refl asked.0
+no_version given some (Serve file port origins threads memory new until_eof is_json) asked = apart (codes "--version") (codes "serve") refl refl asked.0
 
 pub no_ping : (given : Words) → ((address : Address) → AreAddress given.arguments address → ⊥) → AskNothingWith (codes "ping") given
 no_ping given none Script asked = apart (codes "ping") (codes "script") refl refl asked.0
@@ -56,7 +56,7 @@ no_ping given none (Show file is_json) asked = apart (codes "ping") (codes "show
 no_ping given none (Held file is_json) asked = apart (codes "ping") (codes "held") refl refl asked.0
 no_ping given none (Sessions file is_json) asked = apart (codes "ping") (codes "sessions") refl refl asked.0
 no_ping given none (Copy file copy bytes is_sparse) asked = apart (codes "ping") (codes "copy") refl refl asked.0
-no_ping given none (Serve file port origins threads memory new until_eof) asked = apart (codes "ping") (codes "serve") refl refl asked.0
+no_ping given none (Serve file port origins threads memory new until_eof is_json) asked = apart (codes "ping") (codes "serve") refl refl asked.0
 
 pub no_format : (given : Words) → NoSize given.arguments → AskNothingWith (codes "format") given
 no_format given none Script asked = apart (codes "format") (codes "script") refl refl asked.0
@@ -68,7 +68,7 @@ no_format given none (Show file is_json) asked = apart (codes "format") (codes "
 no_format given none (Held file is_json) asked = apart (codes "format") (codes "held") refl refl asked.0
 no_format given none (Sessions file is_json) asked = apart (codes "format") (codes "sessions") refl refl asked.0
 no_format given none (Copy file copy bytes is_sparse) asked = apart (codes "format") (codes "copy") refl refl asked.0
-no_format given none (Serve file port origins threads memory new until_eof) asked = apart (codes "format") (codes "serve") refl refl asked.0
+no_format given none (Serve file port origins threads memory new until_eof is_json) asked = apart (codes "format") (codes "serve") refl refl asked.0
 
 not_one : (arguments : List (List ℕ)) (file : List ℕ) → length arguments ≢ 1 → arguments ≡ file ∷ [] → ⊥
 not_one arguments file other is = other (ap length is)
@@ -83,7 +83,7 @@ no_show given other (Show file is_json) asked = not_one given.arguments file.now
 no_show given other (Held file is_json) asked = apart (codes "show") (codes "held") refl refl asked.0
 no_show given other (Sessions file is_json) asked = apart (codes "show") (codes "sessions") refl refl asked.0
 no_show given other (Copy file copy bytes is_sparse) asked = apart (codes "show") (codes "copy") refl refl asked.0
-no_show given other (Serve file port origins threads memory new until_eof) asked = apart (codes "show") (codes "serve") refl refl asked.0
+no_show given other (Serve file port origins threads memory new until_eof is_json) asked = apart (codes "show") (codes "serve") refl refl asked.0
 
 pub no_held : (given : Words) → length given.arguments ≢ 1 → AskNothingWith (codes "held") given
 no_held given other Script asked = apart (codes "held") (codes "script") refl refl asked.0
@@ -95,7 +95,7 @@ no_held given other (Show file is_json) asked = apart (codes "held") (codes "sho
 no_held given other (Held file is_json) asked = not_one given.arguments file.now other asked.1
 no_held given other (Sessions file is_json) asked = apart (codes "held") (codes "sessions") refl refl asked.0
 no_held given other (Copy file copy bytes is_sparse) asked = apart (codes "held") (codes "copy") refl refl asked.0
-no_held given other (Serve file port origins threads memory new until_eof) asked = apart (codes "held") (codes "serve") refl refl asked.0
+no_held given other (Serve file port origins threads memory new until_eof is_json) asked = apart (codes "held") (codes "serve") refl refl asked.0
 
 pub no_sessions : (given : Words) → length given.arguments ≢ 1 → AskNothingWith (codes "sessions") given
 no_sessions given other Script asked = apart (codes "sessions") (codes "script") refl refl asked.0
@@ -107,7 +107,7 @@ no_sessions given other (Show file is_json) asked = apart (codes "sessions") (co
 no_sessions given other (Held file is_json) asked = apart (codes "sessions") (codes "held") refl refl asked.0
 no_sessions given other (Sessions file is_json) asked = not_one given.arguments file.now other asked.1
 no_sessions given other (Copy file copy bytes is_sparse) asked = apart (codes "sessions") (codes "copy") refl refl asked.0
-no_sessions given other (Serve file port origins threads memory new until_eof) asked = apart (codes "sessions") (codes "serve") refl refl asked.0
+no_sessions given other (Serve file port origins threads memory new until_eof is_json) asked = apart (codes "sessions") (codes "serve") refl refl asked.0
 
 pub no_copy : (given : Words) → NoSizeOfCopy given.arguments → AskNothingWith (codes "copy") given
 no_copy given none Script asked = apart (codes "copy") (codes "script") refl refl asked.0
@@ -119,7 +119,7 @@ no_copy given none (Show file is_json) asked = apart (codes "copy") (codes "show
 no_copy given none (Held file is_json) asked = apart (codes "copy") (codes "held") refl refl asked.0
 no_copy given none (Sessions file is_json) asked = apart (codes "copy") (codes "sessions") refl refl asked.0
 no_copy given none (Copy file copy bytes is_sparse) asked = none file.now copy.now bytes asked.1 asked.2
-no_copy given none (Serve file port origins threads memory new until_eof) asked = apart (codes "copy") (codes "serve") refl refl asked.0
+no_copy given none (Serve file port origins threads memory new until_eof is_json) asked = apart (codes "copy") (codes "serve") refl refl asked.0
 
 pub no_serve : (given : Words) → ((file : List ℕ) (port : ℕ) → AreFileAndNumber given.arguments file port → 0 < port → port < 2 ^ 16 → ⊥) → AskNothingWith (codes "serve") given
 no_serve given none Script asked = apart (codes "serve") (codes "script") refl refl asked.0
@@ -131,7 +131,7 @@ no_serve given none (Show file is_json) asked = apart (codes "serve") (codes "sh
 no_serve given none (Held file is_json) asked = apart (codes "serve") (codes "held") refl refl asked.0
 no_serve given none (Sessions file is_json) asked = apart (codes "serve") (codes "sessions") refl refl asked.0
 no_serve given none (Copy file copy bytes is_sparse) asked = apart (codes "serve") (codes "copy") refl refl asked.0
-no_serve given none (Serve file port origins threads memory new until_eof) asked = none file.now port asked.1 asked.2 asked.3
+no_serve given none (Serve file port origins threads memory new until_eof is_json) asked = none file.now port asked.1 asked.2 asked.3
 
 -- a word that names no subcommand asks for nothing
 pub no_name : (name : List ℕ) (given : Words) → name ≢ codes "script" → name ≢ codes "--version" → name ≢ codes "help" → name ≢ codes "ping" → name ≢ codes "format" → name ≢ codes "show" → name ≢ codes "held" → name ≢ codes "sessions" → name ≢ codes "copy" → name ≢ codes "serve" → AskNothingWith name given
@@ -144,7 +144,7 @@ no_name name given s v l i f w h e y p (Show file is_json) asked = w asked.0
 no_name name given s v l i f w h e y p (Held file is_json) asked = h asked.0
 no_name name given s v l i f w h e y p (Sessions file is_json) asked = e asked.0
 no_name name given s v l i f w h e y p (Copy file copy bytes is_sparse) asked = y asked.0
-no_name name given s v l i f w h e y p (Serve file port origins threads memory new until_eof) asked = p asked.0
+no_name name given s v l i f w h e y p (Serve file port origins threads memory new until_eof is_json) asked = p asked.0
 
 -- nothing is asked for by words of which that is so behind the program's name
 pub nothing_named : (words rest : List (List ℕ)) (program name : List ℕ) → words ≡ program ∷ name ∷ rest → AskNothingWith name (given_by rest) → AskForNothing words

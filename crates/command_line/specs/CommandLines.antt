@@ -151,10 +151,10 @@ AskWith name given (Held file is_json) = (name ≡ codes "held") × (given.argum
 AskWith name given (Sessions file is_json) = (name ≡ codes "sessions") × (given.arguments ≡ file.now ∷ []) × (is_json ≡ given.is_json)
 AskWith name given (Copy file copy bytes is_sparse) =
     (name ≡ codes "copy") × AreFilesAndSize given.arguments file.now copy.now bytes × (bytes < 2 ^ 64) × (is_sparse ≡ given.is_sparse)
-AskWith name given (Serve file port origins threads memory new until_eof) =
+AskWith name given (Serve file port origins threads memory new until_eof is_json) =
     (name ≡ codes "serve") × AreFileAndNumber given.arguments file.now port × (0 < port) × (port < 2 ^ 16)
     × (map (λ origin. origin.now) origins.items ≡ given.origins) × (list_all is_origin given.origins ≡ true)
-    × AskForThreads given.threads threads × AskForMemory given.memory memory × AskForNew given.fresh new × (until_eof ≡ given.until_eof)
+    × AskForThreads given.threads threads × AskForMemory given.memory memory × AskForNew given.fresh new × (until_eof ≡ given.until_eof) × (is_json ≡ given.is_json)
 
 -- the words are the program's name, one that names a subcommand, and what it is to be done with
 abbrev pub AskFor : List (List ℕ) → Subcommand → Type 0

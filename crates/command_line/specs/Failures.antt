@@ -89,7 +89,7 @@ IsDoneAs (asks.Show file is_json) unread left before after = (left ≡ unread) �
 IsDoneAs (asks.Held file is_json) unread left before after = (left ≡ unread) × ShowsHeldAs is_json before after
 IsDoneAs (asks.Sessions file is_json) unread left before after = (left ≡ unread) × ShowsSessionsAs is_json before after
 IsDoneAs (asks.Copy file copy bytes is_sparse) unread left before after = (8224 ≤ bytes) × Untouched unread left before after
-IsDoneAs (asks.Serve file port origins threads memory new until_eof) unread left before after = ⊥
+IsDoneAs (asks.Serve file port origins threads memory new until_eof is_json) unread left before after = ⊥
 
 -- what the words ask for is done
 abbrev pub IsDone : List (List ℕ) → Option (List ℕ) → Option (List ℕ) → Option (List ℕ) → Option (List ℕ) → Type 0

@@ -9,3 +9,4 @@ pub mod Words
 pub mod Numbers
 pub mod Sizes
 pub mod Addresses
+pub mod Versions

@@ -16,6 +16,7 @@ mod placing;
 mod program;
 mod telling;
 mod usage;
+mod version;
 mod viewing;
 mod words;
 
@@ -28,5 +29,6 @@ pub use program::{
     BAD_COMMAND_LINE, BodyFault, DONE, Ended, FAILED, Failure, FileFault, refusal, run, tool,
 };
 pub use telling::end_by;
+pub use version::{NOTE_BYTES, write_version};
 pub use viewing::FileView;
 pub use words::WordKind;

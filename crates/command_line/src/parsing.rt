@@ -60,7 +60,8 @@ pub enum Subcommand<'a> {
     },
     /// Serves the broker of the journal in a file at a port, to pages of these origins, or to all if none is named. If a number of
     /// threads is given, 1 to 64, so many serve it. If `memory` is given, its clients may hold so many bytes together, 16,777,216 at
-    /// least. If `new` is given and the file is missing, it is made first, with so many bytes. On request it serves until standard input ends.
+    /// least. If `new` is given and the file is missing, it is made first, with so many bytes. On request it serves until standard input ends,
+    /// and its log has JSON objects.
     Serve {
         file: &'a str,
         port: u16,
@@ -69,6 +70,7 @@ pub enum Subcommand<'a> {
         memory: Option<u64>,
         new: Option<u64>,
         until_eof: bool,
+        is_json: bool,
     },
 }
 
@@ -317,7 +319,7 @@ fn serve_asked<'a>(given: Given<'a>) -> Result<Subcommand<'a>, Refused>
                 memory: bytes,
                 fresh,
                 is_sparse: _,
-                is_json: _,
+                is_json,
                 until_eof,
             } = given;
             drop(arguments);
@@ -332,6 +334,7 @@ fn serve_asked<'a>(given: Given<'a>) -> Result<Subcommand<'a>, Refused>
                 memory,
                 new,
                 until_eof,
+                is_json,
             })
         }
         Ok(_) => {

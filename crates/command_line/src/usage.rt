@@ -282,6 +282,7 @@ fn add_serve<'a>(alloc: Global, commands: &mut Vec<Command<'a>>) -> Result<(), A
                 "until-eof",
                 "Ends in good order once standard input ends: clients hear it, and the status is 0",
             ),
+            Row::Flag("json", "Writes each line of the log as a JSON object"),
         ],
     )
 }

@@ -2,6 +2,8 @@ pub mod Crowdings
 pub mod Devices
 pub mod Events
 pub mod Faults
+pub mod Notices
+pub mod Objects
 pub mod Reopening
 pub mod Rhythms
 pub mod Unopened

@@ -18,9 +18,13 @@ counts_due now r = not (nat_lt now r.counts)
 abbrev pub with_counts : ℕ → Rhythm → Rhythm
 with_counts now r = cond (counts_due now r) (record r { counts = later now COUNTS }) r
 
--- how the server does may be reported, since that was last reported a minute ago or before
+-- how the server does is reported, since that was last reported a minute ago or before
 abbrev pub doing_due : ℕ → Rhythm → Bool
 doing_due now r = not (nat_lt now r.doing)
 
 abbrev pub with_doing : ℕ → Rhythm → Rhythm
 with_doing now r = cond (doing_due now r) (record r { doing = later now DOING }) r
+
+-- For so long nothing is to be reported, a minute at most: until it is reported how the server does, and if there are counts, until these may be.
+abbrev pub rest_of : Bool → ℕ → Rhythm → ℕ
+rest_of has_counts now r = min (cond has_counts (min r.counts r.doing) r.doing - now) DOING

@@ -71,7 +71,7 @@ pub struct Crowd {
 }
 
 /// From how many milliseconds on a compaction is slow.
-const SLOW: u64 = 100;
+pub(crate) const SLOW: u64 = 100;
 
 /// What happens that is reported to an operator.
 #[derive(Drop)]
@@ -87,7 +87,7 @@ pub enum Event {
     NearlyFull { used: u64, area: u64 },
     /// Nearly all is held that may be: SENDs will be refused.
     Crowded(Crowd),
-    /// How the server does, once in each minute in which it did something.
+    /// How the server does, once a minute.
     Doing(Figures),
     /// This came so often since it was last reported.
     Counted { kind: Kind, count: u64 },

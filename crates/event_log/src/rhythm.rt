@@ -1,7 +1,7 @@
 //! When counts are reported, and how a server does.
 
 ghost use Rattle.std.specs.Prelude.{◌≡◌};
-ghost use Rattle.event_log.specs.Rhythms.{begun, counts_due, doing_due, with_counts, with_doing};
+ghost use Rattle.event_log.specs.Rhythms.{begun, counts_due, doing_due, rest_of, with_counts, with_doing};
 
 /// For how many milliseconds after a report of counts there is no other.
 const COUNTS: u64 = 1_000;
@@ -9,7 +9,7 @@ const COUNTS: u64 = 1_000;
 /// After how many milliseconds it is reported again how a server does.
 const DOING: u64 = 60_000;
 
-/// When counts may be reported next, and how the server does. Moments are in milliseconds.
+/// When counts may be reported next, and when it is reported how the server does. Moments are in milliseconds.
 #[derive(Clone, Copy)]
 pub struct Rhythm {
     counts: u64,
@@ -39,7 +39,7 @@ impl Rhythm {
         true
     }
 
-    /// Whether it is reported now how the server does: at most once in a minute.
+    /// Whether it is reported now how the server does: once a minute has passed since the last time, whether or not it did anything.
     pub fn tells_doing(&mut self, now: u64) -> bool
         ensures due { result ≡ doing_due now self.old }
         ensures next { self.new ≡ with_doing now self.old }
@@ -49,5 +49,18 @@ impl Rhythm {
         }
         self.doing = now.saturating_add(DOING);
         true
+    }
+
+    /// For how many milliseconds nothing is to be reported, a minute at most: until it is reported how the server does, and if there are
+    /// counts, until these may be.
+    pub fn rest(&self, now: u64, has_counts: bool) -> u64
+        ensures { result ≡ rest_of has_counts now self.now }
+    {
+        let next = if has_counts {
+            self.counts.min(self.doing)
+        } else {
+            self.doing
+        };
+        next.saturating_sub(now).min(DOING)
     }
 }

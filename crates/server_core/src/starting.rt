@@ -15,7 +15,7 @@ use crate::worker_setup::WorkerSetup;
 use claim_core::SEATS;
 use disk_core::{Disk, FileDisk};
 use engine_core::{Closed, Hub, SeatRoom};
-use event_log::ServeFault;
+use event_log::{Form, ServeFault};
 use std::alloc::{AllocError, Global};
 use std::io::Write;
 use std::sync::{Arc, Wait};
@@ -57,13 +57,14 @@ where
         }
     }
 
-    /// Starts the thread that tells an operator what happens, a line each, and first what the server starts with. No other thread waits
-    /// for it. If the writer takes nothing, up to 64 lines wait, and more are left out and counted. `Threads` if the system starts no
+    /// Starts the thread that reports to an operator what happens, a line each in that form, and first what the server starts with. No other
+    /// thread waits for it. If the writer takes nothing, up to 64 lines wait, and more are left out and counted. `Threads` if the system starts no
     /// more, and `Memory` if memory is refused: then nothing was written.
     pub fn start_log_thread<W: Write + Drop + Send + 'static>(
         &self,
         rt: &R,
         alloc: Global,
+        form: Form,
         writer: W,
     ) -> Result<(), ServeFault>
         ensures { IfErr result IsNotStarted }
@@ -77,7 +78,7 @@ where
         };
         let mut writer = writer;
         match thread::spawn(rt, move || {
-            log.run(alloc, &its, mailboxes.as_slice(), &mut writer)
+            log.run(alloc, &its, form, mailboxes.as_slice(), &mut writer)
         }) {
             Ok(_) => Ok(()),
             Err(_) => Err(ServeFault::Threads),

@@ -11,14 +11,16 @@ use calls::run_call;
 use client_core::Address;
 use client_socket::ping;
 use command_line::{
-    BAD_COMMAND_LINE, Failure, Subcommand, end_by, end_ping, is_call, subcommand_of, tool,
+    BAD_COMMAND_LINE, DONE, Failure, NOTE_BYTES, Subcommand, end_by, end_ping, is_call,
+    subcommand_of, tool, write_version,
 };
 use engine_core::ScriptFault;
+use event_log::Form;
 use server_core::{FileAt, ServeFault, Unopened};
 use serving::{Asked, Streams, serve};
 use std::alloc::{AllocError, Global};
-use std::fs::OpenOptions;
-use std::io::{ErrorKind, Lock};
+use std::fs::{File, OpenOptions};
+use std::io::{ErrorKind, Lock, Read, Seek, SeekFrom};
 use std::process::ExitCode;
 use std::{env, io, mem};
 
@@ -103,6 +105,7 @@ fn served<'a>(rt: &HostRuntime, words: &'a [String]) -> Option<Asked<'a>> {
                 memory,
                 until_eof,
                 new,
+                is_json,
             },
         ) => Some(Asked {
             at: FileAt {
@@ -115,6 +118,7 @@ fn served<'a>(rt: &HostRuntime, words: &'a [String]) -> Option<Asked<'a>> {
             memory,
             until_eof,
             new,
+            form: if is_json { Form::Object } else { Form::Text },
         }),
         _ => None,
     }
@@ -125,10 +129,44 @@ fn run_other(rt: &HostRuntime, words: &[String]) -> u8 {
     if is_call(words) {
         return run_call(rt, words);
     }
+    if asks_for_version(rt.alloc(), words) {
+        return run_version(rt);
+    }
     match pinged(rt.alloc(), words) {
         Some(address) => run_ping(rt, address),
         None => run_tool(rt, words),
     }
+}
+
+/// Whether the words ask for the program's version.
+fn asks_for_version(alloc: Global, words: &[String]) -> bool {
+    match subcommand_of(alloc, words) {
+        Ok(Subcommand::Version) => true,
+        _ => false,
+    }
+}
+
+/// Writes the version, with what the program was built from if its file has a note of that, and answers the status.
+fn run_version(rt: &HostRuntime) -> u8 {
+    let last = match last_bytes(rt) {
+        Ok(last) => last,
+        Err(_) => Vec::new(rt.alloc()),
+    };
+    let written = write_version(last.as_slice(), &mut rt.stdout().lock());
+    drop(last);
+    match written {
+        Ok(()) => DONE,
+        Err(_) => told(rt, &Failure::Output),
+    }
+}
+
+/// The last bytes of the program's own file, where a note may stand.
+fn last_bytes(rt: &HostRuntime) -> io::Result<Vec<u8>> {
+    let mut last = Vec::new(rt.alloc());
+    let mut file = File::open(rt, "/proc/self/exe")?;
+    file.seek(SeekFrom::End(-NOTE_BYTES))?;
+    file.read_to_end(&mut last)?;
+    Ok(last)
 }
 
 /// The address of the server that is to be pinged, if the words ask for that.

@@ -1,8 +1,9 @@
 //! What is written to standard error by threads of their own, since it may be full and unread.
 
+use event_log::{Form, Notice, write_notice};
 use server_core::ServeFault;
 use std::alloc::Global;
-use std::io::Write;
+use std::io::{ErrorKind, Write};
 use std::sync::atomic::{AtomicBool, Ordering};
 use std::sync::{Arc, Wait};
 use std::thread::{Parker, Threads};
@@ -44,8 +45,30 @@ where
     Ok(written)
 }
 
+/// Adds the line of a notice that comes now to a text, in that form; in words if memory is refused for an object.
+pub fn add_notice<R: Clock, W: Write>(
+    rt: &R,
+    alloc: Global,
+    form: Form,
+    notice: Notice<'_>,
+    text: &mut W,
+) -> io::Result<()> {
+    let since_1970 = rt.since_1970().unwrap_or(Duration::from_secs(0));
+    match write_notice(alloc, form, notice, since_1970, text) {
+        Err(error) if error.kind() == ErrorKind::OutOfMemory => {
+            write_notice(alloc, Form::Text, notice, since_1970, text)
+        }
+        written => written,
+    }
+}
+
 /// Starts a thread that reports each second for how long a server has been opening its journal, until the answer is set.
-pub fn report_opening<R, E>(rt: &R, alloc: Global, errors: E) -> Result<Arc<AtomicBool>, ServeFault>
+pub fn report_opening<R, E>(
+    rt: &R,
+    alloc: Global,
+    form: Form,
+    errors: E,
+) -> Result<Arc<AtomicBool>, ServeFault>
 where
     R: Threads + Wait + Clock + Clone + Drop + Send + 'static,
     E: Write + Drop + Send + 'static,
@@ -53,7 +76,7 @@ where
     let is_open = Arc::new(alloc, AtomicBool::new(false)).map_err(|_| ServeFault::Memory)?;
     let (is_over, its) = (is_open.clone()?, rt.clone()?);
     let mut errors = errors;
-    let reports = move || write_seconds(&its, &is_over, &mut errors);
+    let reports = move || write_seconds(&its, alloc, form, &is_over, &mut errors);
     match thread::spawn(rt, reports) {
         Ok(_) => Ok(is_open),
         Err(_) => Err(ServeFault::Threads),
@@ -61,13 +84,19 @@ where
 }
 
 /// Reports each second for how long a server has been opening its journal, until it has.
-fn write_seconds<R: Wait + Clock, E: Write>(rt: &R, is_over: &AtomicBool, errors: &mut E) {
+fn write_seconds<R: Wait + Clock, E: Write>(
+    rt: &R,
+    alloc: Global,
+    form: Form,
+    is_over: &AtomicBool,
+    errors: &mut E,
+) {
     for seconds in 1..=LONGEST_OPENING {
         thread::sleep(rt, Duration::from_secs(1));
         if is_over.load(Ordering::SeqCst) {
             return;
         }
-        if writeln!(errors, "stompd: opening the journal, {seconds} s so far").is_err() {
+        if add_notice(rt, alloc, form, Notice::Opening { seconds }, errors).is_err() {
             return;
         }
     }

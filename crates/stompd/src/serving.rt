@@ -1,14 +1,14 @@
 //! Serving a journal: by one server, and by another after each that found it full.
 
 use crate::input::{Input, read_apart};
-use crate::reporting::{report_opening, write_apart};
+use crate::reporting::{add_notice, report_opening, write_apart};
 use command_line::{DONE, Failure, end_by, journal_for_server};
 use disk_core::OpenError;
-use event_log::{Reopening, is_too_full};
+use event_log::{Form, Notice, Reopening, is_too_full};
 use server_core::{FileAt, Reception, ServeEnd, ServeFault, Server, Unopened};
 use std::alloc::{AllocError, Global};
 use std::fs::{File, Files};
-use std::io::{Lock, Stderr, Stdin, Stdout, Write};
+use std::io::{Lock, Stderr, Stdin, Stdout};
 use std::net::{Ipv4Addr, Net, SocketAddr, SocketAddrV4, TcpListener, TcpStream};
 use std::sync::atomic::Ordering;
 use std::sync::{Arc, Wait};
@@ -32,6 +32,8 @@ pub struct Asked<'a> {
     pub until_eof: bool,
     /// How many bytes a journal gets that is made if the file is missing; none is made, if it isn't said.
     pub new: Option<u64>,
+    /// How its log is written.
+    pub form: Form,
 }
 
 /// The standard streams.
@@ -139,15 +141,10 @@ where
 
     /// Reports that the journal is full, and when it is opened again; then waits for that, or until the input ends.
     fn rest(&self, fault: ServeFault, seconds: u64, input: &Input) {
-        let mut text = Vec::new(self.alloc);
         let failure = self.failure_of(fault);
-        // What memory refuses of the text is left out.
-        drop(end_by(&failure, &mut text));
+        let (mut text, _) = self.text_of(&failure);
         drop(failure);
-        drop(writeln!(
-            text,
-            "stompd: opening the journal again in {seconds} s, which makes room"
-        ));
+        self.add(Notice::Reopening { seconds }, &mut text);
         write_apart(self.rt, self.alloc, text, self.streams.errors);
         input.pause(self.rt, seconds);
     }
@@ -155,7 +152,7 @@ where
     /// Reports the fault by which the program serves no more, and answers the status.
     fn end_with(&self, fault: ServeFault) -> u8 {
         if is_too_full(&fault) {
-            self.write_line(TOO_FULL);
+            self.notify(Notice::TooFull);
         }
         let failure = self.failure_of(fault);
         let status = self.report(&failure);
@@ -170,22 +167,46 @@ where
 
     /// Reports a failure, and answers the status.
     fn report(&self, failure: &Failure<'_>) -> u8 {
-        let mut text = Vec::new(self.alloc);
-        let status = end_by(failure, &mut text).status;
+        let (text, status) = self.text_of(failure);
         write_apart(self.rt, self.alloc, text, self.streams.errors);
         status
     }
 
-    /// Writes a line to standard error.
-    fn write_line(&self, line: &str) {
+    /// The line of a failure, and the status by which the program ends. What memory refuses of the line is left out.
+    fn text_of(&self, failure: &Failure<'_>) -> (Vec<u8>, u8) {
         let mut text = Vec::new(self.alloc);
-        drop(writeln!(text, "stompd: {line}"));
+        let status = end_by(failure, &mut text).status;
+        match self.asked.form {
+            Form::Text => (text, status),
+            Form::Object => {
+                let mut line = Vec::new(self.alloc);
+                self.add(Notice::Fault(words_of(text.as_slice())), &mut line);
+                drop(text);
+                (line, status)
+            }
+        }
+    }
+
+    /// Writes a notice to standard error.
+    fn notify(&self, notice: Notice<'_>) {
+        let mut text = Vec::new(self.alloc);
+        self.add(notice, &mut text);
         write_apart(self.rt, self.alloc, text, self.streams.errors);
+    }
+
+    /// Adds the line of a notice to a text. What memory refuses of it is left out.
+    fn add(&self, notice: Notice<'_>, text: &mut Vec<u8>) {
+        drop(add_notice(self.rt, self.alloc, self.asked.form, notice, text));
     }
 
     /// Serves by one server until it ends. Answers for how many seconds it ran, and why it did not start, or ended.
     fn serve_once(&self, input: &Arc<Input>) -> (u64, End<'a>) {
-        let is_open = match report_opening(self.rt, self.alloc, self.streams.errors) {
+        let is_open = match report_opening(
+            self.rt,
+            self.alloc,
+            self.asked.form,
+            self.streams.errors,
+        ) {
             Ok(is_open) => is_open,
             Err(fault) => return (0, End::Server(ServeEnd::Fault(fault))),
         };
@@ -225,7 +246,7 @@ where
         // It is reported each second that the journal is being opened, and no thread but that one waits for standard error.
         let mut progress = io::sink();
         match journal_for_server(self.alloc, self.rt, asked.at.path, asked.new, &mut progress) {
-            Ok(true) => self.report_made(),
+            Ok(true) => self.notify(Notice::Made(asked.at.path)),
             // Somebody else has made it meanwhile.
             Ok(false) => {}
             Err(failure) => return Err(End::Unmade(failure)),
@@ -234,15 +255,6 @@ where
             Ok(server) => Ok(server),
             Err(fault) => Err(End::Server(ServeEnd::Fault(fault))),
         }
-    }
-
-    /// Reports that the journal was made.
-    fn report_made(&self) {
-        let asked = self.asked;
-        let path = asked.at.path;
-        let mut text = Vec::new(self.alloc);
-        drop(writeln!(text, "stompd: made the journal {path}"));
-        write_apart(self.rt, self.alloc, text, self.streams.errors);
     }
 
     /// Runs a server to its end. Answers for how many seconds it ran, and why it ended.
@@ -267,15 +279,19 @@ where
     /// it to end from now on.
     fn start(&self, server: &mut Server<R>, input: &Arc<Input>) -> Result<(), ServeFault> {
         server.start_workers(self.rt, self.alloc)?;
-        server.start_log_thread(self.rt, self.alloc, self.streams.errors)?;
+        server.start_log_thread(self.rt, self.alloc, self.asked.form, self.streams.errors)?;
         input.attach(self.rt, server.ender()?);
         Ok(())
     }
 }
 
-/// What is reported before the fault if not even a start fits into a journal.
-const TOO_FULL: &str =
-    "what the journal holds does not fit into half of it; docs/RUNNING.md says what helps";
+/// The words of a line `stompd: WORDS`; of a line in another form none.
+fn words_of(line: &[u8]) -> &str {
+    match str::from_utf8(line) {
+        Ok(line) => line.trim_ascii_end().strip_prefix("stompd: ").unwrap_or(""),
+        Err(_) => "",
+    }
+}
 
 /// The origins, as the server's threads have them.
 fn owned(alloc: Global, origins: &[&[u8]]) -> Result<Vec<Vec<u8>>, AllocError> {

@@ -3,7 +3,7 @@
 use crate::counts::Counts;
 use crate::mailbox::{Mailbox, count_clients};
 use crossbeam_queue::ArrayQueue;
-use event_log::{Event, Figures, KINDS, Kind, Rhythm, write_line};
+use event_log::{Event, Figures, Form, KINDS, Kind, Rhythm, write_line};
 use flush_core::{ERRORS, Tally};
 use std::alloc::{AllocError, Global};
 use std::io::Write;
@@ -14,11 +14,6 @@ use std::time::{Clock, Duration};
 
 /// How many lines may wait to be written. If nobody reads what is written, later ones are left out, and counted.
 const UNTOLD: usize = 64;
-
-/// For how many milliseconds it waits at most: while something is counted that was not told yet, and while nothing is.
-const SHORT: u64 = 1_000;
-
-const LONG: u64 = 60_000;
 
 /// How often a server that ends looks whether its last lines are written, and for how many milliseconds it waits in between, unless one is
 /// written. Nobody may read them, and then it ends without.
@@ -84,8 +79,8 @@ impl Gauges {
     }
 }
 
-/// Takes what happens from the other threads, which never wait for it, and tells it in a thread of its own. It tells events at once,
-/// counts once a second at most, and how the server does once a minute at most, if it did something.
+/// Takes what happens from the other threads, which never wait for it, and reports it in a thread of its own: events at once, counts once
+/// a second at most, and how the server does once a minute.
 #[derive(Drop)]
 pub struct LogThread {
     untold: ArrayQueue<Event>,
@@ -181,40 +176,47 @@ impl LogThread {
         self.gauges.set(figures);
     }
 
-    /// Writes what comes, and how many clients the desks of these mailboxes have, until the server has ended. A line that can't be written is
-    /// left out.
+    /// Writes what comes in that form, and how many clients the desks of these mailboxes have, until the server has ended. A line that
+    /// can't be written is left out.
     pub fn run<R: Wait + Clock, W: Write>(
         &self,
         alloc: Global,
         rt: &R,
+        form: Form,
         mailboxes: &[Arc<Mailbox>],
         writer: &mut W,
     ) {
         let mut rhythm = Rhythm::new(moment(rt));
-        let mut told = 0;
         for _ in rt.forever() {
             let is_over = self.over.load(Ordering::SeqCst);
-            self.tell_events(alloc, rt, writer);
+            self.report_events(alloc, rt, form, writer);
             if is_over {
                 return;
             }
             let now = moment(rt);
             if self.has_counts() && rhythm.tells_counts(now) {
-                self.tell_counts(alloc, rt, writer);
+                self.report_counts(alloc, rt, form, writer);
             }
             if rhythm.tells_doing(now) {
-                told = self.tell_doing(alloc, rt, count_clients(mailboxes), told, writer);
+                let doing = Event::Doing(self.state(count_clients(mailboxes)));
+                report(alloc, rt, form, doing, writer);
             }
-            let longest = if self.has_counts() { SHORT } else { LONG };
-            self.thread.park_timeout(rt, Duration::from_millis(longest));
+            let rest = rhythm.rest(now, self.has_counts());
+            self.thread.park_timeout(rt, Duration::from_millis(rest));
         }
     }
 
-    fn tell_events<R: Wait + Clock, W: Write>(&self, alloc: Global, rt: &R, writer: &mut W) {
+    fn report_events<R: Wait + Clock, W: Write>(
+        &self,
+        alloc: Global,
+        rt: &R,
+        form: Form,
+        writer: &mut W,
+    ) {
         for _event in 0..UNTOLD {
             match self.untold.pop(rt) {
                 Some(event) => {
-                    tell(alloc, rt, event, writer);
+                    report(alloc, rt, form, event, writer);
                     self.told.fetch_add(1, Ordering::SeqCst);
                     self.ender.unpark();
                 }
@@ -227,46 +229,35 @@ impl LogThread {
         self.kinds.are_any() || self.errors.are_any()
     }
 
-    fn tell_counts<R: Clock, W: Write>(&self, alloc: Global, rt: &R, writer: &mut W) {
+    fn report_counts<R: Clock, W: Write>(&self, alloc: Global, rt: &R, form: Form, writer: &mut W) {
         for place in 0..KINDS {
             let count = self.kinds.take(place);
             if count > 0
                 && let Some(kind) = Kind::at(place)
             {
-                tell(alloc, rt, Event::Counted { kind, count }, writer);
+                report(alloc, rt, form, Event::Counted { kind, count }, writer);
             }
         }
         for code in 0..ERRORS {
             let count = self.errors.take(code);
             if count > 0 {
                 let code = code as u64;
-                tell(alloc, rt, Event::Errors { code, count }, writer);
+                report(alloc, rt, form, Event::Errors { code, count }, writer);
             }
         }
     }
 
-    // Tells how the server does, if it has done commands since that was told last; answers how many it has done by now.
-    fn tell_doing<R: Clock, W: Write>(
-        &self,
-        alloc: Global,
-        rt: &R,
-        connections: u64,
-        told: u64,
-        writer: &mut W,
-    ) -> u64 {
+    // How the server does, with that number of clients.
+    fn state(&self, connections: u64) -> Figures {
         let notices = self.notices.load(Ordering::SeqCst);
-        let figures = self.gauges.with(connections).with_errors(notices);
-        if figures.commands != told {
-            tell(alloc, rt, Event::Doing(figures), writer);
-        }
-        figures.commands
+        self.gauges.with(connections).with_errors(notices)
     }
 }
 
-// Tells an event that comes now.
-fn tell<R: Clock, W: Write>(alloc: Global, rt: &R, event: Event, writer: &mut W) {
+// Reports an event that comes now.
+fn report<R: Clock, W: Write>(alloc: Global, rt: &R, form: Form, event: Event, writer: &mut W) {
     let since_1970 = rt.since_1970().unwrap_or(Duration::from_secs(0));
-    drop(write_line(alloc, event, since_1970, writer));
+    drop(write_line(alloc, form, event, since_1970, writer));
 }
 
 // The moment, in milliseconds of the clock; 0 if it can't be read.

@@ -1,0 +1,87 @@
+//! What the program says of its server from outside it.
+
+ghost use Rattle.std.specs.Prelude.{List, ℕ, OnOk};
+ghost use Rattle.std.specs.Io.KnownBytes.{Appends};
+ghost use Rattle.json_line.specs.Objects.{line_of as line_of_object};
+ghost use Rattle.event_log.specs.Notices.{notice_line, notice_object};
+
+use crate::line::{Form, moment_text};
+use crate::notice_object::object_line;
+use std::alloc::Global;
+use std::io::Write;
+use std::time::Duration;
+use std::{fmt, io};
+
+/// What the program says of its server from outside it: how far its start is, and why it serves no more.
+#[derive(Clone, Copy)]
+pub enum Notice<'a> {
+    /// The journal is being opened, for so many seconds so far.
+    Opening { seconds: u64 },
+    /// The journal was made in this file.
+    Made(&'a str),
+    /// The journal of a server that was full is opened again in so many seconds.
+    Reopening { seconds: u64 },
+    /// What the journal holds is too much for a start.
+    TooFull,
+    /// The fault by which the program serves no more, in its words.
+    Fault(&'a str),
+}
+
+/// The words of its line.
+impl fmt::Display for Notice<'_> {
+    ghost use Rattle.std.specs.Prelude.{Some};
+    ghost use Rattle.event_log.specs.Notices.{notice_text};
+
+    ghost output = { λ notice. Some (notice_text notice) };
+
+    fn fmt<W: fmt::Write>(&self, f: &mut fmt::Formatter<W>) -> fmt::Result {
+        match self {
+            Notice::Opening { seconds } => write!(f, "opening the journal, {seconds} s so far"),
+            Notice::Made(file) => write!(f, "made the journal {file}"),
+            Notice::Reopening { seconds } => write!(
+                f,
+                "opening the journal again in {seconds} s, which makes room"
+            ),
+            Notice::TooFull => f.write_str(
+                "what the journal holds does not fit into half of it; docs/RUNNING.md says what helps",
+            ),
+            Notice::Fault(text) => f.write_str(text),
+        }
+    }
+}
+
+/// Writes the line of a notice that comes so long after the beginning of 1970. Only an object has the moment, which is empty if memory is
+/// refused for it. If memory is refused for an object, nothing is written, and the error is `OutOfMemory`.
+pub fn write_notice<W: Write>(
+    alloc: Global,
+    form: Form,
+    notice: Notice<'_>,
+    since_1970: Duration,
+    writer: &mut W,
+) -> io::Result<()>
+    ensures { OnOk result ((moment : List ℕ) × Appends (W.contents writer.old) (W.contents writer.new) (notice_line form moment notice.entry)) }
+{
+    match form {
+        Form::Text => writeln!(writer, "stompd: {notice}"),
+        Form::Object => {
+            let moment = moment_text(alloc, since_1970);
+            let written = write_object(alloc, moment.as_str(), notice, writer);
+            drop(moment);
+            written
+        }
+    }
+}
+
+fn write_object<W: Write>(
+    alloc: Global,
+    moment: &str,
+    notice: Notice<'_>,
+    writer: &mut W,
+) -> io::Result<()>
+    ensures { OnOk result (Appends (W.contents writer.old) (W.contents writer.new) (line_of_object (notice_object moment.now notice.entry))) }
+{
+    let line = object_line(alloc, moment, notice)?;
+    let written = writer.write_all(line.as_slice());
+    drop(line);
+    written
+}
