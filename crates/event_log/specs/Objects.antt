@@ -1,5 +1,5 @@
 -- What is reported to an operator, as JSON objects.
-use Rattle.std.specs.Prelude.{ℕ, List, [], ◌∷◌, ◌++◌, codes, cond, nat_lt, string_bytes}
+use Rattle.std.specs.Prelude.{ℕ, List, [], ◌++◌, codes, cond, nat_lt, string_bytes}
 use Rattle.json.specs.Token.{Token}
 use Rattle.json_line.specs.Objects.{line_of as line_of_object, number_member, object_of, text_member}
 use Rattle.event_log.specs.Events.{line_of}
