@@ -1,4 +1,5 @@
 mod Doing
+mod Joining
 mod Leaving
 mod Rising
 mod Settling

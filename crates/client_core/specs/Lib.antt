@@ -1,8 +1,10 @@
 pub mod Answers
 pub mod Courses
 pub mod Deeds
+pub mod Doubts
 pub mod Lines
 pub mod Listening
+pub mod Moving
 pub mod Requests
 pub mod Talks
 pub mod Texts

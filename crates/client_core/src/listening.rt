@@ -11,7 +11,7 @@ ghost use Rattle.client_core.specs.Talks.{Adds, Heard, Said, Spoken, listening_s
 use crate::deeds::{Deed, deed_of};
 use crate::farewell::leave_after;
 use crate::fault::{Cause, ClientFault, Step};
-use crate::peer::Listener;
+use crate::peer::{Listener, Peer};
 use crate::plan::Plan;
 use crate::requests::subscribe_text;
 use crate::sending::{close, open};
@@ -106,8 +106,9 @@ fn hear_messages<L: Listener>(
     }
 }
 
-fn subscribe<L: Listener>(alloc: Global, plan: &Plan<'_>, peer: &mut L) -> Result<(), Cause>
-    ensures { OnOk result (Adds (Said (written (subscribe_frame plan.now)) ∷ []) (L.Peer.talk peer.old) (L.Peer.talk peer.new)) }
+/// Says the SUBSCRIBE of a plan. No RECEIPT is asked for: what comes are its messages.
+pub fn subscribe<P: Peer>(alloc: Global, plan: &Plan<'_>, peer: &mut P) -> Result<(), Cause>
+    ensures { OnOk result (Adds (Said (written (subscribe_frame plan.now)) ∷ []) (P.talk peer.old) (P.talk peer.new)) }
 {
     let text = subscribe_text(alloc, plan)?;
     let said = peer.say(text.as_slice());

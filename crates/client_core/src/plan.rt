@@ -30,6 +30,38 @@ pub struct Plan<'a> {
     pub timeout: Option<u64>,
 }
 
+/// Which messages are moved, and where to.
+#[derive(Clone, Copy)]
+pub struct Errand<'a> {
+    pub from: &'a str,
+    /// The durable name under which a topic keeps them.
+    pub name: Option<&'a str>,
+    pub to: &'a str,
+    /// How many; all of them, if it is not given.
+    pub count: Option<u64>,
+    /// After how many seconds without a message all of them have come.
+    pub timeout: u64,
+}
+
+impl<'a> Errand<'a> {
+    ghost use Rattle.std.specs.Prelude.{◌≡◌, true};
+
+    /// The plan by which they are listened to.
+    pub fn plan(&self) -> Plan<'a>
+        ensures settles { (result.settles ≡ true) × (result.destination ≡ self.now.from) × (result.name ≡ self.now.name) }
+    {
+        Plan {
+            destination: self.from,
+            name: self.name,
+            count: u64::MAX,
+            settles: true,
+            with_headers: false,
+            is_once: true,
+            timeout: Some(self.timeout),
+        }
+    }
+}
+
 impl Plan<'_> {
     /// Whether what it shows is its own: the copies of a plain subscription of a topic, which nobody else gets.
     pub fn is_own(&self) -> bool

@@ -65,8 +65,8 @@ pub(crate) fn is_receipt(verb: Verb) -> bool
     matches!(verb, Verb::Receipt)
 }
 
-// Whether a frame is the RECEIPT with that id.
-fn is_receipt_of(frame: &Frame, id: &str) -> bool
+/// Whether a frame is the RECEIPT with that id.
+pub(crate) fn is_receipt_of(frame: &Frame, id: &str) -> bool
     ensures { IsTrue result ↔ IsReceiptOf id.now frame.now }
 {
     is_receipt(frame.verb) && has_id(frame, id)

@@ -96,8 +96,13 @@ pub fn ack_text(alloc: Global, delivery: &str) -> Result<Vec<u8>, Cause>
     spelled(alloc, Verb::Ack, headers, b"")
 }
 
-// Adds a header.
-fn add(alloc: Global, headers: &mut Vec<(Text, Text)>, name: &str, value: &str) -> Result<(), Cause>
+/// Adds a header.
+pub(crate) fn add(
+    alloc: Global,
+    headers: &mut Vec<(Text, Text)>,
+    name: &str,
+    value: &str,
+) -> Result<(), Cause>
     ensures ok { OnOk result (headers.new.items ≡ headers.old.items ++ (name.now, value.now) ∷ []) }
     ensures cause { IfErr result IsOfPeer }
 {
@@ -114,8 +119,12 @@ fn add(alloc: Global, headers: &mut Vec<(Text, Text)>, name: &str, value: &str) 
     }
 }
 
-// Adds the length of a body.
-fn add_length(alloc: Global, headers: &mut Vec<(Text, Text)>, body: &[u8]) -> Result<(), Cause>
+/// Adds the length of a body.
+pub(crate) fn add_length(
+    alloc: Global,
+    headers: &mut Vec<(Text, Text)>,
+    body: &[u8],
+) -> Result<(), Cause>
     ensures ok { OnOk result (headers.new.items ≡ headers.old.items ++ (codes "content-length", decimal (length body.now)) ∷ []) }
     ensures cause { IfErr result IsOfPeer }
 {
@@ -144,8 +153,8 @@ fn add_all(
     Ok(())
 }
 
-// The bytes of a frame, if it can be written.
-fn spelled(
+/// The bytes of a frame, if it can be written.
+pub(crate) fn spelled(
     alloc: Global,
     verb: Verb,
     headers: Vec<(Text, Text)>,
