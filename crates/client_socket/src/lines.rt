@@ -193,8 +193,8 @@ where
     }
 }
 
-// Whether it was waited so long that pings may not have been answered.
-fn is_stale<C: Clock>(clock: &C, began: io::Result<Instant>) -> bool {
+/// Whether it was waited so long that pings may not have been answered.
+pub fn is_stale<C: Clock>(clock: &C, began: io::Result<Instant>) -> bool {
     match began {
         Ok(began) => match began.elapsed(clock) {
             Ok(waited) => waited >= Duration::from_secs(IDLE_SECONDS),

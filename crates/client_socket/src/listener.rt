@@ -41,14 +41,7 @@ impl<R: Clock + RandomSource + Drop, W: Write> Peer for Shown<'_, '_, R, W> {
 
 impl<R: Clock + RandomSource + Drop, W: Write> Listener for Shown<'_, '_, R, W> {
     fn wait(&mut self) -> Result<Vec<u8>, Cause> {
-        let most = Duration::from_secs(PATIENCE_SECONDS);
-        let limit = self.patience.part_of(self.clock, most)?;
-        self.peer.begin_for(limit)?;
-        match self.peer.hear() {
-            Err(Cause::Late) if limit < most => Err(Cause::Quiet),
-            Err(Cause::Late) => Err(Cause::Silent),
-            heard => heard,
-        }
+        wait_for(self.clock, self.patience, self.peer)
     }
 
     fn show(&mut self, text: &[u8]) -> Result<(), Cause> {
@@ -58,5 +51,23 @@ impl<R: Clock + RandomSource + Drop, W: Write> Listener for Shown<'_, '_, R, W> 
         self.count = self.count.saturating_add(1);
         self.patience.renew(self.clock);
         Ok(())
+    }
+}
+
+/// The next bytes of what the peer says, for which it may take its time, as far as patience goes.
+pub fn wait_for<R: Clock + RandomSource + Drop>(
+    clock: &R,
+    patience: &Patience,
+    peer: &mut WebPeer<R>,
+) -> Result<Vec<u8>, Cause>
+    ensures cause { IfErr result IsOfPeer }
+{
+    let most = Duration::from_secs(PATIENCE_SECONDS);
+    let limit = patience.part_of(clock, most)?;
+    peer.begin_for(limit)?;
+    match peer.hear() {
+        Err(Cause::Late) if limit < most => Err(Cause::Quiet),
+        Err(Cause::Late) => Err(Cause::Silent),
+        heard => heard,
     }
 }
