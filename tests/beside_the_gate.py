@@ -73,6 +73,7 @@ SCRIPTS = [
     Script("tests/program/version.py", light=""),
     Script("tests/program/ping.py", light=""),
     Script("tests/program/client.py", light=""),
+    Script("tests/program/move.py", light=""),
     Script("tests/program/closed_streams.py", light=""),
     Script("tests/program/ending.py", light="--few"),
     Script("tests/program/telling.py", light=""),

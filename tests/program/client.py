@@ -35,6 +35,7 @@ COMMANDS = {
     "ping": ("<PORT>", []),
     "send": ("<PORT> <DESTINATION> [BODY]", ["--header", "--lines"]),
     "listen": ("<PORT> <DESTINATION>", ["--count", "--settle", "--durable", "--headers", "--once", "--timeout"]),
+    "move": ("<PORT> <FROM> <TO>", ["--count", "--to", "--durable", "--timeout"]),
     "forget": ("<PORT> <CLIENT> <NAME>", []),
     "serve": ("<FILE> <PORT>", ["--origin", "--threads", "--memory", "--until-eof"]),
     "script": ("", []),

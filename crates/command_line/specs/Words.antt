@@ -1,7 +1,7 @@
 -- What is told of a word that is not of its kind.
 use Rattle.std.specs.Prelude.{List, [], ◌∷◌, ◌++◌, ℕ, codes}
 use Rattle.command_line.specs.declared.words.WordKind.{WordKind}
-use Rattle.command_line.specs.declared.words.WordKind.TheVariants.{Bytes, Port, Address, Threads, Memory, Origin, Header, OwnHeader, Transaction, Count, UnsettledCount, BodyOfLines, DurableQueue, EmptyName, PortOption, Timeout}
+use Rattle.command_line.specs.declared.words.WordKind.TheVariants.{Bytes, Port, Address, Threads, Memory, Origin, Header, OwnHeader, Transaction, Count, UnsettledCount, BodyOfLines, DurableQueue, EmptyName, PlainTopic, SamePlace, PortOption, Timeout}
 
 -- what stands in its place
 abbrev pub kind_text : WordKind → List ℕ
@@ -19,6 +19,8 @@ kind_text UnsettledCount = codes "without --settle at most 16 are shown of what 
 kind_text BodyOfLines = codes "with --lines the bodies come from standard input"
 kind_text DurableQueue = codes "only a topic has durable names"
 kind_text EmptyName = codes "a durable name and its client-id are not empty"
+kind_text PlainTopic = codes "a topic keeps messages only for a durable name"
+kind_text SamePlace = codes "FROM and TO are the same"
 kind_text PortOption = codes "there is no such option: the port stands by itself, as in stompd serve FILE 8080"
 kind_text Timeout = codes "--timeout takes a number of seconds from 1 on"
 

@@ -34,8 +34,8 @@ pub fn end_call<E: Write>(called: Result<(), ClientFault>, errors: &mut E) -> En
     }
 }
 
-// The status by what went wrong.
-fn status_of(fault: &ClientFault) -> u8
+/// The status by what went wrong.
+pub(crate) fn status_of(fault: &ClientFault) -> u8
     ensures { result ≡ call_status fault.now }
 {
     if fault.is_quiet() {

@@ -5,12 +5,13 @@ ghost use Rattle.std.specs.List.{AllByRecursion};
 ghost use Rattle.command_line.specs.Calls.{CanBeDone, CanCome, IsFilled, IsNoneOf, IsRefused, MayBeGiven, is_call_name, is_own_name, most_of, names_call};
 
 use crate::addresses::address_of;
+use crate::moving::move_in;
 use crate::numbers::number_of;
 use crate::parsing::named;
 use crate::usage::matches_of;
 use crate::words::WordKind;
 use clap::{ArgMatches, Error};
-use client_core::{Address, Plan};
+use client_core::{Address, Errand, Plan};
 use std::alloc::Global;
 use std::convert::AsStr;
 
@@ -33,6 +34,13 @@ pub enum Call<'a> {
         address: Address<'a>,
         client: Option<&'a str>,
         plan: Plan<'a>,
+    },
+    /// Moves messages to another place, perhaps at another server, perhaps with a `client-id`.
+    Move {
+        address: Address<'a>,
+        client: Option<&'a str>,
+        other: Option<Address<'a>>,
+        errand: Errand<'a>,
     },
     /// Gives up a durable name of a client.
     Forget {
@@ -64,7 +72,7 @@ pub fn is_call<S: AsStr>(words: &[S]) -> bool
 fn is_call_name(name: &str) -> bool
     ensures { result ≡ is_call_name name.now }
 {
-    matches!(name, "send" | "listen" | "forget")
+    matches!(name, "send" | "listen" | "move" | "forget")
 }
 
 /// What the words ask of a client, of which the first is the program's name, and the second names what a client does.
@@ -89,6 +97,7 @@ fn call_in<'a>(alloc: Global, matches: &ArgMatches<'a>) -> Result<Call<'a>, Unca
     match matches.subcommand() {
         Some(("send", given)) => send_in(alloc, given),
         Some(("listen", given)) => listen_in(given),
+        Some(("move", given)) => move_in(given),
         Some((_, given)) => forget_in(given),
         None => Err(Uncalled::Word(WordKind::Address, "")),
     }
@@ -163,8 +172,8 @@ fn count_in<'a>(given: &ArgMatches<'a>, plan: &Plan<'_>) -> Result<u64, Uncalled
     }
 }
 
-// For how many seconds no message may come.
-fn timeout_in<'a>(given: &ArgMatches<'a>) -> Result<Option<u64>, Uncalled<'a>>
+/// For how many seconds no message may come.
+pub(crate) fn timeout_in<'a>(given: &ArgMatches<'a>) -> Result<Option<u64>, Uncalled<'a>>
     ensures ok { IfOk result (λ timeout. IfSome timeout (λ seconds. 0 < seconds)) }
     ensures refused { IfErr result IsRefused }
 {
@@ -203,8 +212,8 @@ fn forget_in<'a>(given: &ArgMatches<'a>) -> Result<Call<'a>, Uncalled<'a>>
     })
 }
 
-// Whether a word that may be left out is not empty.
-fn is_filled(word: Option<&str>) -> bool
+/// Whether a word that may be left out is not empty.
+pub(crate) fn is_filled(word: Option<&str>) -> bool
     ensures { IsTrue result ↔ IsFilled word.entry }
 {
     match word {
@@ -213,7 +222,7 @@ fn is_filled(word: Option<&str>) -> bool
     }
 }
 
-fn address_in<'a>(given: &ArgMatches<'a>) -> Result<Address<'a>, Uncalled<'a>>
+pub(crate) fn address_in<'a>(given: &ArgMatches<'a>) -> Result<Address<'a>, Uncalled<'a>>
     ensures refused { IfErr result IsRefused }
 {
     let text = word_in(given, "PORT");
@@ -223,8 +232,8 @@ fn address_in<'a>(given: &ArgMatches<'a>) -> Result<Address<'a>, Uncalled<'a>>
     }
 }
 
-// The word of an argument that `clap` requires.
-fn word_in<'a>(given: &ArgMatches<'a>, name: &str) -> &'a str {
+/// The word of an argument that `clap` requires.
+pub(crate) fn word_in<'a>(given: &ArgMatches<'a>, name: &str) -> &'a str {
     given.get_str(name).unwrap_or("")
 }
 

@@ -8,6 +8,8 @@ mod calling;
 mod given;
 mod making;
 mod misreading;
+mod moved;
+mod moving;
 mod numbers;
 mod origins;
 mod parsing;
@@ -23,6 +25,7 @@ mod words;
 pub use called::{end_call, tell_taken, tell_unsure};
 pub use calling::{Call, Uncalled, call_of, is_call};
 pub use making::journal_for_server;
+pub use moved::end_move;
 pub use parsing::{Refused, Subcommand, subcommand_of};
 pub use pinged::end_ping;
 pub use program::{

@@ -208,6 +208,7 @@ fn add_clients<'a>(alloc: Global, commands: &mut Vec<Command<'a>>) -> Result<(),
         ],
     )?;
     add_listen(alloc, commands)?;
+    add_move(alloc, commands)?;
     add(
         commands,
         alloc,
@@ -248,6 +249,36 @@ fn add_listen<'a>(alloc: Global, commands: &mut Vec<Command<'a>>) -> Result<(), 
                 "timeout",
                 "SECONDS",
                 "Ends with status 4 if no message comes for so long",
+            ),
+        ],
+    )
+}
+
+fn add_move<'a>(alloc: Global, commands: &mut Vec<Command<'a>>) -> Result<(), AllocError> {
+    add(
+        commands,
+        alloc,
+        "move",
+        "Moves messages with their headers, each in one transaction, and prints how many",
+        &[
+            SERVER,
+            Row::Argument("FROM", "/queue/NAME, or /topic/NAME with --durable"),
+            Row::Argument("TO", "/queue/NAME or /topic/NAME"),
+            Row::Valued(
+                "count",
+                "N",
+                "Moves so many; all of them, if it is not given",
+            ),
+            Row::Valued(
+                "to",
+                "PORT2",
+                "Moves them to this other server: each is taken from the first once the other has stored it",
+            ),
+            Row::Durable,
+            Row::Valued(
+                "timeout",
+                "SECONDS",
+                "Ends if no message comes for so long, 2 if it is not given; with --count that has status 4",
             ),
         ],
     )

@@ -34,6 +34,10 @@ pub enum WordKind {
     DurableQueue,
     /// A durable name, or its `client-id`, with at least one character.
     EmptyName,
+    /// A queue, or a topic with a durable name, since no other topic keeps messages.
+    PlainTopic,
+    /// Another place than that where the messages are.
+    SamePlace,
     /// A port that stands as an argument.
     PortOption,
     /// A number of seconds.
@@ -66,6 +70,8 @@ impl WordKind {
             WordKind::BodyOfLines => "with --lines the bodies come from standard input",
             WordKind::DurableQueue => "only a topic has durable names",
             WordKind::EmptyName => "a durable name and its client-id are not empty",
+            WordKind::PlainTopic => "a topic keeps messages only for a durable name",
+            WordKind::SamePlace => "FROM and TO are the same",
             WordKind::PortOption =>
                 "there is no such option: the port stands by itself, as in stompd serve FILE 8080",
             WordKind::Timeout => "--timeout takes a number of seconds from 1 on",

@@ -1,9 +1,12 @@
 //! What a client does.
 
 use client_core::{Address, Outgoing, Plan};
-use client_socket::{Ear, InputFault, Sent, Way, body_of, forget, listen, send, send_lines};
+use client_socket::{
+    Ear, Haul, InputFault, Moved, Sent, Way, body_of, forget, listen, move_messages, send,
+    send_lines,
+};
 use command_line::{
-    BodyFault, Call, DONE, FAILED, Failure, Uncalled, call_of, end_by, end_call, refusal,
+    BodyFault, Call, DONE, FAILED, Failure, Uncalled, call_of, end_by, end_call, end_move, refusal,
     tell_taken, tell_unsure,
 };
 use std::io::Lock;
@@ -49,6 +52,19 @@ fn run(rt: &HostRuntime, call: Call<'_>) -> u8 {
             client,
             plan,
         } => run_listen(rt, address, client, &plan),
+        Call::Move {
+            address,
+            client,
+            other,
+            errand,
+        } => run_move(&Haul {
+            rt,
+            alloc: rt.alloc(),
+            address,
+            client,
+            other,
+            errand,
+        }),
         Call::Forget {
             address,
             client,
@@ -74,6 +90,18 @@ fn run_listen(rt: &HostRuntime, address: Address<'_>, client: Option<&str>, plan
     };
     let listened = listen(&ear, &mut writer, &mut errors);
     end_call(listened, &mut errors).status
+}
+
+/// Moves messages.
+fn run_move(haul: &Haul<'_, HostRuntime>) -> u8 {
+    let Moved {
+        moved,
+        doubt,
+        ended,
+    } = move_messages(haul);
+    let mut writer = haul.rt.stdout().lock();
+    let mut errors = haul.rt.stderr().lock();
+    end_move(moved, doubt, ended, &mut writer, &mut errors).status
 }
 
 /// Sends a message.
