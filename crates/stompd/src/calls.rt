@@ -39,11 +39,7 @@ fn run(rt: &HostRuntime, call: Call<'_>) -> u8 {
                 headers: headers.as_slice(),
                 body: body.unwrap_or("").as_bytes(),
             };
-            let status = match body {
-                Some(_) => run_send(rt, address, &message),
-                None if by_lines => run_lines(rt, address, &message),
-                None => run_input(rt, address, &message),
-            };
+            let status = run_send_by(rt, address, &message, body.is_some(), by_lines);
             drop(headers);
             status
         }
@@ -69,12 +65,32 @@ fn run(rt: &HostRuntime, call: Call<'_>) -> u8 {
             address,
             client,
             name,
-        } => {
-            let forgotten = forget(rt, rt.alloc(), address, client, name);
-            let mut errors = rt.stderr().lock();
-            end_call(forgotten, &mut errors).status
-        }
+        } => run_forget(rt, address, client, name),
     }
+}
+
+/// Sends a message whose body is there, or what standard input has, as one message or by lines.
+fn run_send_by(
+    rt: &HostRuntime,
+    address: Address<'_>,
+    message: &Outgoing<'_>,
+    has_body: bool,
+    by_lines: bool,
+) -> u8 {
+    if has_body {
+        return run_send(rt, address, message);
+    }
+    if by_lines {
+        return run_lines(rt, address, message);
+    }
+    run_input(rt, address, message)
+}
+
+/// Gives up a durable name.
+fn run_forget(rt: &HostRuntime, address: Address<'_>, client: &str, name: &str) -> u8 {
+    let forgotten = forget(rt, rt.alloc(), address, client, name);
+    let mut errors = rt.stderr().lock();
+    end_call(forgotten, &mut errors).status
 }
 
 /// Listens to a destination.
