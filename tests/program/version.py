@@ -32,7 +32,7 @@ def said(program):
 
 def bare_copy(program, folder):
     """The program without a note, if it has one, by the form that is written down here."""
-    copy, data = folder / "bare", program.read_bytes()
+    copy, data = folder / "bare", pathlib.Path(program).read_bytes()
     copy.write_bytes(data[:-64] if data[-64:].startswith(MARK) else data)
     copy.chmod(0o755)
     return copy
@@ -69,8 +69,8 @@ def notes(program, folder, checks):
 
 def of_this_checkout(checks):
     """the program that bin/build makes or finds"""
-    if shutil.which("git") is None or shutil.which("rt") is None:
-        checks.tell("of this checkout: not tried, since git or rt is missing")
+    if shutil.which("git") is None or shutil.which("rt") is None or not (TOP / ".git").exists():
+        checks.tell("of this checkout: not tried, since git, its repository or rt is missing")
         return
     made = subprocess.run([TOP / "bin" / "build", "--any"], stdin=subprocess.DEVNULL, stdout=subprocess.PIPE, text=True, check=True)
     program = pathlib.Path(made.stdout.strip())
