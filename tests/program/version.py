@@ -67,10 +67,10 @@ def notes(program, folder, checks):
     checks.same("it does what it did without the note", subprocess.run([moved, "script"], stdin=subprocess.DEVNULL).returncode, 0)
 
 
-def of_this_checkout(checks):
-    """the program that bin/build makes or finds"""
-    if shutil.which("git") is None or shutil.which("rt") is None or not (TOP / ".git").exists():
-        checks.tell("of this checkout: not tried, since git, its repository or rt is missing")
+def of_this_checkout(program, checks):
+    """the program that bin/build has made, if this is that one: it isn't compiled for this"""
+    if shutil.which("git") is None or not (TOP / ".git").exists() or not pathlib.Path(program).read_bytes()[-64:].startswith(MARK):
+        checks.tell("of this checkout: not tried, since bin/build has not made this program, or git is missing")
         return
     made = subprocess.run([TOP / "bin" / "build", "--any"], stdin=subprocess.DEVNULL, stdout=subprocess.PIPE, text=True, check=True)
     program = pathlib.Path(made.stdout.strip())
@@ -85,7 +85,7 @@ def main():
     checks = scenario.Checks()
     with tempfile.TemporaryDirectory(prefix="version-") as folder:
         notes(program, pathlib.Path(folder), checks)
-    of_this_checkout(checks)
+    of_this_checkout(program, checks)
     return checks.status()
 
 
