@@ -3,8 +3,8 @@
 
     python3 tools/house.py [--longest N]
 
-It prints a line for each count beside its bound, and the N longest contracts that are over theirs (10). A count over its bound is a warning. It ends
-with status 1 only if a crate has no page. A contract has at most 8 clauses and 600 characters.
+It prints a line for each count beside its bound, and the N longest contracts that are over theirs (10). It ends with status 1 if a crate has no
+page, or a function or a file is too long; long pages and contracts are warnings. A contract has at most 8 clauses and 600 characters.
 """
 
 import argparse
@@ -87,7 +87,7 @@ def main():
         print(f"    {size} lines: {what}")
     for characters, clauses, what in sorted(heavy, reverse=True)[:longest]:
         print(f"    {clauses} clauses, {characters} characters: {what}")
-    return 1 if bare else 0
+    return 1 if bare or long_bodies or long_files else 0
 
 
 if __name__ == "__main__":

@@ -133,6 +133,22 @@ def moves(program, checks):
         checks.same("a count that can't be printed", (done.returncode, done.stderr.decode()), (1, told("input or output failed")))
 
 
+def many_headers(program, checks):
+    """What the program can hear, it moves; a frame of more headers ends it, and stays."""
+    with serving(program) as broker:
+        for count, wanted, left in (
+            (59, (0, "moved 1 messages\n", ""), 0),
+            (60, (1, "moved 0 messages\n", told("no more messages: what came is no STOMP")), 1),
+        ):
+            client = Client(broker.port).connect()
+            queue = f"/queue/h{count}"
+            client.send("SEND", [("destination", queue), *((f"h{it}", "v") for it in range(count))], "body")
+            client.publish("/queue/other", "sent")
+            client.close()
+            checks.same(f"{count} headers", run(program, "move", broker.port, queue, "/queue/moved", "--count", 1), wanted)
+            checks.same(f"{count} headers: what stays", counts(program, broker, queue), (left,))
+
+
 def to_another(program, checks):
     """With --to: all of them at the other server, and nothing is taken if that isn't there."""
     with serving(program) as broker, serving(program) as other:
@@ -423,7 +439,7 @@ def broken_pipe(program, checks):
 def main():
     program = built_program(words_of(__doc__, BUILT).parse_args())
     checks, start = Checks(), time.monotonic()
-    for scenario in (bad_words, frames, far_frames, moves, to_another, killed_server, killed_mover, killed_between, broken_pipe):
+    for scenario in (bad_words, frames, far_frames, moves, many_headers, to_another, killed_server, killed_mover, killed_between, broken_pipe):
         scenario(program, checks)
     print(f"{checks.failed} checks failed, in {time.monotonic() - start:.0f} s")
     sys.exit(1 if checks.failed else 0)

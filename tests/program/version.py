@@ -67,6 +67,28 @@ def notes(program, folder, checks):
     checks.same("it does what it did without the note", subprocess.run([moved, "script"], stdin=subprocess.DEVNULL).returncode, 0)
 
 
+def killed(program, folder, checks):
+    """a note that is killed at each of its calls leaves the program whole, with the old note or the new one"""
+    if shutil.which("strace") is None:
+        checks.tell("kills: not tried without strace")
+        return
+    noted = folder / "killed"
+    shutil.copy(bare_copy(program, folder), noted)
+    notes = [(0, f"{NUMBER}{it}\n".encode(), b"") for it in (", old", ", new")]
+    call = "import pathlib, sys; sys.path.insert(0, sys.argv[1]); import versions; versions.set_note(pathlib.Path(sys.argv[2]), ', new')"
+    kills = 0
+    for name in ("write", "chmod", "rename", "unlink"):
+        for at in range(1, 10):
+            versions.set_note(noted, ", old")
+            inject = ["strace", "-f", "-qq", "-o", "/dev/null", "-e", f"trace={name}", "-e", f"inject={name}:signal=KILL:when={at}"]
+            done = subprocess.run([*inject, sys.executable, "-B", "-c", call, TOP / "tools", noted])
+            checks.check(f"killed at {name} {at}, it is whole" if done.returncode else f"{name}: all calls were killed", said(noted) in notes, said(noted))
+            if done.returncode == 0:
+                break
+            kills += 1
+    checks.check("it was killed at writing, its mode and its renaming", kills >= 3, kills)
+
+
 def of_this_checkout(program, checks):
     """the program that bin/build has made, if this is that one: it isn't compiled for this"""
     if shutil.which("git") is None or not (TOP / ".git").exists() or not pathlib.Path(program).read_bytes()[-64:].startswith(MARK):
@@ -85,6 +107,7 @@ def main():
     checks = scenario.Checks()
     with tempfile.TemporaryDirectory(prefix="version-") as folder:
         notes(program, pathlib.Path(folder), checks)
+        killed(program, pathlib.Path(folder), checks)
     of_this_checkout(program, checks)
     return checks.status()
 

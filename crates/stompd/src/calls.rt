@@ -34,12 +34,7 @@ fn run(rt: &HostRuntime, call: Call<'_>) -> u8 {
             body,
             by_lines,
         } => {
-            let message = Outgoing {
-                destination,
-                headers: headers.as_slice(),
-                body: body.unwrap_or("").as_bytes(),
-            };
-            let status = run_send_by(rt, address, &message, body.is_some(), by_lines);
+            let status = run_send_by(rt, address, destination, headers.as_slice(), body, by_lines);
             drop(headers);
             status
         }
@@ -70,20 +65,24 @@ fn run(rt: &HostRuntime, call: Call<'_>) -> u8 {
 }
 
 /// Sends a message whose body is there, or what standard input has, as one message or by lines.
-fn run_send_by(
+fn run_send_by<'a>(
     rt: &HostRuntime,
     address: Address<'_>,
-    message: &Outgoing<'_>,
-    has_body: bool,
+    destination: &'a str,
+    headers: &'a [(&'a str, &'a str)],
+    body: Option<&'a str>,
     by_lines: bool,
 ) -> u8 {
-    if has_body {
-        return run_send(rt, address, message);
+    let message = Outgoing {
+        destination,
+        headers,
+        body: body.unwrap_or("").as_bytes(),
+    };
+    match body {
+        Some(_) => run_send(rt, address, &message),
+        None if by_lines => run_lines(rt, address, &message),
+        None => run_input(rt, address, &message),
     }
-    if by_lines {
-        return run_lines(rt, address, message);
-    }
-    run_input(rt, address, message)
 }
 
 /// Gives up a durable name.
