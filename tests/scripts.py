@@ -2,14 +2,15 @@
 """Runs each script of tests/scripts over the built program, all in parallel, and prints a diff for each that does not print what stands beside it. Its last
 line counts those that passed and that failed. It takes seconds, and needs Python 3 alone.
 
-    python3 tests/scripts.py [PROGRAM] [--only WORD] [--everywhere]
+    python3 tests/scripts.py [PROGRAM] [--only WORD] [--everywhere] [--print]
 
 PROGRAM is the built program; without it, the one that bin/stompd leaves in crates/stompd/out. With --only it runs those in whose folder or name the word
 stands. It ends with status 0 only if all passed and at least one ran.
 
-A script is FOLDER/NAME.script, a text for `stompd script` (docs/SCRIPTS.md). Beside it stand NAME.txt, one line that says the rule that it
-shows, and NAME.out, what is printed. NAME.err has what is told on standard error, and NAME.status the status, if these are not empty and 0. Scripts too
-long for a file are made by tests/lib/long_scripts.py. A missing or a further file is a failure.
+A script is FOLDER/NAME.script, a text for `stompd script` (docs/SCRIPTS.md), but that each LF of a frame begins a line: `| TEXT` goes on with the line
+before, after a `%0A`. With --print it is printed as `stompd script` reads it. Beside it stand NAME.txt, one line that says the rule that it shows, and
+NAME.out, what is printed, in the same form. NAME.err has what is reported on standard error, and NAME.status the status, if these are not empty and 0.
+Scripts too long for a file are made by tests/lib/long_scripts.py. A missing or a further file is a failure.
 
 Each script runs whole, and then with each text cut into pieces of one byte and of seven, a line for each: a broker has to answer the same however a stream
 is cut. Only the number of a line that is not understood is another then, and it is counted here. A script of more than 300,000 bytes runs whole alone, since
@@ -44,6 +45,9 @@ PATIENCE = 120
 TEXT = re.compile(rb"([0-9]|[1-5][0-9]|6[0-3]) (.*)", re.DOTALL)
 BYTE = re.compile(rb"%[0-9A-Fa-f]{2}|.", re.DOTALL)
 NOT_UNDERSTOOD = re.compile(r"line (\d+) not understood")
+# A line that goes on with the one before, and a text with an LF in it.
+GOES_ON = re.compile(r"\n\|(?: |(?=\n|\Z))")
+HAS_LF = re.compile(r"^(?:[0-9]|[1-5][0-9]|6[0-3]) .*%0A.*$", re.M)
 
 
 @dataclasses.dataclass(frozen=True)
@@ -56,6 +60,16 @@ class Case:
     out: str
     err: str = ""
     status: int = 0
+
+
+def joined(text):
+    """A script, or what it prints, as the program has it: each text in one line."""
+    return GOES_ON.sub("%0A", text)
+
+
+def in_lines(text):
+    """The same as a file has it: a line for each line of a frame."""
+    return HAS_LF.sub(lambda line: re.sub("\n(.+)|\n", lambda it: f"\n| {it[1]}" if it[1] else "\n|", line[0].replace("%0A", "\n")), text)
 
 
 def text_beside(path, kind):
@@ -89,7 +103,7 @@ def strays():
 def case_of(path):
     name = str(path.relative_to(FOLDER).with_suffix(""))
     rule, out, err, status = (text_beside(path, it) or "" for it in (".txt", ".out", ".err", ".status"))
-    return Case(name, rule.strip(), path.read_bytes(), out, err, int(status or 0))
+    return Case(name, rule.strip(), joined(path.read_text(encoding="utf-8")).encode(), joined(out), err, int(status or 0))
 
 
 def made_cases():
@@ -138,7 +152,10 @@ def cut(case, way):
 
 def difference(kind, wanted, seen):
     named = {"fromfile": f"{kind}, as it should be", "tofile": f"{kind}, as it is"}
-    return "".join(it if it.endswith("\n") else it + "\n" for it in difflib.unified_diff(wanted.splitlines(True), seen.splitlines(True), **named))
+    if wanted == seen:
+        return ""
+    lines = (in_lines(it).splitlines(True) for it in (wanted, seen))
+    return "".join(it if it.endswith("\n") else it + "\n" for it in difflib.unified_diff(*lines, **named))
 
 
 def run(program, case, way):
@@ -162,13 +179,23 @@ def run_case(program, case, is_everywhere):
     return ""
 
 
+def print_all(cases):
+    """Prints the scripts, and nothing else."""
+    for case in cases:
+        sys.stdout.buffer.write(case.script)
+    return 0
+
+
 def main():
     parser = words_of(__doc__, BUILT)
     parser.add_argument("--only", default="", metavar="WORD", help="only the scripts in whose folder or name this stands")
     parser.add_argument("--everywhere", action="store_true", help="cut each text in two at each of its bytes too")
+    parser.add_argument("--print", action="store_true", help="print the scripts as `stompd script` reads them, and run none")
     words = parser.parse_args()
-    program, start = built_program(words), time.monotonic()
     paths = sorted(FOLDER.glob("*/*.script"))
+    if words.print:
+        return print_all(it for it in [*map(case_of, paths), *made_cases()] if words.only in it.name)
+    program, start = built_program(words), time.monotonic()
     wrong = [f"== {it}\n" for it in [*strays(), *(f"{path.parent.name}: {fault}" for path in paths for fault in faults_of(path))]]
     cases = [it for it in [*map(case_of, paths), *made_cases()] if words.only in it.name]
     with concurrent.futures.ThreadPoolExecutor(os.cpu_count()) as threads:
