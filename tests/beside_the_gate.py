@@ -7,7 +7,7 @@ memory, traces of its system calls, and the clients. Its last line counts what p
 PROGRAM is the built program; without it, it is what `bin/build --any` makes. Needs Python 3; strace for the traces, `rt` and a C compiler for
 refused memory, Chromium and Debian's python3-stomp and python3-websocket for two of the clients, Node for the module and Debian's node-typescript
 for its types, dpkg and root for the package, systemd-analyze for its service, groff for the manual page, and nginx, HAProxy, Caddy, Apache and Docker for the recipes of deploy/. It
-takes some thirty minutes, and ends with status 0 only if nothing failed. With --light it runs the part that needs none of these, or strace or Node
+takes some thirty minutes, and ends with status 0 only if nothing failed. With --light it runs the part that needs none of these, or strace, cc or Node
 where they are there, with fewer kills, in less than fifteen minutes; those that mostly wait run side by side.
 """
 
@@ -26,9 +26,10 @@ TOP = pathlib.Path(__file__).resolve().parent.parent
 DEBIAN_PYTHON = pathlib.Path("/usr/bin/python3")
 
 
-# How it is tried whether a program does what scripts need it for: strace may trace and inject faults, and Node has a WebSocket.
+# How it is tried whether a program does what scripts need it for: strace may trace and inject faults, there is a C compiler, and Node has a WebSocket.
 TRIES = {
     "strace": ["strace", "-f", "-qq", "-o", os.devnull, "-e", "inject=fdatasync:error=EIO", "true"],
+    "cc": ["cc", "--version"],
     "node": ["node", "--experimental-websocket", "-e", "process.exit(typeof WebSocket === 'function' ? 0 : 1)"],
 }
 
@@ -96,7 +97,7 @@ SCRIPTS = [
     Script("tests/program/handshakes.py", light=""),
     Script("tests/program/closes.py", light=""),
     Script("tests/program/pauses.py", light="", waits=True),
-    Script("tests/program/slow_disk.py", waits=True),
+    Script("tests/program/slow_disk.py", light="--few", needs=("cc",)),
     Script("tests/program/guests.py", light=""),
     Script("tests/program/refusals.py", light=""),
     Script("tests/program/no_memory.py"),

@@ -86,13 +86,15 @@ def ended(process):
 
 def idle(program, journal, checks):
     """a server that nobody has come to, or whose client has left"""
-    process = begun(program, journal, scenario.free_port())
-    started = process.stderr.readline().decode()
-    checks.check("it says that it started", " started: " in started, started)
-    status, seconds, told = ended(process)
-    checks.same("a server without clients ends with status 0", status, 0)
-    checks.check("it says that it was asked to", " ending: asked to\n" in told, told)
-    took = [seconds]
+    alone, left = [], []
+    for _ in range(TRIES):
+        process = begun(program, journal, scenario.free_port())
+        started = process.stderr.readline().decode()
+        checks.check("it says that it started", " started: " in started, started)
+        status, seconds, told = ended(process)
+        checks.same("a server without clients ends with status 0", status, 0)
+        checks.check("it says that it was asked to", " ending: asked to\n" in told, told)
+        alone.append(seconds)
     for _ in range(TRIES):
         port = scenario.free_port()
         process = begun(program, journal, port)
@@ -101,8 +103,9 @@ def idle(program, journal, checks):
         client.close()
         status, seconds, _ = ended(process)
         checks.same("so does one whose client has left", status, 0)
-        took.append(seconds)
-    checks.check(f"the quickest within {AT_ONCE} s", min(took) <= AT_ONCE, took)
+        left.append(seconds)
+    for took in (alone, left):
+        checks.check(f"the quickest within {AT_ONCE} s", min(took) <= AT_ONCE, took)
 
 
 def at_once(program, journal, checks):

@@ -254,13 +254,39 @@ def left_out(program, checks):
         checks.check("the server serves on", sender.publish("/topic/none", "x") == [])
 
 
+# The areas of a small journal, and the bodies that a queue keeps in it.
+SMALL_AREA, SMALL = 65_536, 1_000
+
+
+def small_journal(program, checks):
+    """a compaction that leaves less than a quarter of an area, and no other"""
+    form = r"journal nearly full: (\d+) of 65536 bytes are used after a compaction \(J4 is near\)"
+    with told(program, size=32 + 2 * SMALL_AREA) as server:
+        sender = Client(server.port, timeout=20).connect()
+
+        def keep(count):
+            """Keeps so many messages, and has the journal compacted then."""
+            sender.publish_all("/queue/kept", count * ["x" * SMALL])
+            for _ in range(2 * SMALL_AREA // SMALL):
+                sender.publish("/topic/none", "x" * SMALL)
+
+        keep(SMALL_AREA // 2 // SMALL)
+        time.sleep(0.5)
+        checks.same("half an area that is kept is not reported", re.findall(form, server.text), [])
+        keep(SMALL_AREA // 4 // SMALL + 4)
+        server.await_count(form, 1, 5)
+        found = [int(it) for it in re.findall(form, server.text)]
+        checks.check("over three quarters are, after the compaction", found and all(SMALL_AREA * 3 // 4 <= it <= SMALL_AREA for it in found), server.text)
+        checks.check("and the server goes on", sender.publish("/topic/none", "x") == [])
+
+
 def main():
     program = scenario.words_of(__doc__).parse_args().program
     scenario.take_descriptors()
     checks = scenario.Checks()
     slow = threading.Thread(target=tried, args=(given_up, program, checks))
     slow.start()
-    for part in (refused_requests, full, no_descriptors, most_memory, left_out):
+    for part in (refused_requests, full, no_descriptors, most_memory, left_out, small_journal):
         tried(part, program, checks)
     slow.join()
     return checks.status()

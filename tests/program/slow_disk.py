@@ -1,10 +1,11 @@
 #!/usr/bin/env python3
-"""A sync takes 100 seconds, longer than a silent client is kept: no client is disconnected for that, whose commands wait for the disk. Needs Python 3 and a C
-compiler; the gate does not run it.
+"""A disk on which nothing is synced for a while. First more waits for it than a block of the journal takes: once it goes on, all of it is stored at once, block
+after block. Then a sync takes 100 seconds, longer than a silent client is kept: no client is disconnected for that, whose commands wait for the disk.
+Needs Python 3 and a C compiler.
 
-    python3 tests/program/slow_disk.py [PROGRAM]
+    python3 tests/program/slow_disk.py [PROGRAM] [--few]
 
-While a command waits for room in the ring, nothing is read from its client, so its answers to pings are not heard. That isn't its silence.
+With --few only the first is tried, in seconds. While a command waits for room in the ring, nothing is read from its client, so its answers to pings are not heard. That isn't its silence.
 """
 
 import os
@@ -19,6 +20,8 @@ from lib.stomp_client import Client, Closed
 
 # A desk has sixteen commands under way at most.
 SENDS, HELD = 100, 100
+# So many clients send so many bodies of so many bytes: six blocks (docs/PROTOCOL.md, "Limits"). All receipts come within so many seconds.
+MANY, EACH, LARGE, AT_ONCE = 24, 4, 60_000, 0.75
 SOURCE = scenario.TOP / "bench" / "slow_sync.c"
 
 
@@ -57,6 +60,25 @@ class Busy:
             self.end = repr(error)
 
 
+def backlog(broker, checks):
+    """More waits for the disk than a block takes, and nothing comes after it."""
+    clients = [Client(broker.port).connect() for _ in range(MANY)]
+    broker.held.touch()
+    for client in clients:
+        for number in range(EACH):
+            client.send("SEND", [("destination", "/topic/none"), ("receipt", f"{number}")], "x" * LARGE)
+    # All of it is in the ring by then.
+    time.sleep(2)
+    start = time.monotonic()
+    broker.held.unlink()
+    for client in clients:
+        client.receipt(f"{EACH - 1}")
+    took = time.monotonic() - start
+    checks.check(f"what waited for the disk has its receipts within {AT_ONCE} s", took <= AT_ONCE, f"{took:.2f} s")
+    for client in clients:
+        client.close()
+
+
 def try_it(broker, checks):
     busy = [Busy(broker.port) for _ in range(2)]
     broker.held.touch()
@@ -73,10 +95,13 @@ def try_it(broker, checks):
 
 
 def main():
-    words = scenario.words_of(__doc__).parse_args()
-    checks = scenario.Checks()
-    with scenario.serving(words.program, kind=HeldBroker) as broker:
-        try_it(broker, checks)
+    words = scenario.words_of(__doc__)
+    words.add_argument("--few", action="store_true", help="without the sync of 100 s")
+    given, checks = words.parse_args(), scenario.Checks()
+    with scenario.serving(given.program, kind=HeldBroker) as broker:
+        backlog(broker, checks)
+        if not given.few:
+            try_it(broker, checks)
     return checks.status()
 
 
