@@ -102,7 +102,7 @@ SCRIPTS = [
     Script("tests/program/refusals.py", light=""),
     Script("tests/program/no_memory.py"),
     Script("tests/attack/under_attack.py"),
-    Script("tests/attack/dear_frames.py"),
+    Script("tests/attack/dear_frames.py", light="--few"),
     Script("tests/attack/joins.py", light="--few"),
     Script("tests/program/memory_budget.py"),
     Script("tests/program/holders.py", light=""),

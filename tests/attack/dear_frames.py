@@ -1,11 +1,11 @@
 #!/usr/bin/env python3
 """The dearest frames that clients may send, as fast as they can: a neighbour has its receipts all the same, and `ping` is answered. Needs Python 3 alone.
 
-    python3 tests/attack/dear_frames.py [PROGRAM] [--seconds N]
+    python3 tests/attack/dear_frames.py [PROGRAM] [--seconds N] [--few]
 
 A topic has 255 subscribers that read what comes. Clients send COMMITs of SENDs to it and never wait. One that behaves has a receipt at a time meanwhile:
 none takes over a second, and each `ping` ends with 0. Beside other work the clock says too much: what counts is the time without that for which the
-broker's flusher could run and had no processor. Both are told.
+broker's flusher could run and had no processor. Both are told. With --few only the first of three cases is tried.
 """
 
 import statistics
@@ -38,9 +38,10 @@ def try_case(broker, checks, clients, members, seconds):
 def main():
     words = scenario.words_of(__doc__)
     words.add_argument("--seconds", type=float, default=6)
+    words.add_argument("--few", action="store_true")
     words = words.parse_args()
     checks = scenario.Checks()
-    for clients, members in CASES:
+    for clients, members in CASES[:1] if words.few else CASES:
         with scenario.serving(words.program) as broker:
             try_case(broker, checks, clients, members, words.seconds)
     return checks.status()
