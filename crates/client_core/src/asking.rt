@@ -1,4 +1,4 @@
-//! A frame is said, and its answer heard.
+//! A frame is sent, and its answer read.
 
 ghost use Rattle.std.specs.Prelude.{◌≡◌, ◌∷◌, ◌++◌, ◌⊎◌, [], List, ℕ, IfErr, IfOk, OnOk, false, map};
 ghost use Rattle.client_core.specs.Answers.{Breaks, Hears, step_of};
@@ -11,7 +11,7 @@ use crate::probe::Probe;
 use frame_core::FrameReader;
 use std::alloc::Global;
 
-/// Says a frame, and hears the answer that this probe awaits.
+/// Sends a frame, and reads the answer that this probe awaits.
 pub fn ask<P: Peer>(
     alloc: Global,
     probe: Probe,

@@ -12,7 +12,7 @@ use crate::probe::Probe;
 use std::alloc::Global;
 use std::time::{Clock, Duration, Instant};
 
-/// Says CONNECT, SEND and DISCONNECT, each once what was said before is answered, and closes. Answers how long it was from the SEND
+/// Sends CONNECT, SEND and DISCONNECT, each once the frame before is answered, and closes. Answers how long it was from the SEND
 /// to its RECEIPT. A fault names the first step that went wrong.
 pub fn converse<C: Clock, P: Peer>(
     clock: &C,
@@ -48,7 +48,7 @@ fn close<P: Peer>(took: Duration, peer: &mut P) -> Result<Duration, ClientFault>
     }
 }
 
-// Sends, and says how long it was until the receipt.
+// Sends, and answers how long it was until the receipt.
 fn ask_for_receipt<C: Clock, P: Peer>(
     clock: &C,
     alloc: Global,
@@ -67,7 +67,7 @@ fn ask_for_receipt<C: Clock, P: Peer>(
     }
 }
 
-// The fault if the system does not tell the time.
+// The fault if the clock can't be read.
 fn no_clock() -> ClientFault
     ensures { IsOfPeer result.cause }
 {
@@ -77,7 +77,7 @@ fn no_clock() -> ClientFault
     }
 }
 
-// Says what a ping says at this probe, and hears the answer.
+// Sends what a ping sends at this probe, and reads the answer.
 fn say<P: Peer>(alloc: Global, probe: Probe, peer: &mut P) -> Result<(), ClientFault>
     ensures ok { OnOk result (Answers probe (said probe) (P.talk peer.old) (P.talk peer.new)) }
     ensures fault { IfErr result (λ fault. IsUnanswered probe (said probe) fault (P.talk peer.old) (P.talk peer.new)) }

@@ -29,7 +29,7 @@ impl Course {
         }
     }
 
-    /// After a connection that has shown so many messages, and whose conversation went wrong at this step.
+    /// After a connection that has shown `shown` messages, and whose conversation went wrong at this step.
     pub fn after(self, shown: u64, step: Step) -> Course
         ensures { result ≡ course_after shown step self }
     {

@@ -55,7 +55,7 @@ pub fn is_message(verb: Verb) -> bool
     matches!(verb, Verb::Message)
 }
 
-// The ACK of a message. One that is to be acknowledged has the header that says how (STOMP 1.2, "MESSAGE").
+// The ACK of a message. One that is to be acknowledged has the header for that (STOMP 1.2, "MESSAGE").
 fn settling_text(alloc: Global, frame: &Frame) -> Result<Vec<u8>, Cause>
     ensures { IfOk result (λ ack. (delivery : List ℕ) × (first_of (codes "ack") frame.now.headers ≡ Some delivery) × (ack.items ≡ written (ack_frame delivery))) }
 {

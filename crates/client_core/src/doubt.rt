@@ -23,7 +23,7 @@ impl Doubt {
     ghost use Rattle.std.specs.Prelude.{◌≡◌};
     ghost use Rattle.client_core.specs.Doubts.{doubt_text};
 
-    /// What is told of it after the fault.
+    /// What is reported of it after the fault.
     pub fn text(self) -> &'static str
         ensures { result.now ≡ doubt_text self }
     {

@@ -14,7 +14,7 @@ use crate::probe::Probe;
 use frame_core::{Fed, Frame, FrameReader};
 use std::alloc::Global;
 
-/// Says DISCONNECT, and hears its RECEIPT. Messages that come before that go back.
+/// Sends DISCONNECT, and reads its RECEIPT. Messages that come before that go back.
 pub fn leave_after<P: Peer>(
     alloc: Global,
     reader: &mut FrameReader,

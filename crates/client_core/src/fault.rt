@@ -80,7 +80,7 @@ pub enum Cause {
     Status(u16),
     /// What came is not a WebSocket (RFC 6455).
     NotWebSocket,
-    /// The peer has closed, with this code (RFC 6455, section 7.4), or 1005 if it told none.
+    /// The peer has closed, with this code (RFC 6455, section 7.4), or 1005 if it sent none.
     Closed(u16),
     /// The connection has ended without a close.
     Ended,
@@ -90,7 +90,7 @@ pub enum Cause {
     Other(Verb),
     /// What came is not STOMP.
     NotStomp,
-    /// What was to be said can't be written as a frame: a header has no name, or a `client-id` an end of line.
+    /// What was to be sent can't be written as a frame: a header has no name, or a `client-id` an end of line.
     Unwritable,
     /// Nothing more can be shown to the user.
     Output,
@@ -157,7 +157,7 @@ impl ClientFault {
     ghost use Rattle.std.specs.Prelude.{◌≡◌};
     ghost use Rattle.client_core.specs.Texts.{is_unknown};
 
-    /// Whether a message was sent, and no answer says whether it was taken.
+    /// Whether a message was sent, and no answer shows whether it was taken.
     pub fn is_unknown(&self) -> bool
         ensures { result ≡ is_unknown self.now.step self.now.cause }
     {

@@ -1,4 +1,4 @@
-//! What is heard of the answer to what was said.
+//! What has come of the answer to a frame.
 
 ghost use Rattle.std.specs.Prelude.{◌≡◌, ◌++◌, ◌⊎◌, ◌↔◌, IfErr, IfOk, IsTrue, MatchOption, None, false};
 ghost use Rattle.frame_core.specs.declared.frame.Verb.TheVariants as verbs;
@@ -11,7 +11,7 @@ use frame_core::{Fed, Frame, FrameReader, Text, Verb, first};
 use script_text::encode_text;
 use std::alloc::{AllocError, Global};
 
-/// Hears the next bytes after what was said at this probe, and tells whether the answer is whole. The reader has what was heard
+/// Reads the next bytes after the frame of this probe, and answers whether the answer is whole. The reader has what was read
 /// before. No frame may stand after the answer, since nothing more was asked for.
 ///
 /// After an error the reader may have failed.
@@ -67,7 +67,7 @@ fn wrong(probe: Probe, frames: &[Frame]) -> Option<&Frame>
     }
 }
 
-/// What a frame says that should not have come.
+/// What a frame has that should not have come.
 pub fn cause_by(alloc: Global, frame: &Frame) -> Cause
     ensures { (result ≡ Memory) ⊎ IsCauseBy frame.now result }
 {

@@ -1,4 +1,4 @@
-//! A small STOMP client: what it says, hears and shows, over any peer.
+//! A small STOMP client: what it sends, reads and shows, over any peer.
 
 #![tactic(auto)]
 

@@ -137,7 +137,7 @@ fn hear_until_all<L: Listener>(
     Err(Cause::Silent)
 }
 
-// Hears a piece, of which it shows so many messages at most. Answers how many are left.
+// Reads a piece, of which it shows `left` messages at most. Answers how many are left.
 fn hear_some<L: Listener>(
     alloc: Global,
     plan: &Plan<'_>,
@@ -201,7 +201,7 @@ fn show_fed<L: Listener>(
     }
 }
 
-// Shows so many of these at most, and settles them if that is asked for.
+// Shows `left` of these at most, and settles them if that is asked for.
 fn show_all<L: Listener>(
     alloc: Global,
     plan: &Plan<'_>,
@@ -238,7 +238,7 @@ fn show<L: Listener>(
     done
 }
 
-// Shows the text of a deed, and then says its frame, if it has one.
+// Shows the text of a deed, and then sends its frame, if it has one.
 fn perform<L: Listener>(deed: &Deed, peer: &mut L) -> Result<(), Cause>
     ensures { OnOk result (Adds (acts_of deed.now) (L.Peer.talk peer.old) (L.Peer.talk peer.new)) }
 {

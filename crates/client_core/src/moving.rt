@@ -1,4 +1,4 @@
-//! What one who moves messages says next, and what it makes of what it hears.
+//! What a mover of messages sends next, and what it makes of what it reads.
 
 ghost use Rattle.std.specs.Prelude.{◌≡◌, ◌+◌, ◌↔◌, List, ℕ, IfNone, IfOk, IfSome, IsTrue, codes, decimal, flat_map, true};
 ghost use Rattle.frame_core.specs.Written.{written};
@@ -27,7 +27,7 @@ pub struct Route<'a> {
 /// How far the first message is of those that came.
 #[derive(Clone, Copy)]
 pub enum Stage {
-    /// Nothing was said of it.
+    /// Nothing was sent of it.
     Free,
     /// It was sent to the other server, whose RECEIPT has not come.
     Sent,
@@ -37,7 +37,7 @@ pub enum Stage {
     Settling,
 }
 
-/// What is said, and to whom.
+/// What is sent, and to whom.
 #[derive(Drop)]
 pub enum Saying {
     /// To the server that holds the messages.
@@ -92,7 +92,7 @@ impl Mover {
         self.stage
     }
 
-    /// What is said next, which moves the first message on; `None` if something has to be heard first. A fault leaves all as it was.
+    /// What is sent next, which moves the first message on; `None` if something has to be read first. A fault leaves all as it was.
     pub fn say(&mut self, alloc: Global, route: &Route<'_>) -> Result<Option<Saying>, Cause>
         ensures says { IfOk result (λ said. IfSome said (Says route.now self.old self.new)) }
         ensures silent { IfOk result (λ said. IfNone said (IsSilent self.old × (self.new ≡ self.old))) }
@@ -202,7 +202,7 @@ fn text_of(alloc: Global, number: u64) -> Result<Text, Cause>
     }
 }
 
-// What is said of a message at this stage, after so many were moved; `None` while a RECEIPT is owed.
+// What is sent of a message at this stage, after that many were moved; `None` while a RECEIPT is owed.
 fn said_of(
     alloc: Global,
     stage: Stage,
@@ -230,7 +230,7 @@ fn said_of(
     }
 }
 
-// How far a message is after this is said.
+// How far a message is after this is sent.
 fn stage_after(saying: &Saying) -> Stage
     ensures { result ≡ stage_after saying.now }
 {
@@ -240,7 +240,7 @@ fn stage_after(saying: &Saying) -> Stage
     }
 }
 
-// SEND of a message to the other server, after so many were moved.
+// SEND of a message to the other server, after that many were moved.
 fn far_of(alloc: Global, moved: u64, route: &Route<'_>, message: &Frame) -> Result<Vec<u8>, Cause>
     ensures { IfOk result (λ text. text.items ≡ written (moved_frame route.now.destination.now (codes "receipt", decimal (moved + 1)) message.now)) }
 {
@@ -250,7 +250,7 @@ fn far_of(alloc: Global, moved: u64, route: &Route<'_>, message: &Frame) -> Resu
     text
 }
 
-// SEND and ACK of a message in one transaction, after so many were moved.
+// SEND and ACK of a message in one transaction, after that many were moved.
 fn transaction_of(
     alloc: Global,
     moved: u64,
@@ -283,7 +283,7 @@ fn numbered_transaction(
     text
 }
 
-// ACK of a message, after so many were moved.
+// ACK of a message, after that many were moved.
 fn settling_of(alloc: Global, moved: u64, message: &Frame) -> Result<Vec<u8>, Cause>
     ensures { IfOk result (λ text. (delivery : List ℕ) × IsSettledBy message.now delivery
         × (text.items ≡ written (settling_frame (decimal (moved + 1)) delivery))) }

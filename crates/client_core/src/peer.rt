@@ -5,11 +5,11 @@ ghost use Rattle.client_core.specs.Talks.{Adds, Heard, IsOfPeer, Said, Shown, Sp
 
 use crate::fault::Cause;
 
-/// A connection that carries one STOMP stream each way. A step begins when something is said, and a peer may end it as `Late`.
+/// A connection that carries one STOMP stream each way. A step begins when something is sent, and a peer may end it as `Late`.
 ///
-/// A peer may tell what was said and heard: then contracts see all of that, in its order.
+/// A peer may show what was sent and read: then contracts see all of that, in its order.
 pub trait Peer {
-    /// What was said and heard, if the peer tells it.
+    /// What was sent and read, if the peer shows it.
     ghost talk: { Self → Option (List Spoken) } = { λ _. None };
 
     /// Says a frame. This begins a step.
@@ -17,12 +17,12 @@ pub trait Peer {
         ensures told { OnOk result (Adds (Said frame.now ∷ []) (talk self.old) (talk self.new)) }
         ensures cause { IfErr result IsOfPeer };
 
-    /// The next bytes of what the peer says, perhaps none. A frame may be cut over several of these.
+    /// The next bytes that the peer sends, perhaps none. A frame may be cut over several of these.
     fn hear(&mut self) -> Result<Vec<u8>, Cause>
         ensures told { IfOk result (λ bytes. Adds (Heard bytes.items ∷ []) (talk self.old) (talk self.new)) }
         ensures cause { IfErr result IsOfPeer };
 
-    /// Begins a step in which nothing is said. If the system does not tell the time, the step before goes on.
+    /// Begins a step in which nothing is sent. If the clock can't be read, the step before goes on.
     fn renew(&mut self)
         ensures told { talk self.new ≡ talk self.old };
 
@@ -34,7 +34,7 @@ pub trait Peer {
 
 /// A connection whose messages are shown to the user.
 pub trait Listener: Peer {
-    /// The next bytes of what the peer says, for which it may take its time. This begins a step.
+    /// The next bytes that the peer sends, for which it may take its time. This begins a step.
     fn wait(&mut self) -> Result<Vec<u8>, Cause>
         ensures told { IfOk result (λ bytes. Adds (Heard bytes.items ∷ []) (Self.Peer.talk self.old) (Self.Peer.talk self.new)) }
         ensures cause { IfErr result IsOfPeer };

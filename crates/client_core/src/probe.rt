@@ -1,4 +1,4 @@
-//! What a ping says, and which frame answers it.
+//! What a ping sends, and which frame answers it.
 
 ghost use Rattle.std.specs.Prelude.{◌≡◌, ◌↔◌, IsTrue};
 ghost use Rattle.frame_core.specs.declared.frame.Verb.TheVariants.{Connected, Receipt};
@@ -7,19 +7,19 @@ ghost use Rattle.client_core.specs.Answers.{HasId, IsAnswer, IsReceiptOf, said, 
 use crate::fault::Step;
 use frame_core::{Frame, Verb, first};
 
-/// What a ping says, in this order. Each is answered by one frame.
+/// What a ping sends, in this order. Each is answered by one frame.
 #[derive(Clone, Copy)]
 pub enum Probe {
     /// CONNECT, which CONNECTED answers.
     Connect,
-    /// SEND to a topic that nobody hears, which a RECEIPT answers once it is in the journal.
+    /// SEND to a topic without subscribers, which a RECEIPT answers once it is in the journal.
     Send,
     /// DISCONNECT, which a RECEIPT answers.
     Disconnect,
 }
 
 impl Probe {
-    /// The frame that is said.
+    /// The frame that is sent.
     pub fn text(self) -> &'static str
         ensures { result.now ≡ said self }
     {

@@ -14,7 +14,7 @@ use crate::window::Window;
 use frame_core::{Fed, Frame, FrameReader, first};
 use std::alloc::Global;
 
-/// Reads the next bytes while lines are under way, and notes each RECEIPT that ends in them. The reader has what was heard before. Any
+/// Reads the next bytes while lines are under way, and notes each RECEIPT that ends in them. The reader has what was read before. Any
 /// other frame is a fault; the RECEIPTs before it are noted.
 pub fn note(
     alloc: Global,

@@ -1,4 +1,4 @@
-//! The frames that a client says.
+//! The frames that a client sends.
 
 ghost use Rattle.std.specs.Prelude.{◌≡◌, ◌++◌, ◌∷◌, [], IfErr, IfOk, OnOk, codes, decimal, length};
 ghost use Rattle.frame_core.specs.Written.{written};

@@ -86,7 +86,7 @@ pub fn close<P: Peer>(peer: &mut P) -> Result<(), ClientFault>
     }
 }
 
-// Says a frame, lets its bytes go, and hears the answer.
+// Sends a frame, lets its bytes go, and reads the answer.
 fn ask_owned<P: Peer>(
     alloc: Global,
     probe: Probe,
@@ -102,7 +102,7 @@ fn ask_owned<P: Peer>(
     answered
 }
 
-// The fault if a frame was not said.
+// The fault if a frame was not sent.
 fn unsaid(probe: Probe, cause: Cause) -> ClientFault
     ensures cause { result.cause ≡ cause }
     ensures step { result.step ≡ step_of probe }

@@ -3,7 +3,7 @@
 use std::alloc::{AllocError, Global};
 use std::marker::Model;
 
-// How many lines may be under way: a server has so many commands of a client under way (docs/PROTOCOL.md, "Limits").
+// How many lines may be under way: a server has 16 commands of a client under way (docs/PROTOCOL.md, "Limits").
 const MOST_UNDER_WAY: usize = 16;
 
 /// What a stream has of the next line.
@@ -22,7 +22,7 @@ pub enum Input {
 pub enum Turn {
     /// Reads the next line, and sends it.
     Send,
-    /// Hears what the server says.
+    /// Reads what the server sends.
     Hear,
     /// Ends: each line has its RECEIPT.
     End,

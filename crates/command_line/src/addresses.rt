@@ -1,4 +1,4 @@
-//! Where a server is, as words say it.
+//! Where a server is, as words of the command line.
 
 ghost use Rattle.std.specs.Prelude.{◌≡◌, IfSome, IsNone};
 ghost use Rattle.std.specs.List.{list_all};

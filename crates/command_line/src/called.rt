@@ -15,7 +15,7 @@ use std::io::Write;
 // The status once no message has come for the time that was given.
 const QUIET: u8 = 4;
 
-/// Tells what a conversation came to, and how the program ends by it. If a SEND may have been taken, and may not, that is told too.
+/// Reports what a conversation came to, and how the program ends by it. If it is unknown whether a SEND was taken, that is reported too.
 pub fn end_call<E: Write>(called: Result<(), ClientFault>, errors: &mut E) -> Ended
     ensures done { OnOk called ((result.status ≡ 0) × (errors.new ≡ errors.old)) }
     ensures failed { IfErr called (λ fault. (result.status ≡ call_status fault)

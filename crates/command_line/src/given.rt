@@ -72,7 +72,7 @@ impl<'a> Given<'a> {
         Ok(())
     }
 
-    // Takes a word, and says what the next one is.
+    // Takes a word, and answers what the next one is.
     fn take(&mut self, place: Place, word: &'a str) -> Result<Place, AllocError>
         ensures { IfOk result (λ next. (words : List (List ℕ)) → joined (words_of self.new) (given_from next words) ≡ joined (words_of self.old) (given_from place (word.now ∷ words))) }
     {

@@ -27,9 +27,9 @@ const LARGE: u64 = 67_108_864;
 
 const MEBIBYTE: u64 = 1_048_576;
 
-/// Makes a file of so many bytes with an empty journal, whose areas share what the header leaves. A file that would be too small
+/// Makes a file of `bytes` bytes with an empty journal, whose areas share what the header leaves. A file that would be too small
 /// is not made, and one that is there stays as it is. Unless the file is to be sparse, its zeros are written, so that it has all
-/// of its room. For a large file `progress` says how far that is, in a line a second at most.
+/// of its room. For a large file `progress` has how far that is, in a line a second at most.
 ///
 /// The file is made as `FILE.new`, and gets its name once it is whole. If the file system has no room for the zeros, or the journal is
 /// not written, `FILE.new` is removed again.
@@ -53,7 +53,7 @@ pub fn make_journal<R: Files<File = File> + Clock, P: Write>(
     end_draft(rt, draft, path, made)
 }
 
-/// Makes the file of a server's journal, with all of its room, if `bytes` says how many it is to have and nothing is there; answers
+/// Makes the file of a server's journal, with all of its room, if `bytes` is how many it is to have and nothing is there; answers
 /// whether it made it. All else is as `make_journal` has it.
 pub fn journal_for_server<'a, R: Files<File = File> + Clock, P: Write>(
     alloc: Global,
@@ -78,7 +78,7 @@ pub fn journal_for_server<'a, R: Files<File = File> + Clock, P: Write>(
     }
 }
 
-/// Makes a file of so many bytes with a journal that holds what the journal in another file holds, its open sessions included. The other
+/// Makes a file of `bytes` bytes with a journal that holds what the journal in another file holds, its open sessions included. The other
 /// one is only read, and may be a running server's. All else is as `make_journal` has it. A failure names the file that it is of.
 pub fn copy_journal<'a, R: Files<File = File> + Clock, P: Write>(
     alloc: Global,
@@ -122,7 +122,7 @@ struct Draft {
     disk: FileDisk,
 }
 
-// Makes a file of so many bytes as `FILE.new`, with all of its room unless it is to be sparse. If there is none, it is removed again.
+// Makes a file of `bytes` bytes as `FILE.new`, with all of its room unless it is to be sparse. If there is none, it is removed again.
 fn draft_of<R: Files<File = File> + Clock, P: Write>(
     alloc: Global,
     rt: &R,
@@ -210,7 +210,7 @@ fn end_draft<R: Files<File = File>>(
     ended
 }
 
-// How many bytes a file of this process may have, if the system tells a limit. One more would end the process by a signal, for which it can
+// How many bytes a file of this process may have, if the system has a limit. One more would end the process by a signal, for which it can
 // have no handler.
 fn most_bytes<R: Files<File = File>>(rt: &R) -> Option<u64> {
     let mut text = [0; 4_096];
@@ -229,7 +229,7 @@ fn limit_in(table: &str) -> Option<u64> {
     None
 }
 
-// What is told of a file that would be too large.
+// What is reported of a file that would be too large.
 fn too_large() -> OpenError {
     OpenError::System(io::Error::from(ErrorKind::FileTooLarge))
 }
@@ -278,7 +278,7 @@ fn fill<R: Clock, P: Write>(
     Ok(())
 }
 
-// Writes the next zeros, and says how many are still left.
+// Writes the next zeros, and answers how many are still left.
 fn fill_piece(disk: &mut FileDisk, bytes: u64, left: u64) -> io::Result<u64>
     ensures rest { IfOk result (λ rest. rest ≤ left) }
     ensures size { file_size disk.new ≡ file_size disk.old }
@@ -288,7 +288,7 @@ fn fill_piece(disk: &mut FileDisk, bytes: u64, left: u64) -> io::Result<u64>
     Ok(left - count as u64)
 }
 
-// Says how far a file is. If that can't be written, nothing is said.
+// Reports how far a file is. If that can't be written, nothing is reported.
 fn tell<P: Write>(progress: &mut P, written: u64, bytes: u64) {
     let (written, all) = (written / MEBIBYTE, bytes / MEBIBYTE);
     let _told = writeln!(progress, "stompd: {written} of {all} MiB are written");

@@ -1,4 +1,4 @@
-//! Numbers, as words say them.
+//! Numbers, as words of the command line.
 
 ghost use Rattle.std.specs.Prelude.{◌≡◌, ◌<◌, ◌≤◌, ◌^◌, ◌||◌, ℕ, IfNone, IfSome};
 ghost use Rattle.command_line.specs.Numbers.{IsNumber};

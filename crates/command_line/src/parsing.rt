@@ -29,7 +29,7 @@ pub enum Subcommand<'a> {
     Ping {
         address: Address<'a>,
     },
-    /// Makes a file of so many bytes with an empty journal. Its room is taken on the device, unless it is to be sparse.
+    /// Makes a file of `bytes` bytes with an empty journal. Its room is taken on the device, unless it is to be sparse.
     Format {
         file: &'a str,
         bytes: u64,
@@ -50,7 +50,7 @@ pub enum Subcommand<'a> {
         file: &'a str,
         is_json: bool,
     },
-    /// Makes a file of so many bytes with a journal that holds what the journal in another file holds. Its room is taken on the device,
+    /// Makes a file of `bytes` bytes with a journal that holds what the journal in another file holds. Its room is taken on the device,
     /// unless it is to be sparse.
     Copy {
         file: &'a str,
@@ -59,8 +59,8 @@ pub enum Subcommand<'a> {
         is_sparse: bool,
     },
     /// Serves the broker of the journal in a file at a port, to pages of these origins, or to all if none is named. If a number of
-    /// threads is given, 1 to 64, so many serve it. If `memory` is given, its clients may hold so many bytes together, 16,777,216 at
-    /// least. If `new` is given and the file is missing, it is made first, with so many bytes. On request it serves until standard input ends,
+    /// threads is given, 1 to 64, that many serve it. If `memory` is given, its clients may hold that many bytes together, 16,777,216 at
+    /// least. If `new` is given and the file is missing, it is made first, with that many bytes. On request it serves until standard input ends,
     /// and its log has JSON objects.
     Serve {
         file: &'a str,
@@ -94,7 +94,7 @@ pub enum Refused {
 
 /// The subcommand that the words ask for, of which the first is the program's name. If `clap` refuses the words, its error is the
 /// answer. What `clap` takes has one of the program's forms, or else is refused as an invalid number. Words that are refused for a
-/// number or an origin ask for nothing that the program does. If several are wrong, the first is told: file and port, threads, memory,
+/// number or an origin ask for nothing that the program does. If several are wrong, the first is reported: file and port, threads, memory,
 /// the size of a new journal, origins.
 pub fn subcommand_of<'a, S: AsStr>(alloc: Global, words: &'a [S]) -> Result<Subcommand<'a>, Refused>
     ensures script { AsksForScript (map S.text words.now) → result ≡ Ok Script }

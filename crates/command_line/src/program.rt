@@ -143,12 +143,12 @@ impl Failure<'_> {
 pub struct Ended {
     /// The status: 0 if it is done, 1 on a fault, 2 on a bad command line, 3 if the server is full, 4 if no message came in time.
     pub status: u8,
-    /// Whether what there was to tell could be written.
+    /// Whether what there was to report could be written.
     pub told: io::Result<()>,
 }
 
 /// Does what the words ask for, of which the first is the program's name, unless that is a server or a ping; answers how it ended. A fault
-/// and a bad command line are told on `errors`; how far the making of a large file has come, on `progress`.
+/// and a bad command line are reported on `errors`; how far the making of a large file has come, on `progress`.
 pub fn tool<T: Files<File = File> + Clock, S: AsStr, R: Read, W: Write, E: Write, P: Write>(
     rt: &T,
     alloc: Global,
@@ -159,13 +159,13 @@ pub fn tool<T: Files<File = File> + Clock, S: AsStr, R: Read, W: Write, E: Write
     progress: &mut P,
 ) -> Ended
     ensures status { result.status ≤ 2 }
-    // What the words ask for is done, and there is nothing to tell. A script was read to its end, and what it prints is written.
+    // What the words ask for is done, and there is nothing to report. A script was read to its end, and what it prints is written.
     ensures done { result.status ≡ 0 → Finishes (map S.text words.now) (R.remaining reader.old) (R.remaining reader.new) (W.contents writer.old) (W.contents writer.new)
         × (errors.new ≡ errors.old) }
     // Words that ask for the script are no bad command line, and a bad one leaves the script unread and writes nothing.
     ensures refused { result.status ≡ 2 → (AsksForScript (map S.text words.now) → ⊥) × (reader.new ≡ reader.old) × (writer.new ≡ writer.old) }
     // A fault is the failure of what was asked for: the script's failure if the words ask for it. What was read and written is what that
-    // leaves, and it is told in one line.
+    // leaves, and it is reported in one line.
     ensures failed { result.status ≡ 1 → EndsByFault (map S.text words.now) (R.remaining reader.old) (R.remaining reader.new) (W.contents writer.old) (W.contents writer.new)
         (E.contents errors.old) (E.contents errors.new) result.told }
 {
@@ -408,7 +408,7 @@ fn script<'a, R: Read, W: Write>(
     }
 }
 
-/// A disk in memory of so many bytes, with an empty journal.
+/// A disk in memory of `size` bytes, with an empty journal.
 fn empty_journal<'a>(alloc: Global, size: u64) -> Result<MemDisk, Failure<'a>>
     requires { 32 ≤ size }
     ensures empty { IfOk result (λ disk. Stands disk.content empty_state) }

@@ -45,7 +45,7 @@ pub enum WordKind {
 }
 
 impl WordKind {
-    /// What is told of a word that is none, after the word.
+    /// What is reported of a word that is none, after the word.
     pub fn text(self) -> &'static str
         ensures { result.now ≡ kind_text self }
     {

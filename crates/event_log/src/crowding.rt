@@ -30,7 +30,7 @@ impl Crowding {
         }
     }
 
-    /// Whether it is reported now, if so many tenths are held: once, until fewer than eight tenths were held, and at most once in a second.
+    /// Whether it is reported now, if `tenths` tenths are held: once, until fewer than eight tenths were held, and at most once in a second.
     pub fn tells(&mut self, tenths: u64, now: u64) -> bool
         ensures due { result ≡ crowd_due tenths now self.old }
         ensures next { self.new ≡ with_crowd tenths now self.old }

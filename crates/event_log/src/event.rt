@@ -45,7 +45,7 @@ pub struct Figures {
 }
 
 impl Figures {
-    /// The same, if so many ERRORs more were sent, each of which is a frame.
+    /// The same, if `more` ERRORs were sent besides, each of which is a frame.
     pub fn with_errors(self, more: u64) -> Figures
         ensures { result ≡ with_errors more self }
     {
@@ -78,9 +78,9 @@ pub(crate) const SLOW: u64 = 100;
 pub enum Event {
     /// The server listens.
     Started(Start),
-    /// An area has fewer bytes than it takes for all that may be held and as many clients. It may be full before there are so many.
+    /// An area has fewer bytes than it takes for all that may be held and as many clients. It may be full before all of them have come.
     Small { area: u64, needed: u64 },
-    /// The journal was compacted. So many bytes of the live area were won, by a turn of the flusher that took so many milliseconds.
+    /// The journal was compacted. That many bytes of the live area were won, by a turn of the flusher that took that many milliseconds.
     /// For that long, receipts waited for it.
     Compacted { won: u64, millis: u64 },
     /// More than three quarters of the area are used by what is held, once the journal is compacted: it will be full.

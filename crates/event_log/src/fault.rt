@@ -24,7 +24,7 @@ pub enum ServeFault {
     Memory,
     /// The system starts no more threads, or refuses what threads wait on.
     Threads,
-    /// The line that says that it listens could not be written.
+    /// The line with its port could not be written.
     Output,
     /// A step of the flusher failed: nothing more is acknowledged.
     Flushing(FlushFault),

@@ -1,4 +1,4 @@
-//! What an operator is told of a server: what happens while it runs, one line each, and why it does not serve.
+//! What is reported of a server: what happens while it runs, a line each, and why it does not serve.
 
 #![tactic(auto)]
 

@@ -1,4 +1,4 @@
-//! What the program says of its server from outside it.
+//! What the program reports of its server from outside it.
 
 ghost use Rattle.std.specs.Prelude.{List, ℕ, OnOk};
 ghost use Rattle.std.specs.Io.KnownBytes.{Appends};
@@ -12,14 +12,14 @@ use std::io::Write;
 use std::time::Duration;
 use std::{fmt, io};
 
-/// What the program says of its server from outside it: how far its start is, and why it serves no more.
+/// What the program reports of its server from outside it: how far its start is, and why it serves no more.
 #[derive(Clone, Copy)]
 pub enum Notice<'a> {
-    /// The journal is being opened, for so many seconds so far.
+    /// The journal is being opened, for that many seconds so far.
     Opening { seconds: u64 },
     /// The journal was made in this file.
     Made(&'a str),
-    /// The journal of a server that was full is opened again in so many seconds.
+    /// The journal of a server that was full is opened again in that many seconds.
     Reopening { seconds: u64 },
     /// What the journal holds is too much for a start.
     TooFull,

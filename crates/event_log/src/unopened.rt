@@ -6,7 +6,7 @@ ghost use Rattle.event_log.specs.Unopened.{reason_text, unopened, unopened_by};
 use disk_core::OpenError;
 use std::io::ErrorKind;
 
-/// Why a file or a port was not opened, as far as that tells the user what to do.
+/// Why a file or a port was not opened, as far as that helps the user.
 #[derive(Clone, Copy, Debug)]
 pub enum Unopened {
     /// What was to be made exists already.

@@ -44,7 +44,7 @@ pub fn answer_to(origins: &[Vec<u8>], bytes: &[u8]) -> Option<Answer>
     }
 }
 
-// The answer to a head that is followed by so many bytes.
+// The answer to a head that is followed by that many bytes.
 fn followed(answer: Answer, more: usize) -> Answer
     ensures { result ≡ cond (more == 0) answer (as_refusal answer) }
 {

@@ -5,7 +5,7 @@ use tungstenite::{CloseCode, CloseFrame, Utf8Bytes};
 /// Why the broker closes a connection (RFC 6455, section 7.4.1).
 #[derive(Clone, Copy)]
 pub enum CloseReason {
-    /// The client has said DISCONNECT: 1000.
+    /// The client has sent DISCONNECT: 1000.
     NormalClosure,
     /// The broker stops, or has given the connection up: 1001.
     GoingAway,
@@ -29,7 +29,7 @@ impl CloseReason {
         }
     }
 
-    // The close frame that says it, with no text.
+    // Its close frame, with no text.
     pub(crate) fn frame(self) -> CloseFrame
         ensures code { result.code ≡ close_code_of (code_of self) }
         ensures reason { result.reason ≡ [] }

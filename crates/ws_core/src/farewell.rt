@@ -6,8 +6,8 @@ use crate::link::Received;
 use crate::messages::count_dropped;
 use crate::stream::Ending;
 
-/// A stream on which all was said: its writing side is shut, and what comes is dropped, 16,777,216 bytes at most. A system resets a
-/// connection that is closed before all was read, and then the peer may never hear why it was refused. How long that takes is the caller's
+/// A stream on which all was written: its writing side is shut, and what comes is dropped, 16,777,216 bytes at most. A system resets a
+/// connection that is closed before all was read, and then the peer may never read why it was refused. How long that takes is the caller's
 /// to limit. Contracts see how many bytes were dropped.
 #[derive(Drop)]
 pub struct Farewell<S> {

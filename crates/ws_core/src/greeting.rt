@@ -24,7 +24,7 @@ use std::sync::Arc;
 ///
 /// A client gets a WebSocket if it sends a whole request for one, whatever path it names, and nothing after it. The subprotocol is
 /// `v12.stomp` if the client offers it, and none if it offers none. A browser's page, which sends its origin, is served if its
-/// origin is among the named ones, or if none is named. Any other client gets a response whose status says why not.
+/// origin is among the named ones, or if none is named. Any other client gets a response with the status of its refusal.
 ///
 /// A head may have 16,384 bytes and 124 fields, and from the 65th read on at least 128 bytes a read. Beyond that the stream is given
 /// up, so a client that never ends its head costs no more than that. How long a client takes is the caller's to limit.
@@ -66,9 +66,9 @@ impl<S: Read + Write> Model for Greeting<S> {
 pub enum Greeted<S: Read + Write> {
     /// The stream gives or takes no more now: the handshake goes on once it does.
     Waits(Greeting<S>),
-    /// The client has its WebSocket, and the whole response that says so is written.
+    /// The client has its WebSocket, and the whole response to its request is written.
     Accepted(WsLink<S>),
-    /// The client gets none. The whole response that says why is written, and what comes is to be dropped before the stream is closed
+    /// The client gets none. The whole response with the reason is written, and what comes is to be dropped before the stream is closed
     /// (`Farewell`).
     Refused(Refusal, S),
     /// The handshake is given up, and the stream is closed. It is `Memory` if memory was refused, and `Gone` if the stream has ended

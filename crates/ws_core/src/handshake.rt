@@ -13,7 +13,7 @@ const PIECE_BYTES: usize = 4_096;
 
 const HEAD_BYTES: usize = 16_384;
 
-// How many reads a head may take; and, after so many of them, how many bytes a read must have given on average.
+// How many reads a head may take; and, after that many of them, how many bytes a read must have given on average.
 const MOST_READS: usize = 1_024;
 
 const FREE_READS: usize = 64;
@@ -56,7 +56,7 @@ pub fn is_head(bytes: &[u8]) -> bool
     bytes.starts_with(b"HEAD ")
 }
 
-// Whether so many reads before the last one, and it, have given too little.
+// Whether `reads` before the last one, and it, have given too little.
 fn is_too_slow(reads: usize, bytes: usize) -> bool {
     reads >= FREE_READS && bytes / LEAST_BYTES <= reads
 }

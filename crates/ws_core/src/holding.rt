@@ -16,7 +16,7 @@ pub const MESSAGE_BYTES: u64 = 131_072;
 pub const READ_BYTES: u64 = 4_096;
 // The most bytes that are read of a message before it is whole.
 const UNREAD_BYTES: u64 = MESSAGE_BYTES + READ_BYTES;
-// The most bytes that a ping or a pong of a client takes (RFC 6455, section 5.5): its head, its mask and what it says.
+// The most bytes that a ping or a pong of a client takes (RFC 6455, section 5.5): its head, its mask and its payload.
 const CONTROL_BYTES: u64 = 131;
 
 /// What a link counts of what it sends and reads. Contracts see all three counts.
@@ -59,7 +59,7 @@ impl Holding {
         }
     }
 
-    /// A message of so many bytes was put into the socket, and by then the stream is held up or not. From `WRITING_BYTES` on all was offered
+    /// A message of that many bytes was put into the socket, and by then the stream is held up or not. From `WRITING_BYTES` on all was offered
     /// to the stream, which has taken it unless it is held up.
     pub fn put(&mut self, bytes: u64, held_up: bool)
         ensures { self.new ≡ with_put bytes held_up self.old }
@@ -77,7 +77,7 @@ impl Holding {
         }
     }
 
-    /// A read came to that, and by then the stream has given so many bytes.
+    /// A read came to that, and by then the stream has given `given` bytes.
     pub fn read(&mut self, given: u64, received: &Received)
         ensures { self.new ≡ with_read given received.now self.old }
     {
@@ -85,7 +85,7 @@ impl Holding {
         self.whole = whole_after(given, received, self.whole);
     }
 
-    /// How many bytes are counted, once the stream has given so many.
+    /// How many bytes are counted, once the stream has given `given`.
     pub fn bytes(&self, given: u64) -> u64
         ensures exact { result ≡ held_by given self.now }
         ensures most { result ≤ 1048576 + 2 * (131072 + 4096) }
@@ -93,7 +93,7 @@ impl Holding {
         self.unsent + 2 * self.most_read(given)
     }
 
-    // The most bytes that were read of a message, once the stream has given so many.
+    // The most bytes that were read of a message, once the stream has given `given`.
     fn most_read(&self, given: u64) -> u64
         ensures exact { result ≡ most_read_by given self.now }
         ensures most { result ≤ 135168 }

@@ -21,7 +21,7 @@ pub enum Received {
     /// The stream has nothing to give now. There may be more once it can be read again, or, if some bytes wait, once it takes bytes
     /// again.
     Nothing,
-    /// The peer broke the protocol and was sent its close code, or it has closed and was answered. The link is ended: it says nothing
+    /// The peer broke the protocol and was sent its close code, or it has closed and was answered. The link is ended: it sends nothing
     /// more, and drops what comes until the stream's end. Then it is `Closed`.
     Failed,
     /// The peer has closed, or the link has failed, perhaps because memory was refused. It is over for good.
@@ -31,22 +31,22 @@ pub enum Received {
 /// The part of a connection that sends what may leave. Each frame goes out as one message. A caller that has this alone can neither
 /// read the connection nor close it. No call waits.
 ///
-/// A link may tell what was sent: then contracts see a list of the messages, to which only a send that answers Ok adds one. It may
-/// tell what was received: then they see all the bytes that reads gave, to which only a read adds. It may also tell what a refusal
-/// leaves, by its fault: then nobody can take one fault for another. And it may tell what a flush does.
+/// A link may show what was sent: then contracts see a list of the messages, to which only a send that answers Ok adds one. It may
+/// show what was received: then they see all the bytes that reads gave, to which only a read adds. It may also show what a refusal
+/// leaves, by its fault: then nobody can take one fault for another. And it may show what a flush does.
 pub trait Outgoing {
     ghost use Rattle.ws_core.specs.declared.fault.LinkFault.{LinkFault};
 
-    /// The messages that were sent, if the link tells them.
+    /// The messages that were sent, if the link shows them.
     ghost sent: { Self → Option (List (List ℕ)) } = { λ _. None };
 
-    /// The bytes that were received, if the link tells them.
+    /// The bytes that were received, if the link shows them.
     ghost received: { Self → Option (List ℕ) } = { λ _. None };
 
-    /// What a refusal with that fault leaves, if the link tells it: the link before the call, and after it.
+    /// What a refusal with that fault leaves, if the link shows it: the link before the call, and after it.
     ghost refuses: { Self → Self → LinkFault → Type 0 } = { λ _ _ _. ⊤ };
 
-    /// What a flush does, if the link tells it: the link before the call, and after it.
+    /// What a flush does, if the link shows it: the link before the call, and after it.
     ghost flushes: { Self → Self → Type 0 } = { λ _ _. ⊤ };
 
     /// Whether the stream has not taken all that it was last offered.
@@ -80,12 +80,12 @@ pub trait Outgoing {
         ensures { result ≡ is_held_up self.now };
 }
 
-/// A connection to one client, which carries one STOMP stream each way. A link may tell what a ping does, and how much it keeps.
+/// A connection to one client, which carries one STOMP stream each way. A link may show what a ping does, and how much it keeps.
 pub trait Link: Outgoing {
-    /// What a ping that is Ok does, if the link tells it: the link before the call, and after it.
+    /// What a ping that is Ok does, if the link shows it: the link before the call, and after it.
     ghost pings: { Self → Self → Type 0 } = { λ _ _. ⊤ };
 
-    /// That a link may say that it keeps so many bytes. One that doesn't tell this keeps none.
+    /// That a link may answer that it keeps that many bytes. One that doesn't show this keeps none.
     ghost keeps: { Self → ℕ → Type 0 } = { λ _ bytes. bytes ≡ 0 };
 
     /// Reads one message, or as much of it as there is. A link that was ended drops what comes, until the stream's end. A link that
@@ -114,7 +114,7 @@ pub trait Link: Outgoing {
         ensures { keeps self.now result };
 
     /// Says the close with that reason, after all that was sent, as far as the stream takes it; the rest leaves by later calls. From
-    /// then on the link sends nothing, and `receive` hears the peer's close. A link that has answered `Failed` says nothing more and
+    /// then on the link sends nothing, and `receive` reads the peer's close. A link that has answered `Failed` sends nothing more and
     /// stays as it is: that is Ok. `Memory` leaves the link as it was. `Gone` says that it was ended or over, or that its stream
     /// failed.
     fn end(&mut self, reason: CloseReason) -> Result<(), LinkFault>

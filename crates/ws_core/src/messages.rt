@@ -24,8 +24,8 @@ use websocket::error::ProtocolError;
 // How many bytes are dropped at most after a close.
 const DROPPED_BYTES: u64 = 16_777_216;
 
-// Reads once, and says what came for the STOMP stream. A peer that closes is answered, and one that breaks the protocol is sent the
-// reason (RFC 6455, section 7.1.7). Then it also says whether the stream has taken all of that.
+// Reads once, and answers what came for the STOMP stream. A peer that closes is answered, and one that breaks the protocol is sent the
+// reason (RFC 6455, section 7.1.7). Then it also answers whether the stream has taken all of that.
 pub fn hear<S: Read + Write + Drop>(
     alloc: Global,
     socket: &mut WebSocket<S, NoMask>,
@@ -53,7 +53,7 @@ pub fn hear<S: Read + Write + Drop>(
     }
 }
 
-// A link that has said its last, as far as the stream takes it.
+// A link that has sent its last, as far as the stream takes it.
 fn said(all: Result<bool, Error>, held_up: &mut bool) -> Received
     ensures ok { IfOk all (λ all. (result ≡ Received.Failed) × (held_up.new ≡ not all)) }
     ensures err { OnErr all ((result ≡ Received.Closed) × (held_up.new ≡ held_up.old)) }
@@ -87,7 +87,7 @@ pub fn hear_close<S: Read + Write + Drop>(socket: &mut WebSocket<S, NoMask>) -> 
     }
 }
 
-// What a read came to whose bytes are dropped. After so many of them the link is over. A read that was interrupted counts as a byte.
+// What a read came to whose bytes are dropped. After `DROPPED_BYTES` the link is over. A read that was interrupted counts as a byte.
 pub fn count_dropped(read: io::Result<usize>, dropped: &mut u64) -> Received
     ensures { Counts dropped.old dropped.new result }
 {
@@ -156,7 +156,7 @@ fn vec_of(alloc: Global, bytes: Bytes) -> Result<Vec<u8>, AllocError>
     }
 }
 
-// Whether the stream only has nothing to give yet. `TimedOut` says something else. A read first sends what waits, such as the answer
+// Whether the stream only has nothing to give yet. `TimedOut` means something else. A read first sends what waits, such as the answer
 // to a ping, and the peer took nothing of it for as long as it was given.
 fn is_wait(error: &Error) -> bool
     ensures { IsTrue result → IsIo error.now }

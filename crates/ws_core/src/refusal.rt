@@ -10,7 +10,7 @@ use websocket::handshake::HandshakeError;
 #[derive(Clone, Copy)]
 pub enum Refusal {
     /// 400: its head is no request's, it has no Host or two, its key is missing or not of 16 bytes, its key or its version stands
-    /// there twice, or it says that a body follows in pieces.
+    /// there twice, or it announces a body in pieces.
     Malformed,
     /// 400: it offers only other subprotocols, such as `v10.stomp` and `v11.stomp`.
     OtherProtocol,
@@ -30,7 +30,7 @@ pub enum Refusal {
 
 impl Refusal {
     /// What the client is sent: a response of HTTP/1.1 with a short text, after which the connection is closed. The answer to a HEAD has no
-    /// text, but says how long it would be (RFC 9110, section 9.3.2).
+    /// text, but has the length that it would have (RFC 9110, section 9.3.2).
     pub fn response(self, alloc: Global, is_head: bool) -> Result<String, AllocError>
         ensures { IfOk result (λ text. string_bytes text ≡ refusal_bytes is_head self) }
     {
@@ -67,7 +67,7 @@ impl Refusal {
         }
     }
 
-    // The fields that say how to go on.
+    // The fields with which the client may try again.
     fn further_fields(self) -> &'static str
         ensures { result.now ≡ further_fields self }
     {
@@ -109,7 +109,7 @@ impl Refusal {
     }
 }
 
-// The refusal that says what a request lacks.
+// The refusal of what a request lacks.
 pub fn refusal_of(lacking: HandshakeError) -> Refusal
     ensures { result ≡ refusal_of lacking }
 {

@@ -4,8 +4,8 @@ ghost use Rattle.std.specs.Prelude.{◌≡◌, ℕ};
 
 use std::io;
 
-/// A stream that can be brought to its end by a caller that shares it. No contract sees what that does: a stream that tells contracts
-/// what it has to give, or what it holds, is to tell the same afterwards.
+/// A stream that can be brought to its end by a caller that shares it. No contract sees what that does: a stream that shows contracts
+/// what it has to give, or what it holds, is to show the same afterwards.
 pub trait Ending {
     /// How many bytes came for its reads in all, if it counts them.
     ghost count_given: { Self → ℕ } = { λ _. 0 };

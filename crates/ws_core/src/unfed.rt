@@ -7,7 +7,7 @@ use std::alloc::{AllocError, Global};
 use std::marker::Model;
 use std::mem;
 
-/// How many bytes of a message a link gives at a time. A session may find some 50 frames in so many, and nobody else has a turn
+/// How many bytes of a message a link gives at a time. A session may find some 50 frames in them, and nobody else has a turn
 /// meanwhile.
 const PIECE_BYTES: usize = 1_024;
 

@@ -28,9 +28,9 @@ use tungstenite::{Bytes, Error, Message, NoMask, Role, WebSocket, WebSocketConfi
 ///
 /// A message is given in pieces of 1,024 bytes, one a call: the next message is read once all are.
 ///
-/// A link drops what comes after the peer's close, and after the close that tells a peer that it broke the protocol. Its stream's writing
+/// A link drops what comes after the peer's close, and after the close of a peer that broke the protocol. Its stream's writing
 /// side is shut once all is written. It drops bytes up to the stream's end, but no more than 16,777,216 (RFC 6455, section 7.1.1). For a
-/// system resets a connection that is closed before all was read, and then the peer may never hear why.
+/// system resets a connection that is closed before all was read, and then the peer may never read why.
 ///
 /// A message may have 131,072 bytes, and so may a frame of it. A link is `Gone` if a message would make over 1,048,576 bytes wait to be
 /// sent. From 65,536 on, a send offers them to the stream, so that many messages may be sent before a flush.
@@ -346,7 +346,7 @@ impl<S: Read + Write + Ending + Drop> WsLink<S> {
         }
     }
 
-    // Has what was said go to the stream, shuts that once nothing waits any more, and drops what comes.
+    // Has what was sent go to the stream, shuts that once nothing waits any more, and drops what comes.
     fn leave(&mut self) -> Received
         requires { HasFailed self.old.phase }
         ensures leaves { Leaves S.contents self.old self.new result }
