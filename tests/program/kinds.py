@@ -27,6 +27,8 @@ ORIGIN = "https://rooms.example"
 LEAST_BUDGET, FEW = 16_777_216, 300
 # A client that opens no session, and one that takes nothing, is given up after so many seconds; one that doesn't answer a close, after ten.
 GIVEN_UP, UNANSWERED = 60, 10
+# One that has sent half of its handshake may say nothing for so long.
+HALF = 20
 # None is given up a second before that; and each was told within so many after it.
 EARLY, LATE = 1, 6
 # So many bytes of a subscriber's messages are more than sockets keep, and less than an outbox does.
@@ -227,6 +229,16 @@ def given_up(program, checks):
         checks.same("and nobody else is given up", server.count(r"gave up (\d+)"), sum(count for _, count, _, _ in SLOW))
 
 
+def half_asked(program, checks):
+    """a client that sends half of its handshake"""
+    form = r"gave up (\d+) clients that opened no session in time"
+    with told(program) as server, socket.create_connection(("127.0.0.1", server.port), timeout=5) as half:
+        half.sendall(handshake(server.port)[:40])
+        time.sleep(HALF - EARLY)
+        checks.same("half a handshake is waited for", server.count(form), 0)
+        checks.same("and then told", server.await_count(form, 1, EARLY + LATE), 1)
+
+
 def left_out(program, checks):
     """lines that nobody reads: those over 64 are counted, and what was left out is told once somebody reads again"""
     # A small journal is compacted often, and each time has a line.
@@ -284,11 +296,13 @@ def main():
     program = scenario.words_of(__doc__).parse_args().program
     scenario.take_descriptors()
     checks = scenario.Checks()
-    slow = threading.Thread(target=tried, args=(given_up, program, checks))
-    slow.start()
+    slow = [threading.Thread(target=tried, args=(part, program, checks)) for part in (given_up, half_asked)]
+    for one in slow:
+        one.start()
     for part in (refused_requests, full, no_descriptors, most_memory, left_out, small_journal):
         tried(part, program, checks)
-    slow.join()
+    for one in slow:
+        one.join()
     return checks.status()
 
 
