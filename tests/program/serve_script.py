@@ -9,7 +9,8 @@ Needs Linux and Python 3 alone; the gate does not run it.
 - SIGTERM ends it with status 143, SIGINT with 130, SIGHUP with 129, at whatever moment, and no server of it is left.
 - Of two first starts at once on one file one serves, the other ends since it is locked, and neither replaces the other's journal.
 - What a killed first start has left is not taken for a journal, nor does it stand in the way of the next start.
-- What the server writes to standard error is there at once, and the options are passed on.
+- What the server writes to standard error is there at once, and the options are passed on. It has the settings of the C library, and as many
+  descriptors as there may be.
 - Nothing of it stays in the temporary folder.
 - A build that fails or is broken off ends it, and with --proved only a proved program serves.
 - It goes on if nobody reads what is logged any more, serves though standard error was full before, and ends in good order if a signal comes
@@ -24,6 +25,7 @@ import os
 import pathlib
 import random
 import re
+import resource
 import select
 import shutil
 import signal
@@ -38,6 +40,8 @@ from lib.stomp_client import Client
 
 SERVE = TOP / "bin" / "serve"
 STATUSES = {signal.SIGTERM: 143, signal.SIGINT: 130, signal.SIGHUP: 129}
+# From these sizes on the C library gives memory back at once.
+TUNABLES = "glibc.malloc.mmap_threshold=131072:glibc.malloc.trim_threshold=4194304"
 # What a running server tells has its moment in front.
 EVENT = re.compile(r"stompd: \d{4}-\d\d-\d\dT")
 # The version of the program, if a file beside the program has it.
@@ -249,8 +253,9 @@ def a_killed_first_start(checks):
 
 def what_the_server_logs(checks):
     file = new_file(checks)
-    words, line = file.parent / "words", "stompd: compacted: 3120 bytes won in 2 ms\n"
+    words, given, line = file.parent / "words", file.parent / "given", "stompd: compacted: 3120 bytes won in 2 ms\n"
     program = checks.stand_in(f"""echo "$*" > "{words}"
+echo "$GLIBC_TUNABLES" "$(ulimit -n)" > "{given}"
 printf '{line[:-1]}\\n' >&2""")
     options = "--origin http://here:1 --threads 3 --memory 16777216 --origin null"
     start = Start(program, "--new", file, free_port(), *options.split())
@@ -258,6 +263,8 @@ printf '{line[:-1]}\\n' >&2""")
     checks.check("and it listens then", start.listens())
     passed = f" --until-eof --new 536870944 {options}\n"
     checks.check("the options are passed on", words.read_text().endswith(passed), words.read_text())
+    most = resource.getrlimit(resource.RLIMIT_NOFILE)[1]
+    checks.same("it has the C library's settings, and all descriptors that it may have", given.read_text(), f"{TUNABLES} {most}\n")
     checks.same("it ends as ever", start.end(signal.SIGTERM)[0], 143)
     fault = checks.stand_in("echo 'stompd: J3 device failed' >&2; exit 1")
     checks.same("a server that fails ends it", Start(fault, file, free_port()).end(), (1, "stompd: J3 device failed\n"))
