@@ -138,7 +138,7 @@ def waits_end(engine, checks):
         checks.same("a client that connects closes at once", run("return outcome(it.close())"), "resolved")
     run("globalThis.it = open({ answerTimeout: Infinity })")
     checks.check("where nobody listens the connection is lost at once", run("return soon(() => it.states.some(([state]) => state == 'lost'), 5)"))
-    run("await it.close()")
+    checks.same("what waits at a close is unsent", run("const waits = outcome(it.send('/topic/room', 'x')); await it.close(); return waits"), "unsent")
     with opened(engine, "answerTimeout: 300") as (fake, link):
         checks.same("an idle link is asked", [frame.command for frame in link.take_all(2)], ["BEGIN", "ABORT"])
         link.say("RECEIPT", [("receipt-id", link.head.decode().partition("receipt:")[2].partition("\n")[0])])

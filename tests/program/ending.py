@@ -6,12 +6,13 @@
 A server that is asked to end at once tells so too, and one that ends by a fault ends though nobody reads what it tells. Each client hears 1001, also one that has no session yet and one to which much is still to be
 written; the server ends with status 0 within five seconds; and what was receipted is there when it is started again. Clients that answer no close and
 take nothing do not keep it. What waits for a slow disk is stored before the end;
-with --few this is not tried, and no `cc` needed.
+with --few this is not tried if there is no `cc`.
 """
 
 import fcntl
 import os
 import pathlib
+import shutil
 import subprocess
 import sys
 import tempfile
@@ -237,10 +238,13 @@ def full_ring(program, journal, checks):
 
 def main():
     words = scenario.words_of(__doc__)
-    words.add_argument("--few", action="store_true", help="without the slow disk")
+    words.add_argument("--few", action="store_true", help="without the slow disk if there is no cc")
     given = words.parse_args()
     program, checks = given.program, scenario.Checks()
-    for part in (idle, at_once, unread, unread_fault, at_work, *(() if given.few else (full_ring,))):
+    has_slow_disk = not given.few or shutil.which("cc") is not None
+    if not has_slow_disk:
+        checks.tell("a slow disk is not tried: there is no cc")
+    for part in (idle, at_once, unread, unread_fault, at_work, *((full_ring,) if has_slow_disk else ())):
         with tempfile.TemporaryDirectory(prefix="ending-") as folder:
             journal = pathlib.Path(folder) / "journal"
             subprocess.run([program, "format", "--sparse", journal, JOURNAL_BYTES], check=True)

@@ -131,10 +131,15 @@ def a_life(program, folder, checks):
         wrong.send("UNSUBSCRIBE", [("id", "unknown")])
         checks.check("an ERROR came", "E10" in wrong.receive().headers["message"])
         checks.same("it is counted by its code", server.awaited("errors"), {"kind": "errors", "code": 10, "count": 1})
+        keeper = Client(server.port).connect()
+        keeper.publish_all("/queue/kept", 7 * ["kept"])
         server.process.stdin.close()
         checks.same("it ends in good order", server.wait(), 0)
         checks.same("its last line says that", json.loads(server.lines[-1])["kind"], "ending")
         by_the_table("a life", server, checks)
+    with serving(program, journal, "--until-eof") as server:
+        checks.check("it listens again", server.listens())
+        checks.same("its start says how many messages are held", (server.awaited("started") or {}).get("messages"), 7)
 
 
 def nearly_full(program, folder, checks):

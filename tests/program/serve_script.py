@@ -266,6 +266,10 @@ printf '{line[:-1]}\\n' >&2""")
     most = resource.getrlimit(resource.RLIMIT_NOFILE)[1]
     checks.same("it has the C library's settings, and all descriptors that it may have", given.read_text(), f"{TUNABLES} {most}\n")
     checks.same("it ends as ever", start.end(signal.SIGTERM)[0], 143)
+    bare = checks.stand_in(f"""echo "$*" > "{words}"
+exit 7""")
+    checks.same("without words it ends as its program does", Start(bare).end()[0], 7)
+    checks.same("which had the file and the port of the first lines of the script", words.read_text(), "serve rooms.journal 8080 --until-eof\n")
     fault = checks.stand_in("echo 'stompd: J3 device failed' >&2; exit 1")
     checks.same("a server that fails ends it", Start(fault, file, free_port()).end(), (1, "stompd: J3 device failed\n"))
 

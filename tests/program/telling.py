@@ -27,7 +27,7 @@ from lib.wire import handshake
 # `stompd: `, the moment (RFC 3339, section 5.6, in UTC), and what happened.
 LINE = re.compile(r"stompd: (\d{4}-\d\d-\d\dT\d\d:\d\d:\d\dZ) (.*)\n")
 JOURNAL_BYTES = 67_108_896
-FEW = 300
+FEW, ELSEWHERE = 300, 20
 
 
 class Server:
@@ -133,6 +133,9 @@ def names(program, checks):
     with serving(program) as server:
         client = Client(server.port).connect("secret\nstompd: forged")
         client.subscribe("i", "/queue/secret")
+        # Fewer wait in these: the line names where most do.
+        client.publish_all("/queue/a-few", ELSEWHERE * ["few"])
+        client.publish_all("/queue/z-few", ELSEWHERE * ["few"])
         with contextlib.suppress(Closed, ConnectionError):
             for number in range(4_200):
                 client.send("SEND", [("destination", "/queue/full-secret"), ("receipt", "secret")], "secret")
@@ -144,7 +147,7 @@ def names(program, checks):
         checks.same("once that nearly all is held", len(near), 1)
         form = r"nearly full: (\d+) of 4096 messages held, (\d+) of 16777216 bytes, (\d+) of them in queue /queue/full-secret \(E12 is near\)"
         found = re.fullmatch(form, near[0]) if near else None
-        checks.check("as soon as nine tenths are, and where", found and 3_686 <= int(found[1]) <= 4_096 and found[3] == found[1], near)
+        checks.check("as soon as nine tenths are, and where most are", found and 3_686 <= int(found[1]) <= 4_096 and int(found[3]) == int(found[1]) - 2 * ELSEWHERE, near)
         checks.check("each line is one of ours", all(LINE.fullmatch(line) for _, line in server.lines), server.lines)
         late = [by_the_clock(when) - moment_of(line) for when, line in server.lines if LINE.fullmatch(line)]
         checks.check("and its moment is the clock's", all(0 <= it <= 2 for it in late), (late, server.lines))
