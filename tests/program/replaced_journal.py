@@ -11,7 +11,7 @@ The file is moved away, removed, replaced by its copy, renamed over, overwritten
 - the file at the path is as it was put there.
 
 A copy that is older than the server's last write is noticed, be its header the same or not. So is a file behind a link, and a link that leads
-elsewhere.
+elsewhere. What is sent right after it has no receipt.
 """
 
 import concurrent.futures
@@ -274,6 +274,34 @@ def header_before_a_compaction(program, folder, checks):
     server.close()
 
 
+def header_at_rest(program, folder, checks):
+    """One byte of the header is changed, and nothing is written after that."""
+    server = Server(program, folder, False)
+    with open(server.journal, "r+b") as file:
+        file.seek(31)
+        file.write(b"x")
+    status, line, _ = server.end()
+    checks.same("a header that was changed at rest: status and last line", (status, line), (1, f"stompd: J3 device failed: {OVERWRITTEN}"))
+    server.close()
+
+
+def sent_after_it(program, folder, checks, loses):
+    """The next block is asked for at once, before the server looks by itself: it is not receipted."""
+    what = f"{loses.__name__.replace('_', ' ')}, and a SEND at once"
+    server = Server(program, folder, False)
+    sender = Client(server.broker.port, timeout=30).connect()
+    sender.publish(QUEUE, "before")
+    loses(server)
+    try:
+        heard = sender.publish(QUEUE, "after")
+    except (Closed, ConnectionError):
+        heard = None
+    checks.same(f"{what}: it has no receipt", heard, None)
+    checks.same(f"{what}: the server ends by itself", server.end()[0], 1)
+    sender.close()
+    server.close()
+
+
 def nothing_lost(program, folder, checks):
     """Files come and go beside the journal, it gets a second name, and its times and mode change:
     the server goes on."""
@@ -294,7 +322,8 @@ def nothing_lost(program, folder, checks):
 def main():
     program, checks = built_program(words_of(__doc__, BUILT).parse_args()), Checks()
     tasks = [(lose, loss, is_busy) for loss in LOSSES for is_busy in (False, True) if not (is_busy and loss[0] in AT_REST)]
-    tasks += [(link_led_elsewhere,), (header_before_a_compaction,), (nothing_lost,)]
+    tasks += [(link_led_elsewhere,), (header_before_a_compaction,), (header_at_rest,), (nothing_lost,)]
+    tasks += [(sent_after_it, loses) for loses in (removed, renamed_over, truncated, overwritten_by_a_backup)]
     with tempfile.TemporaryDirectory(prefix="replaced-") as name:
         top = pathlib.Path(name).resolve()
 
