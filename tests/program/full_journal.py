@@ -95,11 +95,13 @@ def one_at_a_time(program, checks):
         checks.same("it logs why it serves no more", logged[-1], FULL)
         checks.check("and nothing else but its start and what compactions won", all(any(word in line for word in LOGGED) for line in logged[:-1]), logged)
         checks.same("and when it opens the journal again", next_line(server.process.stderr), b"stompd: opening the journal again in 1 s, which makes room\n")
+        paused = time.monotonic()
         checks.check("messages were receipted before", len(receipted) >= 20, len(receipted))
         checks.same("who sends is closed with 1001", code, 1001)
         checks.same("who is silent is closed with 1001", idle.to_the_end(), ([], 1001))
         checks.tell(f"{len(receipted)} messages of some 1,000 bytes were receipted, in an area of 65,536 bytes")
         checks.check("it listens again, at the same port", server.listens())
+        checks.check("after that second", time.monotonic() - paused >= 0.9, time.monotonic() - paused)
         reader = Client(server.port).connect()
         found = [frame.body for frame in reader.subscribe("r", "/queue/full")]
         checks.check("and has each of them once, in order", found[: len(receipted)] == receipted, len(found))
@@ -109,8 +111,10 @@ def one_at_a_time(program, checks):
         checks.same("the next sender is closed with 1001", code, 1001)
         lines_until(server.process.stderr, FULL)
         checks.same("and the next pause is twice as long", next_line(server.process.stderr), b"stompd: opening the journal again in 2 s, which makes room\n")
+        ended = time.monotonic()
         server.process.stdin.close()
         checks.same("the end of its input breaks the pause off, with status 0", server.process.wait(timeout=PATIENCE), 0)
+        checks.check("and at once", time.monotonic() - ended < 1, time.monotonic() - ended)
 
 
 def all_at_once(program, checks):
