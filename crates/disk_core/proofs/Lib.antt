@@ -1,4 +1,5 @@
 pub mod Epochs
+pub mod Events
 pub mod Headers
 pub mod Overwritten
 pub mod Pairs

@@ -1,3 +1,4 @@
+pub mod Asking
 pub mod Calls
 pub mod Epochs
 pub mod FailOnce
@@ -14,3 +15,4 @@ pub mod Naming
 pub mod Pairs
 pub mod Publish
 pub mod Spans
+pub mod Syncing

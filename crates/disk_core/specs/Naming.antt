@@ -1,5 +1,6 @@
 -- What a look at a file's path and folder shows of the path later on.
-use Rattle.std.specs.Prelude.{◌≡◌, ◌-◌, ℕ, ◌<◌, ◌<ℤ◌, ◌⊎◌, Bool, true, false, Option, Some, None}
+use Rattle.std.specs.Prelude.{◌≡◌, ◌-◌, ℕ, ◌<◌, ◌<ℤ◌, ◌⊎◌, ◌==◌, Bool, true, false, Option, Some, None, List, codes, length, if◌then◌else◌}
+use Rattle.std.specs.Path.{path_parent}
 use Rattle.std.specs.declared.io.ErrorKind.{ErrorKind}
 use Rattle.std.specs.declared.io.ErrorKind.TheVariants as kinds
 use Rattle.disk_core.specs.declared.naming.Look.{Look}
@@ -40,3 +41,7 @@ abbrev pub says_missing : ErrorKind → Bool
 says_missing kinds.NotFound = true
 says_missing kinds.NotADirectory = true
 says_missing _ = false
+
+-- the folder that has a name: the name's parent, and the current one for a bare name or the root
+abbrev pub folder_of : List ℕ → List ℕ
+folder_of path = elim (path_parent path) as (λ o. List ℕ) [ None ↦ codes "." | Some folder ↦ if length folder == 0 then codes "." else folder ]

@@ -5,10 +5,11 @@ ghost use Rattle.disk_core.specs.declared.file.TheConstants.{SLACK_AT, SLACK_BYT
 
 use crate::loss::{HEADER_BYTES, Known, Node, judge, remember, touches_header};
 use crate::naming::{Naming, Place, folder_of};
+use crate::open_file::OpenFile;
+use crate::syncing::{SyncKept, sync_by};
 use crate::{DeviceCause, DeviceFault, Disk};
 use std::alloc::Global;
 use std::fs::{File, OpenOptions, TryLockError};
-use std::io::{Seek, SeekFrom};
 use std::os::unix::fs::{FileExt, OpenOptionsExt};
 use std::rt::Files;
 use std::{error, fmt, io};
@@ -70,13 +71,11 @@ pub struct FileAt<'a> {
 /// opening or written last. `look` looks for all of these. The cause of the first failure is kept.
 #[derive(Drop)]
 pub struct FileDisk {
-    file: File,
+    open: OpenFile,
     known: Known,
     failures: u64,
     cause: Option<DeviceCause>,
-    // Whether no bytes were written back since the file was opened.
-    is_stale: bool,
-    naming: Naming,
+    kept: SyncKept,
 }
 
 /// From which byte of a file on some are written back by the first sync, and how many. In a journal's header they follow the selector, and are
@@ -86,7 +85,7 @@ pub const SLACK_AT: u64 = 17;
 pub const SLACK_BYTES: u64 = 15;
 
 // The bytes of the header that are written back.
-fn slack_of(header: &[u8; HEADER_BYTES]) -> &[u8]
+pub(crate) fn slack_of(header: &[u8; HEADER_BYTES]) -> &[u8]
     ensures { result.now ≡ take SLACK_BYTES (drop SLACK_AT header.now) }
 {
     let (at, count) = (SLACK_AT as usize, SLACK_BYTES as usize);
@@ -173,12 +172,11 @@ impl FileDisk {
         ensures { (file_failures result ≡ 0) × (file_size result ≡ known.size) × (file_cause result ≡ None) }
     {
         FileDisk {
-            file,
+            open: OpenFile { file, naming },
             known,
             failures: 0,
             cause: None,
-            is_stale,
-            naming,
+            kept: SyncKept::new(is_stale),
         }
     }
 
@@ -192,21 +190,7 @@ impl FileDisk {
     /// Looks whether the path still names the file, and whether the file has all of its bytes, the header that was read at the opening or
     /// written last, and the first bytes of the last write. The cause if not, or if the system refuses a look. It is counted as no failure.
     pub fn look(&self) -> Result<(), DeviceCause> {
-        let mut found = self.known.expected();
-        found.named = self.naming.look(&self.file, self.known.node)?;
-        found.size = self.file.metadata()?.len();
-        if self.known.has_header() {
-            self.file.read_exact_at(&mut found.header, 0)?;
-        }
-        self.read_last(&mut found.last)?;
-        judge(&found, &self.known)
-    }
-
-    // Reads the first bytes of the last write, as they are now.
-    fn read_last(&self, last: &mut [u8; HEADER_BYTES]) -> io::Result<()> {
-        let count = self.known.last_count.min(HEADER_BYTES);
-        self.file
-            .read_exact_at(&mut last[..count], self.known.last_at)
+        judge(&self.open.found(&self.known)?, &self.known)
     }
 
     /// Writes bytes where the file may have no room yet, and tells what the system refuses. All else is as with `write_at`.
@@ -214,52 +198,25 @@ impl FileDisk {
         ensures size { file_size self.new ≡ file_size self.old }
         ensures failures { file_failures self.new ≡ file_failures self.old }
     {
-        self.file.write_all_at(bytes, at)
-    }
-
-    // Writes back and syncs, and then looks whether the file still has all of its bytes, and whether its path still names it.
-    fn sync_and_look(&mut self) -> Result<(), DeviceCause>
-        ensures { IsSameFile self.old self.new }
-    {
-        self.write_slack_back()?;
-        self.file.sync_data()?;
-        let mut found = self.known.expected();
-        found.size = self.file.seek(SeekFrom::End(0))?;
-        found.named = self.naming.named(&self.file, self.known.node)?;
-        judge(&found, &self.known)
-    }
-
-    // Writes some bytes of the header back as they are, unless that was done since the file was opened.
-    fn write_slack_back(&mut self) -> Result<(), DeviceCause>
-        ensures { IsSameFile self.old self.new }
-    {
-        if self.is_stale {
-            self.compare(true)?;
-            self.file
-                .write_all_at(slack_of(&self.known.header), SLACK_AT)?;
-            self.is_stale = false;
-        }
-        Ok(())
+        self.open.file.write_all_at(bytes, at)
     }
 
     // Writes, after a look at what was written before.
     fn write_known(&mut self, at: u64, bytes: &[u8]) -> Result<(), DeviceCause>
         ensures { IsSameFile self.old self.new }
     {
-        self.compare(touches_header(at, self.known.size))?;
-        self.file.write_all_at(bytes, at)?;
+        self.open
+            .compare(&self.known, touches_header(at, self.known.size))?;
+        self.open.file.write_all_at(bytes, at)?;
         self.known.note(at, bytes);
         Ok(())
     }
 
-    // Compares the bytes of the last write with what they read as now, and the header if it is to be.
-    fn compare(&self, with_header: bool) -> Result<(), DeviceCause> {
-        let mut found = self.known.expected();
-        self.read_last(&mut found.last)?;
-        if with_header {
-            self.file.read_exact_at(&mut found.header, 0)?;
-        }
-        judge(&found, &self.known)
+    // Makes what was written stable, and looks whether the file is still whole.
+    fn sync_and_look(&mut self) -> Result<(), DeviceCause>
+        ensures { IsSameFile self.old self.new }
+    {
+        sync_by(&mut self.open, &self.known, &mut self.kept)
     }
 }
 
@@ -303,7 +260,7 @@ impl Disk for FileDisk {
     }
 
     fn read_at(&mut self, at: u64, into: &mut [u8]) -> Result<(), DeviceFault> {
-        let outcome = as_cause(self.file.read_exact_at(into, at));
+        let outcome = as_cause(self.open.file.read_exact_at(into, at));
         remember(outcome, &mut self.cause, &mut self.failures)
     }
 

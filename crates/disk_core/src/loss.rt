@@ -41,12 +41,16 @@ pub struct Node {
 }
 
 impl Node {
+    /// The file of that number on that device.
+    pub fn new(device: u64, inode: u64) -> Node
+        ensures { (result.device ≡ device) × (result.inode ≡ inode) }
+    {
+        Node { device, inode }
+    }
+
     // The file that this was read of.
     pub(crate) fn of(there: &Metadata) -> Node {
-        Node {
-            device: there.dev(),
-            inode: there.ino(),
-        }
+        Node::new(there.dev(), there.ino())
     }
 
     fn is_same(self, other: Node) -> bool
@@ -79,8 +83,8 @@ pub struct Found {
 }
 
 impl Known {
-    // Nothing was written yet.
-    pub(crate) fn new(node: Node, size: u64, header: [u8; HEADER_BYTES]) -> Known
+    /// A file of that size, with that header. Nothing was written yet.
+    pub fn new(node: Node, size: u64, header: [u8; HEADER_BYTES]) -> Known
         ensures file { (result.node ≡ node) × (result.size ≡ size) × (result.header ≡ header) }
         ensures last { result.last_count ≡ 0 }
     {

@@ -3,9 +3,9 @@
 //! A look at the file itself makes the next sync dear: since Linux 6.13 a file whose times were read gets new ones with its next write,
 //! and the sync writes them too.
 ghost use Rattle.std.specs.Prelude.{◌≡◌, ◌-◌, ◌↔◌, IsTrue, MatchBool};
-ghost use Rattle.disk_core.specs.Naming.{Holds, IsBefore, IsCounted, IsOf, StandsFor, says_missing};
+ghost use Rattle.disk_core.specs.Naming.{Holds, IsBefore, IsCounted, IsOf, StandsFor, folder_of, says_missing};
 
-use crate::loss::{Node, is_named};
+use crate::loss::Node;
 use std::alloc::{AllocError, Global};
 use std::fs::{File, Metadata, metadata, symlink_metadata};
 use std::io;
@@ -16,18 +16,25 @@ use std::rt::Files;
 
 /// A time that a file system has noted, in seconds and nanoseconds.
 #[derive(Clone, Copy, Drop)]
-struct Noted {
+pub struct Noted {
     seconds: i64,
     nanoseconds: i64,
 }
 
 impl Noted {
-    // When the content of a file or folder was last changed.
-    fn of(there: &Metadata) -> Noted {
+    /// That many seconds and nanoseconds.
+    pub fn new(seconds: i64, nanoseconds: i64) -> Noted
+        ensures { (result.seconds ≡ seconds) × (result.nanoseconds ≡ nanoseconds) }
+    {
         Noted {
-            seconds: there.mtime(),
-            nanoseconds: there.mtime_nsec(),
+            seconds,
+            nanoseconds,
         }
+    }
+
+    // When the content of a file or folder was last changed.
+    pub(crate) fn of(there: &Metadata) -> Noted {
+        Noted::new(there.mtime(), there.mtime_nsec())
     }
 
     fn is_same(self, other: Noted) -> bool
@@ -46,7 +53,7 @@ impl Noted {
 
 // The last look at a path, as far as it still shows that the path names the file.
 #[derive(Drop)]
-struct Look {
+pub struct Look {
     // The folder's last change, if the path was seen to name the file after it.
     seen: Option<Noted>,
     // How many more calls it may stand for.
@@ -72,7 +79,7 @@ impl Look {
 
     // A look after the folder had last changed, at a path that names the file or doesn't. The file was written at that time. A change in the
     // moment of the writing may be followed by another with the same time.
-    fn of(changed: Noted, written: Noted, is_named: bool) -> Look
+    pub(crate) fn of(changed: Noted, written: Noted, is_named: bool) -> Look
         ensures { IsOf changed written is_named result }
     {
         let seen = if is_named && changed.is_before(written) {
@@ -85,7 +92,7 @@ impl Look {
 }
 
 // Whether the last look, if there was one, stands for one more call, in which the folder had last changed at that time.
-fn stands(last: &mut Option<Look>, changed: Noted) -> bool
+pub(crate) fn stands(last: &mut Option<Look>, changed: Noted) -> bool
     ensures stands { IsTrue result ↔ StandsFor last.old changed }
     ensures counted { IsCounted result last.old last.new }
 {
@@ -133,7 +140,6 @@ pub(crate) struct Naming {
     place: Option<Place>,
     // The folder, unless it can't be read, or the file is elsewhere and a link leads there.
     folder: Option<File>,
-    last: Option<Look>,
 }
 
 impl Naming {
@@ -142,7 +148,6 @@ impl Naming {
         Naming {
             place: None,
             folder: None,
-            last: None,
         }
     }
 
@@ -155,23 +160,15 @@ impl Naming {
         Naming {
             place: Some(place),
             folder,
-            last: None,
         }
     }
 
-    /// The file that the path names, as far as the last look doesn't still show that it is this one, which was written since the last call.
-    pub(crate) fn named(&mut self, file: &File, node: Node) -> io::Result<Option<Node>> {
-        let Some(folder) = &self.folder else {
-            return self.look(file, node);
-        };
-        let changed = Noted::of(&folder.metadata()?);
-        if stands(&mut self.last, changed) {
-            return Ok(Some(node));
+    /// When the folder was last changed, if it is watched.
+    pub(crate) fn folder_changed(&self) -> io::Result<Option<Noted>> {
+        match &self.folder {
+            Some(folder) => Ok(Some(Noted::of(&folder.metadata()?))),
+            None => Ok(None),
         }
-        let named = self.look(file, node)?;
-        let written = Noted::of(&file.metadata()?);
-        self.last = Some(Look::of(changed, written, is_named(named, node)));
-        Ok(named)
     }
 
     /// The file that the path names now.
@@ -185,7 +182,9 @@ impl Naming {
 }
 
 /// The folder that has the name, which is the current one for a bare name.
-pub fn folder_of(path: &str) -> &str {
+pub fn folder_of(path: &str) -> &str
+    ensures { result.now ≡ folder_of path.now }
+{
     match Path::new(path).parent() {
         Some(folder) if !folder.as_str().is_empty() => folder.as_str(),
         _ => ".",
