@@ -1,7 +1,8 @@
 //! Messages from a stream.
 
-ghost use Rattle.std.specs.Prelude.{◌≡◌, ◌≢◌, ◌≤◌, [], IfErr, IfOk, IfSome, OnOk, length};
+ghost use Rattle.std.specs.Prelude.{◌≡◌, ◌≢◌, ◌≤◌, ◌↔◌, [], IfErr, IfOk, IfSome, IsTrue, OnOk, length};
 ghost use Rattle.client_socket.specs.Inputs.{IsLineFault, IsNoBody, IsUnsent};
+ghost use Rattle.client_socket.specs.Waits.{IsLong};
 
 use crate::calls::open;
 use crate::web_peer::WebPeer;
@@ -195,12 +196,22 @@ where
 
 /// Whether it was waited so long that pings may not have been answered.
 pub fn is_stale<C: Clock>(clock: &C, began: io::Result<Instant>) -> bool {
-    match began {
-        Ok(began) => match began.elapsed(clock) {
-            Ok(waited) => waited >= Duration::from_secs(IDLE_SECONDS),
-            Err(_) => true,
-        },
-        Err(_) => true,
+    let Ok(began) = began else {
+        return is_long(None);
+    };
+    match began.elapsed(clock) {
+        Ok(waited) => is_long(Some(waited)),
+        Err(_) => is_long(None),
+    }
+}
+
+// The same of how long it was waited, if that is known.
+fn is_long(waited: Option<Duration>) -> bool
+    ensures { IsTrue result ↔ IsLong waited }
+{
+    match waited {
+        Some(waited) => waited >= Duration::from_secs(IDLE_SECONDS),
+        None => true,
     }
 }
 

@@ -1,7 +1,9 @@
 //! How long no message may come.
 
-ghost use Rattle.std.specs.Prelude.{IfErr};
+ghost use Rattle.std.specs.Prelude.{◌≡◌, ◌≤◌, ◌-◌, ◌↔◌, IfErr, IfSome, None, min};
+ghost use Rattle.std.specs.Duration.{as_nanos};
 ghost use Rattle.client_core.specs.Talks.{IsOfPeer};
+ghost use Rattle.client_socket.specs.Waits.{patience_from};
 
 use client_core::Cause;
 use std::thread;
@@ -29,8 +31,21 @@ impl Patience {
     }
 
     /// A message has come: it begins anew. If the system does not tell the time, it goes on.
-    pub fn renew<C: Clock>(&mut self, clock: &C) {
-        if let Ok(now) = Instant::now(clock) {
+    pub fn renew<C: Clock>(&mut self, clock: &C)
+        ensures { self.new.limit ≡ self.old.limit }
+    {
+        let now = match Instant::now(clock) {
+            Ok(now) => Some(now),
+            Err(_) => None,
+        };
+        self.begin_at(now);
+    }
+
+    // It begins at that time, if there is one, and lasts as long as before.
+    fn begin_at(&mut self, now: Option<Instant>)
+        ensures { self.new ≡ patience_from now self.old }
+    {
+        if let Some(now) = now {
             self.since = now;
         }
     }
@@ -45,10 +60,8 @@ impl Patience {
         let Ok(passed) = self.since.elapsed(clock) else {
             return Err(Cause::System);
         };
-        match limit.checked_sub(passed) {
-            Some(left) if left.is_zero() => Err(Cause::Quiet),
-            Some(left) if left < most => Ok(left),
-            Some(_) => Ok(most),
+        match left_of(limit, passed, most) {
+            Some(left) => Ok(left),
             None => Err(Cause::Quiet),
         }
     }
@@ -59,5 +72,17 @@ impl Patience {
     {
         thread::sleep(clock, self.part_of(clock, most)?);
         Ok(())
+    }
+}
+
+// What is left of a limit once so long has passed, or `most` if that is less; nothing once the limit is reached.
+fn left_of(limit: Duration, passed: Duration, most: Duration) -> Option<Duration>
+    ensures none { result ≡ None ↔ as_nanos limit ≤ as_nanos passed }
+    ensures left { IfSome result (λ left. as_nanos left ≡ min (as_nanos limit - as_nanos passed) (as_nanos most)) }
+{
+    match limit.checked_sub(passed) {
+        Some(left) if left.is_zero() => None,
+        Some(left) => Some(left.min(most)),
+        None => None,
     }
 }
