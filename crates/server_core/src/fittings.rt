@@ -15,7 +15,7 @@ use std::alloc::Global;
 use std::net::TcpListener;
 use std::sync::{Arc, Wait};
 use wakeups::{Ending, LogThread, Mailbox, Memory, Wakeups};
-use work_share::Pace;
+use work_share::Costs;
 
 // What asks a server to end, and what tells its operator.
 #[derive(Drop)]
@@ -53,13 +53,13 @@ fn wakeups_of<R: Wait + Clone + Drop>(
     Ok(Wakeups::new(rt, mark, ending, log, bells))
 }
 
-// How fast clients may send. The flusher counts from now on how many listen to each topic.
-fn pace_of(alloc: Global, flusher: &mut ServerFlusher) -> Result<Pace, ServeFault>
+// What commands cost. The flusher counts from now on how many listen to each topic.
+fn costs_of(alloc: Global, flusher: &mut ServerFlusher) -> Result<Costs, ServeFault>
     ensures { flusher.new ≡ flusher.old }
 {
-    let pace = Pace::new(alloc, SEATS)?;
-    flusher.count_audiences(pace.audiences()?);
-    Ok(pace)
+    let costs = Costs::new(alloc, SEATS)?;
+    flusher.count_audiences(costs.audiences()?);
+    Ok(costs)
 }
 
 // What the threads share besides the ring and the origins, and the signals for where clients come in.
@@ -68,7 +68,7 @@ struct Fittings<R> {
     rt: R,
     wakeups: Wakeups<R>,
     memory: Memory,
-    pace: Pace,
+    costs: Costs,
     signals: Signals,
 }
 
@@ -86,12 +86,12 @@ fn fit_out<R: Wait + Clone + Drop>(
     let signals = Signals::new(alloc)?;
     let wakeups = wakeups_of(alloc, rt, &entrance.setups, flusher.mark(), &signals)?;
     let mailboxes = mailboxes_again(alloc, &entrance.mailboxes)?;
-    let pace = pace_of(alloc, flusher)?;
+    let costs = costs_of(alloc, flusher)?;
     Ok(Fittings {
         rt: rt_of_all,
         wakeups,
         memory: Memory::new(entrance.memory, mailboxes),
-        pace,
+        costs,
         signals,
     })
 }
@@ -168,7 +168,7 @@ fn share_all<R: Wait + Clone + Drop>(
         origins,
         wakeups: fittings.wakeups,
         memory: fittings.memory,
-        pace: fittings.pace,
+        costs: fittings.costs,
         desk_bytes: desk_bytes(SEATS as u64, most_clients, area),
     };
     match (shared_by(alloc, shared), acceptor) {

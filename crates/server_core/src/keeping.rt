@@ -93,7 +93,7 @@ impl<'a, R: Wait + Clock + Drop> Service<'a, R> {
     {
         self.count(number, 0);
         let desk = self.mailbox.desk();
-        self.shared.pace.leave(desk, number as u64);
+        drop(self.shared.costs.leave(desk, number as u64));
         self.clients.remove(number);
         self.mailbox.leaves();
     }

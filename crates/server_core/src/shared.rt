@@ -8,7 +8,7 @@ use outbox_core::OutSender;
 use std::sync::Arc;
 use std::time::Clock;
 use wakeups::{ClientWaker, Memory, Wakeups};
-use work_share::Pace;
+use work_share::Costs;
 
 pub(crate) type ServerRing = BrokerRing<OutSender<ClientWaker>>;
 
@@ -23,7 +23,7 @@ pub struct Shared<R> {
     pub(crate) origins: Arc<Vec<Vec<u8>>>,
     pub(crate) wakeups: Wakeups<R>,
     pub(crate) memory: Memory,
-    pub(crate) pace: Pace,
+    pub(crate) costs: Costs,
     /// How many bytes the sessions of a desk may have together in a snapshot of the broker.
     pub(crate) desk_bytes: u64,
 }
@@ -61,14 +61,14 @@ impl<R: Drop> Shared<R> {
             origins,
             wakeups,
             memory,
-            pace,
+            costs,
             desk_bytes: _,
         } = self;
         drop(rt);
         drop(origins);
         drop(wakeups);
         drop(memory);
-        drop(pace);
+        drop(costs);
         ring
     }
 }

@@ -26,7 +26,7 @@ impl<R: Wait + Clock + Drop> Service<'_, R> {
         let wakers = ClientWakers {
             mailbox: &self.mailbox,
             client: number,
-            pace: &self.shared.pace,
+            costs: &self.shared.costs,
             mark,
             log: self.shared.wakeups.log(),
         };

@@ -24,7 +24,7 @@ use std::alloc::{AllocError, Global};
 use std::net::TcpStream;
 use std::sync::atomic::{AtomicU64, Ordering};
 use std::sync::{Arc, Wait};
-use work_share::Pace;
+use work_share::Costs;
 use ws_core::Vacancy;
 
 /// How many sockets wait at most to be looked at by one desk's worker.
@@ -158,8 +158,8 @@ pub struct ClientWakers<'a> {
     pub mailbox: &'a Arc<Mailbox>,
     /// The client.
     pub client: usize,
-    /// How many commands it may have under way.
-    pub pace: &'a Pace,
+    /// What commands cost: how many it may have under way.
+    pub costs: &'a Costs,
     /// The mark when its turns began.
     pub mark: u64,
     /// What counts ERRORs and clients that are given up.
@@ -173,7 +173,7 @@ impl ClientWakers<'_> {
         ensures same { (result.appended ≡ turned.appended) × (result.heard ≡ turned.heard) }
         ensures next { (waits : Bool) × (result.next ≡ since waits self.now.mark turned.next) }
     {
-        let waits = self.pace.waits(self.mailbox.desk);
+        let waits = self.costs.waits(self.mailbox.desk);
         Turned {
             next: since(turned.next, waits, self.mark),
             ..turned
@@ -195,13 +195,13 @@ impl Wakers<ClientWaker> for ClientWakers<'_> {
         ensures { result ≤ WINDOW }
     {
         let client = self.client as u64;
-        self.pace.window(self.mailbox.desk, client, op, self.mark)
+        self.costs.window(self.mailbox.desk, client, op, self.mark)
     }
 
     fn appended(&self, ticket: u64) {
         let client = self.client as u64;
-        self.pace
-            .appended(self.mailbox.desk, client, ticket, self.mark);
+        let desk = self.mailbox.desk;
+        drop(self.costs.appended(desk, client, ticket, self.mark));
     }
 
     fn answered(&self, notice: &Notice) {

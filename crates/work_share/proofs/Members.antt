@@ -1,4 +1,4 @@
--- What the first members of a transaction tell.
+-- What the first members of a transaction show.
 use Rattle.std.proofs.Common.{◌≡◌, ◌≢◌, List, [], ℕ, Option, Some, None}
 use Rattle.std.specs.List.{AllByRecursion}
 use Rattle.command_core.specs.declared.member.Member.{Member}

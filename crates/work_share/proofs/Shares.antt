@@ -3,7 +3,7 @@ use Rattle.std.proofs.Common.{◌≡◌, ◌≤◌, ◌<◌, ◌+◌, ◌*◌, �
 use Rattle.std.specs.List.{AllByRecursion}
 use Rattle.std.proofs.lemmas.Bool.{eqb-true, eqb-false, ltb-true, ltb-false}
 use Rattle.work_share.specs.declared.granting.TheConstants.{GREEDY, SHARE}
-use Rattle.work_share.specs.declared.loads.TheConstants.{CHEAP}
+use Rattle.work_share.specs.declared.load.TheConstants.{CHEAP}
 use Rattle.work_share.specs.Grants.{AreOf, Grant, KeepShares, granted, granted_to}
 
 -- no desk was granted more than its share

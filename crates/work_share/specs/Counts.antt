@@ -8,7 +8,7 @@ use Rattle.command_core.specs.declared.member.Member.TheVariants as members
 use Rattle.command_core.specs.Destinations.{is_queue}
 use Rattle.work_share.specs.declared.audiences.TheConstants.{MOST_COPIES}
 use Rattle.work_share.specs.declared.sample.Sample.{Sample}
-use Rattle.work_share.specs.declared.sample.Sample.TheVariants.{Nothing, Joins, Hears}
+use Rattle.work_share.specs.declared.sample.Sample.TheVariants.{Nothing, Joins, Sent}
 
 -- the greatest number that is counted
 abbrev pub most : ℕ
@@ -44,33 +44,33 @@ place_sent (members.Nack _) = None
 abbrev pub SendsTo : ℕ → Member → Type 0
 SendsTo place member = place_sent member ≡ Some place
 
--- what a subscription or a message to that place tells
-abbrev pub told_at : (ℕ → Sample) → Option ℕ → Sample
-told_at tells None = Nothing
-told_at tells (Some place) = tells place
+-- what a subscription or a message to that place shows
+abbrev pub shown_at : (ℕ → Sample) → Option ℕ → Sample
+shown_at shows None = Nothing
+shown_at shows (Some place) = shows place
 
--- what a transaction tells: how many messages it has if all its members are messages to one place, or else nothing
+-- what a transaction shows: how many messages it has if all its members are messages to one place, or else nothing
 abbrev pub IsSampleOf : List Member → Sample → Type 0
 IsSampleOf all Nothing = (place : ℕ) → AllByRecursion (SendsTo place) all → all ≡ []
 IsSampleOf all (Joins place) = ⊥
-IsSampleOf all (Hears place count) = (count ≡ length all) × (all ≢ []) × AllByRecursion (SendsTo place) all
+IsSampleOf all (Sent place count) = (count ≡ length all) × (all ≢ []) × AllByRecursion (SendsTo place) all
 
--- what an operation tells of a topic's audience
-abbrev pub Tells : Op → Sample → Type 0
-Tells (Subscribe id destination mode durable) sample = sample ≡ told_at Joins (place_for destination)
-Tells (Send sending) sample = sample ≡ told_at (λ place. Hears place 1) (place_for sending.destination)
-Tells (Commit all) sample = IsSampleOf all sample
-Tells _ sample = sample ≡ Nothing
+-- what an operation shows of a topic's audience
+abbrev pub Shows : Op → Sample → Type 0
+Shows (Subscribe id destination mode durable) sample = sample ≡ shown_at Joins (place_for destination)
+Shows (Send sending) sample = sample ≡ shown_at (λ place. Sent place 1) (place_for sending.destination)
+Shows (Commit all) sample = IsSampleOf all sample
+Shows _ sample = sample ≡ Nothing
 
--- the place of the topic that it tells of
-abbrev pub place_told : Sample → Option ℕ
-place_told Nothing = None
-place_told (Joins place) = Some place
-place_told (Hears place _) = Some place
+-- the place of the topic of which it shows something
+abbrev pub place_shown : Sample → Option ℕ
+place_shown Nothing = None
+place_shown (Joins place) = Some place
+place_shown (Sent place _) = Some place
 
--- The audience that a topic is taken for, once a command that told this had so many outputs. One more joins; or each message went to so many.
+-- The audience that a topic is taken for, once a command that showed this had `outs` outputs. One more joins; or each message went to so many.
 -- What is too much falls slowly, since topics share a place.
 abbrev pub audience_after : Sample → (known outs : ℕ) → ℕ
 audience_after Nothing known outs = known
 audience_after (Joins _) known outs = min (known + 1) MOST_COPIES
-audience_after (Hears _ count) known outs = max (outs / max count 1) (known - known / 16)
+audience_after (Sent _ count) known outs = max (outs / max count 1) (known - known / 16)

@@ -1,6 +1,7 @@
 pub mod Costs
 pub mod Counts
 pub mod Grants
+pub mod LineSteps
 pub mod Lines
-pub mod Paces
+pub mod Loads
 pub mod Windows

@@ -1,5 +1,8 @@
 -- Whether a desk may have one more command under way.
-use Rattle.std.specs.Prelude.{◌≡◌, ◌⊎◌, ◌≤◌, ◌<◌, ◌+◌, ℕ}
+use Rattle.std.specs.Prelude.{◌≡◌, ◌⊎◌, ◌≤◌, ◌<◌, ◌+◌, ℕ, List}
+use Rattle.work_share.specs.Lines.{standing}
+use Rattle.work_share.specs.Loads.{all_under_way, load_at, number_of, others_than}
+use Rattle.work_share.specs.declared.load.Load.{Load}
 use Rattle.work_share.specs.declared.granting.TheConstants.{BUDGET, GREEDY, SHARE, WIDEST}
 use Rattle.work_share.specs.declared.standing.Standing.{Standing}
 use Rattle.work_share.specs.declared.standing.Standing.TheVariants.{Alone, First, Behind}
@@ -23,6 +26,13 @@ MayGo cost own all standing = (own + cost ≤ SHARE) ⊎ FitsAll standing cost a
 -- a command that may go finds the widest window, and any other none
 abbrev pub IsWindow : (cost own all : ℕ) → Standing → ℕ → Type 0
 IsWindow cost own all standing window = (MayGo cost own all standing × (window ≡ WIDEST)) ⊎ (¬ (MayGo cost own all standing) × (window ≡ 0))
+
+-- That is its window, if the desks have these loads at that mark, and a client of that desk asks for a command that costs so much: beside all others,
+-- in the place in line that its number gives it.
+abbrev pub IsWindowAmong : (desk client cost mark : ℕ) → List Load → ℕ → Type 0
+IsWindowAmong desk client cost mark loads window =
+    IsWindow cost (load_at desk loads).sum (all_under_way mark (others_than client desk loads))
+    (standing (number_of client (load_at desk loads)) (others_than client desk loads)) window
 
 -- a dear command that may not go gets a number in line for its desk, if that has none
 abbrev pub TakesNumber : (window cost line : ℕ) → Type 0

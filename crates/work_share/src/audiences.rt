@@ -1,4 +1,4 @@
-//! How many listen to each topic, as far as is known.
+//! How many listen to each topic, as far as is counted.
 
 ghost use Rattle.std.specs.Prelude.{◌≡◌, ◌≤◌, ◌*◌, ◌+◌, IfOk, length, min};
 ghost use Rattle.work_share.specs.Costs.{least_cost};
@@ -22,11 +22,11 @@ pub const OPERATION: u64 = 3_000;
 // What a delivery costs.
 const DELIVERY: u64 = 4_000;
 
-/// To how many a message may be copied: so many messages are held at most.
+/// To how many a message may be copied: no more messages are held.
 pub(crate) const MOST_COPIES: u64 = 4_096;
 
-/// How many listen to each topic, as far as is known. Topics share places, so that a count may be too large. The flusher counts, and others look.
-/// Contracts see in how many places topics are counted. The counts no contract knows, since another thread writes them.
+/// How many listen to each topic, as far as is counted. Topics share places, so that a count may be too large. The flusher counts, and others look.
+/// Contracts see in how many places topics are counted. What the counts are, no contract sees, since another thread writes them.
 #[derive(Drop)]
 pub struct Audiences {
     counts: Words,
@@ -50,7 +50,7 @@ impl Audiences {
         })
     }
 
-    /// A command was carried out that tells this, and had so many outputs.
+    /// A command was carried out that shows this, and had `outs` outputs.
     pub fn carried_out(&self, sample: Sample, outs: u64) {
         if let Some(place) = sample.place() {
             let known = self.counts.get(place);
@@ -104,7 +104,7 @@ impl Audiences {
     }
 }
 
-// What it costs to send a message to so many.
+// What it costs to send a message to an audience.
 fn price(audience: u64) -> u64
     ensures { result ≡ OPERATION + DELIVERY * min audience MOST_COPIES }
 {

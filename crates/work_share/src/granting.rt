@@ -1,9 +1,13 @@
 //! Whether a desk may have one more command under way.
 
-ghost use Rattle.work_share.specs.Windows.{IsWindow, TakesNumber};
-ghost use Rattle.std.specs.Prelude.{◌↔◌, IsTrue};
+ghost use Rattle.work_share.specs.Windows.{IsWindow, IsWindowAmong, TakesNumber};
+ghost use Rattle.std.specs.Prelude.{◌↔◌, ◌<◌, IsTrue};
+ghost use Rattle.work_share.specs.declared.laws.TheConstants.{DESKS};
 
-use crate::standing::Standing;
+use crate::counting::all_under_way;
+use crate::laws::DESKS;
+use crate::load::Load;
+use crate::standing::{Standing, standing_among};
 
 /// What all commands under way may cost to carry out together, in nanoseconds of a processor, if one of them was first in line.
 pub const BUDGET: u64 = 100_000_000;
@@ -34,6 +38,18 @@ pub fn window(cost: u64, own: u64, all: u64, standing: Standing) -> usize
     } else {
         0
     }
+}
+
+/// How many commands of a desk may be under way, with one of this client that comes next and costs `cost`. The desks have these loads at this mark.
+pub fn window_among(desk: usize, client: u64, cost: u64, mark: u64, loads: [Load; DESKS]) -> usize
+    requires { desk < DESKS }
+    ensures { IsWindowAmong desk client cost mark loads result }
+{
+    let own = loads[desk];
+    let mut others = loads;
+    others[desk] = own.without(client);
+    let standing = standing_among(own.number_of(client), &others);
+    window(cost, own.sum, all_under_way(&others, mark), standing)
 }
 
 /// Whether a desk gets a number in line with a command that costs so much, for which it has that window, while it has that number.

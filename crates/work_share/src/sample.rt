@@ -1,7 +1,7 @@
-//! What a command may tell of a topic's audience.
+//! What a command may show of a topic's audience.
 
 ghost use Rattle.std.specs.Prelude.{◌≡◌};
-ghost use Rattle.work_share.specs.Counts.{IsSampleOf, Tells, audience_after, place_sent, place_told};
+ghost use Rattle.work_share.specs.Counts.{IsSampleOf, Shows, audience_after, place_sent, place_shown};
 
 use crate::audiences::{MOST_COPIES, place_of};
 use command_core::{Member, Op};
@@ -9,21 +9,21 @@ use command_core::{Member, Op};
 // A count that is too large falls by this part of itself with each message to the topic.
 const FALL: u64 = 16;
 
-/// What a command tells of a topic's audience once it is carried out.
+/// What a command shows of a topic's audience once it is carried out.
 #[derive(Clone, Copy)]
 pub enum Sample {
     /// Nothing.
     Nothing,
     /// One more listens to the topic at that place.
     Joins(usize),
-    /// So many messages went to the topic at that place.
-    Hears(usize, u64),
+    /// That many messages went to the topic at that place.
+    Sent(usize, u64),
 }
 
 impl Sample {
-    /// What this operation may tell.
+    /// What this operation may show.
     pub fn of(op: &Op) -> Sample
-        ensures { Tells op.now result }
+        ensures { Shows op.now result }
     {
         match op {
             Op::Subscribe { destination, .. } => match place_of(destination) {
@@ -31,7 +31,7 @@ impl Sample {
                 None => Sample::Nothing,
             },
             Op::Send(sending) => match place_of(sending.destination()) {
-                Some(place) => Sample::Hears(place, 1),
+                Some(place) => Sample::Sent(place, 1),
                 None => Sample::Nothing,
             },
             Op::Commit(members) => of_members(members.as_slice()),
@@ -39,29 +39,29 @@ impl Sample {
         }
     }
 
-    /// The place of the topic that it tells of, if it tells something.
+    /// The place of the topic of which it shows something.
     pub fn place(self) -> Option<usize>
-        ensures { result ≡ place_told self }
+        ensures { result ≡ place_shown self }
     {
         match self {
             Sample::Nothing => None,
-            Sample::Joins(place) | Sample::Hears(place, _) => Some(place),
+            Sample::Joins(place) | Sample::Sent(place, _) => Some(place),
         }
     }
 
-    /// The audience that its topic is taken for from now on: it was taken for `known`, and the command had so many outputs.
+    /// The audience that its topic is taken for from now on: it was taken for `known`, and the command had `outs` outputs.
     pub fn audience(self, known: u64, outs: u64) -> u64
         ensures { result ≡ audience_after self known outs }
     {
         match self {
             Sample::Nothing => known,
             Sample::Joins(_) => known.saturating_add(1).min(MOST_COPIES),
-            Sample::Hears(_, count) => (outs / count.max(1)).max(known - known / FALL),
+            Sample::Sent(_, count) => (outs / count.max(1)).max(known - known / FALL),
         }
     }
 }
 
-// What a transaction may tell: nothing unless all its messages go to topics of one place.
+// What a transaction may show: nothing unless all its messages go to topics of one place.
 fn of_members(members: &[Member]) -> Sample
     ensures { IsSampleOf members.now result }
 {
@@ -76,7 +76,7 @@ fn of_members(members: &[Member]) -> Sample
         }
     }
     match all {
-        Some(place) => Sample::Hears(place, members.len() as u64),
+        Some(place) => Sample::Sent(place, members.len() as u64),
         None => Sample::Nothing,
     }
 }

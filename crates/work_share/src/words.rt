@@ -16,7 +16,7 @@ pub(crate) fn set(word: &AtomicU64, value: u64) {
     word.store(value, Ordering::SeqCst);
 }
 
-/// Such numbers by their places. A place that there isn't has 0. Contracts see how many there are. What they are, no contract knows, since
+/// Such numbers by their places. A place that there isn't has 0. Contracts see how many there are. What they are, no contract sees, since
 /// other threads write them.
 #[derive(Drop)]
 pub(crate) struct Words {
@@ -32,7 +32,7 @@ impl Model for Words {
 }
 
 impl Words {
-    /// So many zeros.
+    /// That many zeros.
     pub(crate) fn new(alloc: Global, count: usize) -> Result<Words, AllocError>
         ensures { IfOk result (λ words. words ≡ count) }
     {
