@@ -12,12 +12,20 @@ use Rattle.desk_core.specs.declared.footprint.Part.{Part}
 abbrev pub part : Option (List ℕ) → ℕ → Part
 part id bytes = record { id = id; bytes = bytes }
 
--- What a command adds, as a snapshot spells it. An Open adds its session: a number of 8 bytes, and the client's name. A SUBSCRIBE adds its
--- subscription: the session's number, its id, its destination, a byte for its mode, its durable name, and two counts of messages, of 4
--- bytes.
+-- The bytes of an open session in a snapshot: its number, of 8 bytes, and its client's name.
+abbrev pub session_size : Option (List ℕ) → ℕ
+session_size client_id = 8 + option_size client_id
+
+-- The bytes of a subscription in a snapshot, at most, without the messages that it holds: its session's number, of 8 bytes; its id and its
+-- destination; its mode, of one byte; its own part of a durable name; and two counts of messages, of 4 bytes each. These are the messages
+-- that wait in a line of its own, which it may not have, and those that it has not acknowledged.
+abbrev pub subscription_size : List ℕ → List ℕ → Option (List ℕ) → ℕ
+subscription_size id destination durable = 8 + text_size id + text_size destination + 1 + option_size durable + (4 + 4)
+
+-- what a command adds to a snapshot: an Open its session, and a SUBSCRIBE its subscription
 abbrev pub parts_of : Op → List Part
-parts_of (ops.Open client_id) = part None (8 + option_size client_id) ∷ []
-parts_of (ops.Subscribe id destination mode durable) = part (Some id) (17 + text_size id + text_size destination + option_size durable) ∷ []
+parts_of (ops.Open client_id) = part None (session_size client_id) ∷ []
+parts_of (ops.Subscribe id destination mode durable) = part (Some id) (subscription_size id destination durable) ∷ []
 parts_of _ = []
 
 -- a subscription of that id

@@ -1,9 +1,9 @@
 //! How many bytes a session has in each snapshot of the broker.
 
 ghost use Rattle.std.specs.Prelude.{◌≡◌, ◌≤◌, ◌<◌, ◌++◌, ◌∷◌, ◌^◌, [], filter, not, OnOk, OnErr};
-ghost use Rattle.desk_core.specs.Footprints.{charged, has_id, part, parts_of, total};
+ghost use Rattle.desk_core.specs.Footprints.{charged, has_id, part, parts_of, session_size, subscription_size, total};
 
-use command_core::{HeaderText, Op, option_size, text_size};
+use command_core::{Dest, HeaderText, Op, option_size, text_size};
 use std::alloc::{AllocError, Global};
 use std::marker::Model;
 
@@ -12,6 +12,18 @@ use std::marker::Model;
 /// 16,384 sessions of so many are 134,217,728 bytes. With all that may be held beside them they fit into each of the two areas of a
 /// journal of 512 MiB.
 pub const SESSION_BYTES: u64 = 8_192;
+
+// How many bytes a snapshot has for the number of a session.
+const NUMBER_BYTES: u64 = 8;
+
+// How many it has for the length of a text.
+const LENGTH_BYTES: u64 = 4;
+
+// How many it has for the mode of a subscription.
+const MODE_BYTES: u64 = 1;
+
+// How many it has for a count of messages.
+const COUNT_BYTES: u64 = 4;
 
 /// What one command adds to a snapshot: an Open its session, a SUBSCRIBE its subscription, which has an id.
 #[derive(Drop)]
@@ -190,19 +202,38 @@ fn total(parts: &[Part]) -> u64
     parts.iter().map(|one| one.bytes).sum()
 }
 
-// How many bytes it adds.
+// How many bytes a snapshot has for an operation that adds to it.
 fn size_of(op: &Op) -> u64
     ensures size { result ≡ total (parts_of op.now) }
     ensures small { result ≤ 32768 }
 {
     match op {
-        Op::Open { client_id } => 8 + option_size(client_id),
+        Op::Open { client_id } => session_size(client_id),
         Op::Subscribe {
             id,
             destination,
             durable,
             ..
-        } => 21 + text_size(id) + destination.as_str().len() as u64 + option_size(durable),
+        } => subscription_size(id, destination, durable),
         _ => 0,
     }
+}
+
+// How many bytes a snapshot has for a session of that client.
+fn session_size(client_id: &Option<HeaderText>) -> u64
+    ensures size { result ≡ session_size client_id.now }
+    ensures small { result ≤ 16384 }
+{
+    NUMBER_BYTES + option_size(client_id)
+}
+
+// How many bytes a snapshot has for such a subscription at most, without the messages that it holds.
+fn subscription_size(id: &HeaderText, destination: &Dest, durable: &Option<HeaderText>) -> u64
+    ensures size { result ≡ subscription_size id.now destination.now durable.now }
+    ensures small { result ≤ 32768 }
+{
+    let names = text_size(id) + option_size(durable);
+    let destination = LENGTH_BYTES + destination.as_str().len() as u64;
+    let counts = 2 * COUNT_BYTES;
+    NUMBER_BYTES + MODE_BYTES + names + destination + counts
 }
