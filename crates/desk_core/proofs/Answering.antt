@@ -12,7 +12,7 @@ use Rattle.command_core.specs.Commands.{CommandValue}
 use Rattle.desk_core.specs.Connections.{ConnectionValue}
 use Rattle.desk_core.specs.declared.stage.Stage.{Stage}
 use Rattle.desk_core.specs.declared.stage.Stage.TheVariants.{Running}
-use Rattle.desk_core.specs.Answers.{Appended, Awaits, AwaitsBy, GoesOnYet, Grows, Heard, IsPressing, IsQuiet, IsRest, IsSatisfied, Leaves}
+use Rattle.desk_core.specs.Answers.{Appended, Awaits, AwaitsBy, GoesOnYet, Grows, Heard, IsPressing, IsQuiet, IsRest, IsSatisfied, IsSeen, Leaves}
 use Rattle.desk_core.specs.Refusals.{WaitsIfFull}
 use Rattle.desk_core.specs.Steps.{SaysNext, TakesStep}
 use Rattle.desk_core.specs.declared.outcome.Outcome.{Outcome}
@@ -71,12 +71,17 @@ held_by window (refusals.Busy mark) entry p step s t r h =
     let own : t.own ≡ s.own = ap (λ (x : SessionSeatValue). x.own) r.3 in
     subst (λ x. Grows x s t × Leaves x p) (sym h.1) (own, full_of p entry h.0)
 
+held_seen : (window : ℕ) (refused : Refused) (entry : BoxEntry) (p : Option BoxEntry) (step : Outcome) (s t : SessionSeatValue) → Refuses window s t refused → WaitsIfFull entry refused p step → IsSeen step t
+held_seen window refusals.Stopped entry p step s t r h = subst (λ x. IsSeen x t) (sym h) tt
+held_seen window refusals.Exhausted entry p step s t r h = subst (λ x. IsSeen x t) (sym h) tt
+held_seen window (refusals.Busy mark) entry p step s t r h = subst (λ x. IsSeen x t) (sym h.1) (omega (arith, ap (λ (x : SessionSeatValue). x.seen) r.3))
+
 pub held_takes : (window : ℕ) (refused : Refused) (entry : BoxEntry) (p : Option BoxEntry) (step : Outcome) (s t : SessionSeatValue) → Refuses window s t refused → WaitsIfFull entry refused p step → TakesStep step s t p
-held_takes window refused entry p step s t r h = let by = held_by window refused entry p step s t r h in record { grows = by.0; leaves = by.1 }
+held_takes window refused entry p step s t r h = let by = held_by window refused entry p step s t r h in record { grows = by.0; leaves = by.1; seen = held_seen window refused entry p step s t r h }
 
 pub quiet_takes : (step : Outcome) (p : Option BoxEntry) (s : SessionSeatValue) → IsQuiet step → TakesStep step s s p
-quiet_takes steps.Done p s q = record { grows = refl; leaves = tt }
-quiet_takes steps.Memory p s q = record { grows = refl; leaves = tt }
+quiet_takes steps.Done p s q = record { grows = refl; leaves = tt; seen = tt }
+quiet_takes steps.Memory p s q = record { grows = refl; leaves = tt; seen = tt }
 quiet_takes steps.Appended p s q = absurd q
 quiet_takes (steps.Room mark) p s q = absurd q
 quiet_takes steps.Rest p s q = absurd q

@@ -10,6 +10,7 @@ pub mod Hearing
 pub mod Lists
 pub mod Living
 pub mod Messages
+pub mod Reporting
 pub mod Spending
 pub mod Standing
 pub mod Talking

@@ -1,5 +1,5 @@
 -- What a turn of a connection answers.
-use Rattle.std.specs.Prelude.{◌≡◌, ◌<◌, ℕ, List, [], Bool, true, false, Option, None, IsSome, length}
+use Rattle.std.specs.Prelude.{◌≡◌, ◌<◌, ◌≤◌, ℕ, List, [], Bool, true, false, Option, None, IsSome, length}
 use Rattle.command_core.specs.Outs.{OutValue}
 use Rattle.claim_core.specs.Seats.{SessionSeatValue}
 use Rattle.desk_core.specs.Tasks.{all_of}
@@ -86,6 +86,14 @@ Leaves steps.Appended waiting = Unit {0}
 Leaves steps.Done waiting = Unit {0}
 Leaves steps.Memory waiting = Unit {0}
 Leaves steps.Rest waiting = Unit {0}
+
+-- if an act found no room, its seat has seen the mark over which there may be some
+abbrev pub IsSeen : Outcome → SessionSeatValue → Type 0
+IsSeen (steps.Room mark) seat = mark ≤ seat.seen
+IsSeen steps.Appended seat = Unit {0}
+IsSeen steps.Done seat = Unit {0}
+IsSeen steps.Memory seat = Unit {0}
+IsSeen steps.Rest seat = Unit {0}
 
 -- what a connection waits for, by what the last act of its turn came to
 abbrev pub AwaitsBy : {B : Type 0} → Next → Outcome → Slot B → Type 0

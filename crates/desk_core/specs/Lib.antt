@@ -16,6 +16,7 @@ pub mod Places
 pub mod Progress
 pub mod Refusals
 pub mod Relays
+pub mod Reports
 pub mod Slots
 pub mod Spending
 pub mod Stages

@@ -11,7 +11,7 @@ use Rattle.desk_core.specs.Concluding.{Concludes}
 use Rattle.desk_core.specs.Connections.{ConnectionValue, with_appended}
 use Rattle.desk_core.specs.Progress.{IsNext, is_last, role_of}
 use Rattle.desk_core.specs.Stages.{Executes}
-use Rattle.desk_core.specs.Answers.{Grows, Leaves}
+use Rattle.desk_core.specs.Answers.{Grows, IsSeen, Leaves}
 use Rattle.desk_core.specs.Continues.{Continues}
 use Rattle.desk_core.specs.Effects.{Effect, commands_of, told_of}
 use Rattle.desk_core.specs.Halting.{FindsEnd, HasHalted}
@@ -34,10 +34,12 @@ pub record MayAppend {B : Type 0} (slot : Slot B) (entry : BoxEntry) : Type 0 wh
   pub next : IsNext slot.connection.progress entry.command
   pub boxed : HasBox entry slot.opening
 
--- One act took this step: the seat has a command more only if that is said, and if the window was full, an entry waits.
+-- One act took this step: the seat has a command more only if that is said. If the window was full, an entry waits over a mark that the seat
+-- has seen.
 pub record TakesStep (step : Outcome) (old new : SessionSeatValue) (waiting : Option BoxEntry) : Type 0 where
   pub grows : Grows step old new
   pub leaves : Leaves step waiting
+  pub seen : IsSeen step new
 
 -- no command was appended, and none was counted
 abbrev pub IsUnsaid : ConnectionValue → ConnectionValue → Type 0

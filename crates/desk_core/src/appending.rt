@@ -28,12 +28,13 @@ const ACTS: u32 = 8;
 impl<B: Bell> Slot<B> {
     ghost use Rattle.std.specs.Prelude.{◌∷◌, ◌⊎◌, [], Some};
     ghost use Rattle.outbox_core.specs.Boxes.{TakerValue};
-    ghost use Rattle.desk_core.specs.Answers.{Appended, IsQuiet, Leaves};
+    ghost use Rattle.desk_core.specs.Answers.{Appended, IsQuiet, IsSeen, Leaves};
     ghost use Rattle.desk_core.specs.Continues.{Continues};
     ghost use Rattle.desk_core.specs.Conversations.{StaysOrEnds};
     ghost use Rattle.desk_core.specs.Halting.{HasHalted, IsFinal};
     ghost use Rattle.desk_core.specs.Stages.{CanTell};
     ghost use Rattle.desk_core.specs.Refusals.{WaitsIfFull};
+    ghost use Rattle.desk_core.specs.Reports.{SendsFew};
     ghost use Rattle.desk_core.specs.Steps.{CarriesOut, GoesOn, IsUnsaid, MayAppend, TakesStep, TellsIt};
     ghost use Rattle.desk_core.specs.Histories.{LivesOn};
     ghost use Rattle.desk_core.specs.Slots.{Stays};
@@ -52,10 +53,12 @@ impl<B: Bell> Slot<B> {
         ensures goes { GoesOn L.sent L.received self.old seat.old link.old self.new seat.new link.new }
         ensures grows { Appended result.0 seat.old seat.new }
         ensures leaves { Leaves result.1 self.new.waiting }
+        ensures seen { IsSeen result.1 seat.new }
+        ensures few { SendsFew L.sent 8 link.old link.new }
         ensures unread { L.received link.new ≡ L.received link.old }
     {
         let mut appended = false;
-        for _ in 0..ACTS {
+        for _act in 0..ACTS {
             let step = self.step(alloc, ring, seat, link, wakers);
             appended = also_appended(appended, step);
             if matches!(step, Outcome::Room(_) | Outcome::Memory | Outcome::Rest) {
@@ -77,6 +80,7 @@ impl<B: Bell> Slot<B> {
         requires { seat.old.ring ≡ ring.now }
         ensures goes { GoesOn L.sent L.received self.old seat.old link.old self.new seat.new link.new }
         ensures takes { TakesStep result seat.old seat.new self.new.waiting }
+        ensures few { SendsFew L.sent 1 link.old link.new }
         ensures unread { L.received link.new ≡ L.received link.old }
     {
         if !self.connection.stage().executes() {
@@ -207,6 +211,7 @@ impl<B: Bell> Slot<B> {
         ensures ends { StaysOrEnds self.old.connection.progress self.new.connection.progress }
         ensures unread { L.received link.new ≡ L.received link.old }
         ensures tells { TellsIt L.sent notice self.old link.old self.new link.new }
+        ensures few { SendsFew L.sent 1 link.old link.new }
         ensures quiet { IsQuiet result }
     {
         if is_cut_off(self.connection.stage()) {

@@ -52,6 +52,7 @@ impl<B: Bell, L: Link + Drop> Desk<B, L> {
     ghost use Rattle.desk_core.specs.Conversations.{Converse};
     ghost use Rattle.desk_core.specs.Connections.{evicted, with_given_up, with_lost};
     ghost use Rattle.desk_core.specs.Desks.{Admits, Changes, IsWhy, Leaves, Others, TalkApart, Turns, Touches, desk, seated_at};
+    ghost use Rattle.desk_core.specs.Reports.{ReportsAt};
     ghost use Rattle.desk_core.specs.Places.{PingedAt, awaits_room_at, cut_at, is_open_at, is_over_at};
 
     /// A desk with no connection, whose sessions may have `limit` bytes together in a snapshot of the broker. No memory is taken.
@@ -121,6 +122,7 @@ impl<B: Bell, L: Link + Drop> Desk<B, L> {
         ensures ring { self.new.seat.ring ≡ self.old.seat.ring }
         ensures others { Others self.old.places self.new.places at }
         ensures turns { IfSome result (λ turned. Turns L.sent L.received self.old self.new at turned) }
+        ensures reports { IfSome result (λ turned. ReportsAt L.sent L.is_held_up turned self.new.seat (seated_at self.old.places at) (seated_at self.new.places at)) }
         ensures none { IsNone result → self.new ≡ self.old }
         ensures some { IsSome (seated_at self.old.places at) → IsSome result }
         ensures apart { TalkApart self.new }

@@ -16,11 +16,15 @@ pub enum Kept {
 }
 
 impl Kept {
-    ghost use Rattle.std.specs.Prelude.{IfSome};
+    ghost use Rattle.std.specs.Prelude.{◌≡◌, IfSome, true, false};
     ghost use Rattle.desk_core.specs.Answers.{WaitsFor};
+    ghost use Rattle.desk_core.specs.Reports.{IsUnsent};
 
     // Whether it may leave, but the link refused it.
-    pub(crate) fn is_unsent(&self) -> bool {
+    pub(crate) fn is_unsent(&self) -> bool
+        ensures yes { result ≡ true → IsUnsent self.now }
+        ensures no { result ≡ false → IsUnsent self.now → ⊥ }
+    {
         matches!(self, Kept::Unsent(_))
     }
 

@@ -29,7 +29,9 @@ impl<B: Bell> Slot<B> {
     ghost use Rattle.desk_core.specs.Concluding.{Concludes};
     ghost use Rattle.desk_core.specs.Steps.{GoesOn};
     ghost use Rattle.desk_core.specs.Histories.{Idles};
+    ghost use Rattle.desk_core.specs.Reports.{SendsFew};
     ghost use Rattle.desk_core.specs.Slots.{Served};
+    ghost use Rattle.std.specs.Prelude.{◌≤◌};
 
     // Sends what may leave, until nothing more may or so much was sent. A link that has not taken all before gets nothing more. Answers
     // `Outcome::Rest` if nothing more may leave.
@@ -45,10 +47,12 @@ impl<B: Bell> Slot<B> {
         ensures goes { GoesOn L.sent L.received self.old seat.old link.old self.new seat.new link.new }
         ensures waiting { self.new.waiting ≡ self.old.waiting }
         ensures own { seat.new.own ≡ seat.old.own }
+        ensures no_less { seat.old.seen ≤ seat.new.seen }
+        ensures few { SendsFew L.sent 32 link.old link.new }
         ensures unread { L.received link.new ≡ L.received link.old }
     {
         let mut bytes = 0usize;
-        for _ in 0..RELAYS {
+        for _relay in 0..RELAYS {
             if bytes >= RELAYED_BYTES || link.waits() {
                 return Outcome::Done;
             }
@@ -76,6 +80,7 @@ impl<B: Bell> Slot<B> {
         ensures served { Served L.sent [] self.old link.old self.new link.new }
         ensures lives { Idles L.received self.old link.old self.new link.new }
         ensures concludes { Concludes L.sent self.old.connection link.old self.new.connection link.new [] }
+        ensures few { SendsFew L.sent 1 link.old link.new }
         ensures waiting { self.new.waiting ≡ self.old.waiting }
         ensures unread { L.received link.new ≡ L.received link.old }
     {

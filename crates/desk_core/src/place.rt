@@ -5,6 +5,7 @@ ghost use Rattle.std.specs.Option.{option_copied};
 ghost use Rattle.desk_core.specs.Desks.{seated_at};
 ghost use Rattle.desk_core.specs.Connections.{evicted, with_given_up, with_lost};
 ghost use Rattle.desk_core.specs.Continues.{Continues};
+ghost use Rattle.desk_core.specs.Reports.{ReportsAt};
 ghost use Rattle.desk_core.specs.Places.{ChangedAt, KeepsWithin, PingedAt, Recounts, ServedAt, UnservedAt, counted_at, is_over_at, progress_at};
 
 use crate::slot::Slot;
@@ -75,6 +76,7 @@ pub fn turn_at<B: Bell, M: Wakers<B>, L: Link>(
     requires keeps { KeepsWithin limit counted.old place.old }
     ensures continues { Continues (progress_at place.old) seat.old (progress_at place.new) seat.new }
     ensures served { IfSome result (λ turned. ServedAt L.sent L.received (limit - counted.old + counted_at place.old) place.old seat.old place.new seat.new turned) }
+    ensures reports { IfSome result (λ turned. ReportsAt L.sent L.is_held_up turned seat.new place.old place.new) }
     ensures counts { Recounts limit counted.old place.old counted.new place.new }
     ensures none { IsNone result → (place.new ≡ place.old) × (seat.new ≡ seat.old) }
     ensures some { IsSome place.old → IsSome result }

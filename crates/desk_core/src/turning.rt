@@ -22,7 +22,10 @@ impl<B: Bell> Slot<B> {
     ghost use Rattle.desk_core.specs.declared.stage.Stage.TheVariants.{Running};
     ghost use Rattle.desk_core.specs.Steps.{GoesOn};
     ghost use Rattle.desk_core.specs.Histories.{Idles};
+    ghost use Rattle.desk_core.specs.Reports.{MayRead, Reports};
     ghost use Rattle.desk_core.specs.Slots.{Unserved};
+    ghost use Rattle.desk_core.specs.declared.ended.Ended.{Ended};
+    ghost use Rattle.std.specs.Prelude.{ℕ};
 
     /// Lets the connection go on. What waits in its link is written, and its client is heard if nothing else is to be done first.
     /// What that asks for is appended, and what may leave is sent, all of it bounded. No call waits unless the link's calls do.
@@ -40,6 +43,7 @@ impl<B: Bell> Slot<B> {
         requires { seat.old.ring ≡ ring.now }
         ensures goes { GoesOn L.sent L.received self.old seat.old link.old self.new seat.new link.new }
         ensures answers { Answers L.received result seat.old link.old self.new seat.new link.new }
+        ensures reports { Reports L.sent L.is_held_up self.old link.old result self.new seat.new link.new }
     {
         let (heard, read) = self.read(alloc, link);
         let (appended, acted) = self.execute(alloc, ring, seat, link, wakers);
@@ -61,6 +65,7 @@ impl<B: Bell> Slot<B> {
         ensures unserved { Unserved L.sent self.old link.old self.new link.new }
         ensures lives { Idles L.received self.old link.old self.new link.new }
         ensures heard { Heard L.received result.0 link.old link.new }
+        ensures may { result.0 ≡ true → MayRead self.old (L.is_held_up link.old) }
     {
         if matches!(self.connection.stage(), Stage::Parting(_)) {
             return self.await_close(alloc, link);
@@ -156,7 +161,9 @@ impl<B: Bell> Slot<B> {
     // What it waits for: by whether memory was refused for its close or an output, and by whether there may be more to hear or to
     // send. Also by what the last act came to, and by whether its link has not taken all.
     fn next(&self, lacks: bool, more: bool, last: Outcome, waits: bool) -> Next
-        ensures { AwaitsBy result last self.now }
+        ensures awaits { AwaitsBy result last self.now }
+        ensures write { result ≡ Next.Write → waits ≡ true }
+        ensures close { (ended : Ended) → self.now.connection.stage ≡ Stage.Parting ended → result ≡ Next.Close }
     {
         match self.connection.stage() {
             Stage::Over(ended) => Next::Over(ended),
@@ -175,7 +182,8 @@ impl<B: Bell> Slot<B> {
     // What a connection that runs waits for.
     fn next_of_running(&self, lacks: bool, more: bool, last: Outcome, waits: bool) -> Next
         requires { self.now.connection.stage ≡ Running }
-        ensures { AwaitsBy result last self.now }
+        ensures awaits { AwaitsBy result last self.now }
+        ensures write { result ≡ Next.Write → waits ≡ true }
     {
         let next = pressing(lacks, last);
         if !matches!(next, Next::Go) {

@@ -2,7 +2,8 @@ use Rattle.std.proofs.Common.{arith, ap, subst}
 use Rattle.std.specs.Prelude.{IsSome}
 use Rattle.desk_core.specs.Desks.{DeskValue, TalkApart}
 use Rattle.desk_core.proofs.Counting.{counted_set, keeps_within, no_more_at}
-use Rattle.desk_core.proofs.Standing.{if_some, others, same_desk, sits_there, stepped, talk_apart, turns}
+use Rattle.desk_core.specs.Reports.{ReportsAt}
+use Rattle.desk_core.proofs.Standing.{at_place, if_some, others, same_desk, sits_there, stepped, talk_apart, turns}
 use Rattle.desk_core.proofs.desk.Desk.turn.Goals as goal
 
 pub returns-then-at-len-clause-apart : goal.returns-then-at-len-clause-apart
@@ -48,3 +49,10 @@ returns-clause-apart g c =
     (omega (arith, c.if-at-len.false, c.len.ensures)) c.index_mut.ensures.value c.turn_at.ensures.continues c.self.invariant.0)
     (counted_set c.self.inside.limit c.self.inside.counted c.turn_at.new.counted c.self.inside.places.items c.args.at c.index_mut.result.now c.turn_at.new.place
     (omega (arith, c.if-at-len.false, c.len.ensures)) c.index_mut.ensures.value c.turn_at.ensures.counts.0 c.turn_at.ensures.counts.1.1 c.turn_at.ensures.counts.1.2 c.self.invariant.1)
+
+pub returns-clause-reports : goal.returns-clause-reports
+returns-clause-reports g c =
+    if_some c.turn_at.result _ _
+    (λ turned so. at_place (ReportsAt g.L.Outgoing.sent g.L.Outgoing.is_held_up turned c.turn_at.new.seat) c.args.self.now c.self.inside.limit c.self.inside.before.value c.self.inside.seat c.self.inside.places.items c.args.at c.index_mut.result.now c.turn_at.new.place
+    c.self.view_is (omega (arith, c.if-at-len.false, c.len.ensures)) c.index_mut.ensures.value so)
+    c.turn_at.ensures.reports

@@ -22,12 +22,14 @@ pub returns-in-Some-clause-takes : goal.returns-in-Some-clause-takes
 returns-in-Some-clause-takes g c = record {
   grows = spoken_grows c.args.entry.command c.args.self.now.connection c.speak.new.connection c.args.seat.now c.speak.new.seat c.in-Ok.ticket c.in-Ok.ensures.spoken;
   leaves = tt;
+  seen = tt;
 }
 
 pub returns-in_default-clause-takes : goal.returns-in_default-clause-takes
 returns-in_default-clause-takes g c = record {
   grows = spoken_grows c.args.entry.command c.args.self.now.connection c.speak.new.connection c.args.seat.now c.speak.new.seat c.in-Ok.ticket c.in-Ok.ensures.spoken;
   leaves = tt;
+  seen = tt;
 }
 
 pub returns-in-Err-clause-takes : goal.returns-in-Err-clause-takes

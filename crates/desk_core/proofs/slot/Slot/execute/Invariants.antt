@@ -1,11 +1,14 @@
 use Rattle.std.proofs.Common.{◌≡◌}
 use Rattle.desk_core.specs.Answers.{Appended}
+use Rattle.desk_core.specs.Reports.{SendsFew}
 use Rattle.desk_core.specs.Steps.{GoesOn}
 use Rattle.desk_core.proofs.slot.Slot.execute.Given as goal
 
-abbrev pub invariant-loop : goal.invariant-loop
-invariant-loop g l = record {
+abbrev pub invariant-loop-act : goal.invariant-loop-act
+invariant-loop-act g l = record {
   goes : GoesOn g.L.Outgoing.sent g.L.Outgoing.received l.fn.self l.fn.seat l.fn.link l.self l.seat l.link;
   grows : Appended l.appended l.fn.seat l.seat;
+  few : SendsFew g.L.Outgoing.sent l._act l.fn.link l.link;
+  fits : SendsFew g.L.Outgoing.sent 8 l.fn.link l.link;
   unread : g.L.Outgoing.received l.link ≡ g.L.Outgoing.received l.fn.link;
 }

@@ -6,6 +6,7 @@ use Rattle.desk_core.proofs.Concluding.{concludes_quietly, concludes_relaying}
 use Rattle.desk_core.proofs.Going.{heeds_quietly}
 use Rattle.desk_core.proofs.Living.{loses, same_stage, waits_still}
 use Rattle.desk_core.proofs.Messages.{keeps_own, quiet, refused_on, relayed_on, same_number, slot_relayed, still}
+use Rattle.desk_core.proofs.Reporting.{relays_one, sends_none}
 use Rattle.desk_core.proofs.slot.Slot.pass_one.Goals as goal
 
 pub returns-then-not-runs-clause-served : goal.returns-then-not-runs-clause-served
@@ -84,3 +85,27 @@ invariant_of-self-in-Ok g c =
       boxed = c.args.self.now.boxed;
       next = waits_still _ _ _ _ c.note.ensures.rest.restaged refl c.args.self.now.next;
     }
+
+pub returns-then-not-runs-clause-few : goal.returns-then-not-runs-clause-few
+returns-then-not-runs-clause-few g c =
+    sends_none g.L.Outgoing.sent _ _ _ refl
+
+pub returns-in_default-clause-few : goal.returns-in_default-clause-few
+returns-in_default-clause-few g c =
+    sends_none g.L.Outgoing.sent _ _ _ refl
+
+pub returns-in_default-outbox-clause-few : goal.returns-in_default-outbox-clause-few
+returns-in_default-outbox-clause-few g c =
+    sends_none g.L.Outgoing.sent _ _ _ refl
+
+pub returns-in-Ok-clause-few : goal.returns-in-Ok-clause-few
+returns-in-Ok-clause-few g c =
+    relays_one g.L.Outgoing.sent c.args.link.now c.relay.new.link c.in-Some.session (passage c.in-Some-outbox.taker c.args.self.now.kept (g.L.Outgoing.sent c.args.link.now)) (passage c.relay.new.taker c.relay.new.kept (g.L.Outgoing.sent c.relay.new.link)) c.relay.new.seat.seen c.in-Ok.relayed refl refl c.in-Ok.ensures.relays
+
+pub returns-in-Err-Memory-clause-few : goal.returns-in-Err-Memory-clause-few
+returns-in-Err-Memory-clause-few g c =
+    sends_none g.L.Outgoing.sent _ _ _ c.in-Err-Memory.ensures.refused.untold
+
+pub returns-in-Err-Gone-clause-few : goal.returns-in-Err-Gone-clause-few
+returns-in-Err-Gone-clause-few g c =
+    sends_none g.L.Outgoing.sent _ _ _ c.in-Err-Gone.ensures.refused.untold

@@ -6,6 +6,7 @@ use Rattle.session_core.specs.declared.act.Act.TheVariants.{Close, Direct, Do}
 use Rattle.desk_core.proofs.Answering.{quiet_takes}
 use Rattle.desk_core.proofs.Going.{goes_closing, goes_none, goes_resting, goes_taken, goes_telling, goes_waiting, not_some, still_executes}
 use Rattle.desk_core.proofs.Living.{next_so}
+use Rattle.desk_core.proofs.Reporting.{sends_none}
 use Rattle.desk_core.proofs.slot.Slot.step.Goals as goal
 
 pub returns-then-not-executes-clause-goes : goal.returns-then-not-executes-clause-goes
@@ -51,3 +52,18 @@ append-requires-clause-may g c = record {
   next = next_so c.args.self.now.connection.progress c.in-Some.entry.command (c.args.self.now.next c.in-Some.entry (sym c.take.ensures.value ∙ c.in-Some.is) (subst Executes c.stage.ensures (c.executes.ensures.yes c.if-not-executes.false)));
   boxed = c.args.self.now.boxed c.in-Some.entry (sym c.take.ensures.value ∙ c.in-Some.is);
 }
+
+pub returns-then-not-executes-clause-few : goal.returns-then-not-executes-clause-few
+returns-then-not-executes-clause-few g c = sends_none g.L.Outgoing.sent _ _ _ refl
+
+pub returns-in-Some-clause-few : goal.returns-in-Some-clause-few
+returns-in-Some-clause-few g c = sends_none g.L.Outgoing.sent _ _ _ refl
+
+pub returns-in-Some-Do-clause-few : goal.returns-in-Some-Do-clause-few
+returns-in-Some-Do-clause-few g c = sends_none g.L.Outgoing.sent _ _ _ refl
+
+pub returns-in-Some-Close-clause-few : goal.returns-in-Some-Close-clause-few
+returns-in-Some-Close-clause-few g c = sends_none g.L.Outgoing.sent _ _ _ refl
+
+pub returns-in-None-clause-few : goal.returns-in-None-clause-few
+returns-in-None-clause-few g c = sends_none g.L.Outgoing.sent _ _ _ refl

@@ -8,6 +8,7 @@ use Rattle.desk_core.proofs.Concluding.{concludes_by_error, concludes_quietly}
 use Rattle.desk_core.proofs.Going.{again_so, keeps_same, tells_later, tells_nobody, tells_told}
 use Rattle.desk_core.proofs.Living.{can_where, closes_over, loses, none_told_leaving, none_told_lost, same_stage, told_where}
 use Rattle.desk_core.proofs.Messages.{quiet, still, told_one}
+use Rattle.desk_core.proofs.Reporting.{sends_none, sends_one}
 use Rattle.desk_core.proofs.slot.Slot.tell.Goals as goal
 
 pub returns-then-is_cut_off-clause-tells : goal.returns-then-is_cut_off-clause-tells
@@ -41,3 +42,15 @@ returns-in-Err-Memory-clause-tells g c =
     (concludes_quietly g.L.Outgoing.sent _ _ _ _ (ap (λ (x : ConnectionValue). x.progress) c.put_back.ensures) c.in-Err-Memory.ensures.untold
     (λ t. subst CanTell (ap (λ (x : ConnectionValue). x.stage) c.put_back.ensures) t))
     (λ executes. again_so c.args.self.now.connection c.put_back.new.self c.args.self.now.waiting (Taken (Direct c.args.notice)) (Direct c.args.notice) executes c.requires.first refl c.put_back.ensures c.requires.nothing)
+
+pub returns-then-is_cut_off-clause-few : goal.returns-then-is_cut_off-clause-few
+returns-then-is_cut_off-clause-few g c = sends_none g.L.Outgoing.sent _ _ _ refl
+
+pub returns-in-Ok-clause-few : goal.returns-in-Ok-clause-few
+returns-in-Ok-clause-few g c = sends_one g.L.Outgoing.sent _ _ _ c.in-Ok.ensures.told
+
+pub returns-in-Err-Gone-clause-few : goal.returns-in-Err-Gone-clause-few
+returns-in-Err-Gone-clause-few g c = sends_none g.L.Outgoing.sent _ _ _ c.in-Err-Gone.ensures.untold
+
+pub returns-in-Err-Memory-clause-few : goal.returns-in-Err-Memory-clause-few
+returns-in-Err-Memory-clause-few g c = sends_none g.L.Outgoing.sent _ _ _ c.in-Err-Memory.ensures.untold
