@@ -12,8 +12,10 @@ import os
 import pathlib
 import select
 import signal
+import socket
 import subprocess
 import sys
+import threading
 import time
 
 from lib.fake_peer import CONNECTED, Peer, close, receipt_of
@@ -561,12 +563,69 @@ def farewells(program, checks):
             checks.same(f"{' '.join(words)}, whose DISCONNECT {what}", seen, (0, b"", ""))
 
 
+# For how long one listens to a peer that says nothing: more than a step may take, in seconds.
+QUIET = 7
+
+
+def patience(program, checks):
+    """One who listens waits for longer than a step takes, and connects again once a second."""
+
+    def late(peer):
+        peer.shake()
+        connected(peer, peer.hear())
+        peer.hear()
+        time.sleep(QUIET)
+        peer.say(message(b"late", 1))
+        receipted(peer, peer.hear()[1])
+        close(peer)
+        peer.wait()
+
+    peer = Peer(late)
+    checks.same(f"a message after {QUIET} s is heard over the same connection", run(program, "listen", peer.port, "/topic/a", "--count", 1), (0, b"late\n", ""))
+    peer.end()
+    tries = []
+
+    def lost(peer):
+        peer.shake()
+        connected(peer, peer.hear())
+        peer.hear()
+        peer.socket.shutdown(2)
+        end = time.monotonic() + 3.5
+        while (left := end - time.monotonic()) > 0:
+            peer.listener.settimeout(left)
+            with contextlib.suppress(TimeoutError):
+                peer.listener.accept()[0].close()
+                tries.append(time.monotonic())
+
+    peer = Peer(lost)
+    with started(program, "listen", peer.port, "/topic/a"):
+        peer.end()
+    checks.check("a connection that is lost is made again once a second", 2 <= len(tries) <= 4, tries)
+
+
+def addresses(program, checks):
+    """A URL without a port is of port 80, and an address of IPv6 stands in brackets."""
+    for where, port, url in (("127.0.0.1", 80, "ws://127.0.0.1/"), ("::1", 0, "ws://[::1]:{}/")):
+        try:
+            listener = socket.create_server((where, port), family=socket.AF_INET6 if ":" in where else socket.AF_INET)
+        except OSError as fault:
+            checks.tell(f"{url}: not tried, since nobody may listen there ({fault})")
+            continue
+        with listener:
+            peer = threading.Thread(target=lambda: listener.accept()[0].close())
+            peer.start()
+            seen = run(program, "ping", url.format(listener.getsockname()[1]))
+            listener.settimeout(1)
+            peer.join(5)
+            checks.check(f"{url} is reached", not peer.is_alive() and "no handshake" in seen[2], seen)
+
+
 def main():
     # A shell that has this run in the background lets it ignore SIGINT, and so would its children.
     signal.signal(signal.SIGINT, signal.default_int_handler)
     program = built_program(words_of(__doc__, BUILT).parse_args())
     checks, start = Checks(), time.monotonic()
-    for scenario in (helps, bad_words, bodies, receipts, lines, peeks, durables, ends, restarts, timeouts, peers, windows, frames, farewells):
+    for scenario in (helps, bad_words, bodies, receipts, lines, peeks, durables, ends, restarts, timeouts, peers, windows, frames, farewells, patience, addresses):
         scenario(program, checks)
     print(f"{checks.failed} checks failed, in {time.monotonic() - start:.0f} s")
     sys.exit(1 if checks.failed else 0)
