@@ -9,6 +9,7 @@ has what was acknowledged; `show` and `held` beside its server change nothing of
 """
 
 import itertools
+import os
 import pathlib
 import signal
 import subprocess
@@ -80,6 +81,8 @@ def served(checks, closed):
     try:
         client = connected(port)
         client.publish("/queue/kept", "acknowledged")
+        numbers = [os.readlink(f"/proc/{process.pid}/fd/{it}") for it in closed]
+        checks.same(f"{name}: what has the numbers of closed streams", numbers, ["/dev/null"] * len(closed))
         for number in range(6):
             client.publish("/topic/nobody", f"{number}" + "x" * 60_000)
         before = journal.read_bytes()

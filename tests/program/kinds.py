@@ -33,6 +33,8 @@ HALF = 20
 EARLY, LATE = 1, 6
 # So many bytes of a subscriber's messages are more than sockets keep, and less than an outbox does.
 UNREAD, EACH = 200, 60_000
+# How many clients a full server has a place for, until it is known that they are no ping, and how many more it answers.
+GUESTS = 16 + 4
 # So many lines wait to be written at most.
 UNTOLD = 64
 
@@ -139,7 +141,17 @@ def full(program, checks):
             with contextlib.suppress(Refused):
                 WebSocket(server.port)
                 checks.check("one more is refused", False)
-        checks.same("three over the most", server.await_count(r"refused (\d+) clients over the most that are taken \(503\)", 3, 3), 3)
+        form = r"refused (\d+) clients over the most that are taken \(503\)"
+        checks.same("three over the most", server.await_count(form, 3, 3), 3)
+        # So many may say nothing for two seconds. Whoever comes then is closed unanswered, and counted too.
+        silent = [socket.create_connection(("127.0.0.1", server.port), timeout=5) for _ in range(GUESTS)]
+        time.sleep(0.2)
+        for _ in range(5):
+            with socket.create_connection(("127.0.0.1", server.port), timeout=1) as one:
+                checks.same("one more than may be silent is closed at once", one.recv(1), b"")
+        checks.same("and counted", server.await_count(form, 3 + 5, 3), 3 + 5)
+        for one in silent:
+            one.close()
         for one in clients:
             one.close()
 

@@ -137,6 +137,7 @@ def a_life(program, folder, checks):
         checks.same("it ends in good order", server.wait(), 0)
         checks.same("its last line says that", json.loads(server.lines[-1])["kind"], "ending")
         by_the_table("a life", server, checks)
+        checks.same("and nothing else came", {it["kind"] for it in map(json.loads, server.lines)} - {"opening"}, {"made", "started", "journal_small", "refused", "errors", "ending"})
     with serving(program, journal, "--until-eof") as server:
         checks.check("it listens again", server.listens())
         checks.same("its start says how many messages are held", (server.awaited("started") or {}).get("messages"), 7)

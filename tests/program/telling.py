@@ -109,6 +109,16 @@ def starts(program, checks):
         checks.same("which is not small", server.told("journal small", 0.5), [])
 
 
+def threads(program, checks):
+    """as many threads serve as are asked for"""
+    tasks = {}
+    for count in (1, 3):
+        with serving(program, more=["--threads", str(count)]) as server:
+            server.told("started")
+            tasks[count] = len(list(pathlib.Path(f"/proc/{server.process.pid}/task").iterdir()))
+    checks.same("three threads are two more than one", tasks[3] - tasks[1], 2)
+
+
 def counts(program, checks):
     """refusals that are counted"""
     with serving(program) as server:
@@ -298,7 +308,7 @@ def small_journal(program, checks):
 def main():
     program = scenario.words_of(__doc__).parse_args().program
     checks = scenario.Checks()
-    for part in (starts, counts, names, around_the_limit, errors, slow, descriptors, lawful, small_journal):
+    for part in (starts, threads, counts, names, around_the_limit, errors, slow, descriptors, lawful, small_journal):
         try:
             part(program, checks)
         except Exception as error:
