@@ -192,7 +192,7 @@ def a_first_start(checks):
         again = Start(checks.program, file, port)
         checks.check("the next start serves", again.listens())
         checks.same(f"it ends by {sent.name}", again.end(sent), (STATUSES[sent], ""))
-        checks.same("its server is gone", running_over(file), [])
+        wait_until(lambda: not running_over(file))
     last = Start(checks.program, "--new", file, port)
     checks.check("--new serves a journal that is there", last.listens())
     checks.same("what was sent is there", found_in(port), ["before"])
