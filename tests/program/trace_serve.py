@@ -12,6 +12,7 @@ docs/JOURNAL.md says. No contract can know this. Needs strace and Python 3 alone
   before it, and a sync. Nothing else is written into the file.
 - What the clients sent stands in the blocks, once each, with the bytes that its record has.
 - No CONNECTED, RECEIPT or MESSAGE leaves a socket before the sync after the gate of its command's block.
+- A client's socket sends small packets at once (TCP_NODELAY).
 """
 
 import collections
@@ -32,7 +33,7 @@ from lib.stomp_client import Client
 
 AREA = 65_536
 HEAD = 32
-CALLS = "openat,flock,?fstat,?newfstatat,?statx,pread64,pwrite64,pwritev,write,writev,sendto,sendmsg,fsync,fdatasync,ftruncate"
+CALLS = "accept,accept4,setsockopt,openat,flock,?fstat,?newfstatat,?statx,pread64,pwrite64,pwritev,write,writev,sendto,sendmsg,fsync,fdatasync,ftruncate"
 
 
 class Wrong(Exception):
@@ -341,6 +342,17 @@ def listens_after(calls, ended):
     raise Wrong("it does not say that it listens")
 
 
+def sends_at_once(calls):
+    """Each client's socket sends small packets at once, from before its first bytes on."""
+    came = {call.answer: call for call in calls if call.name in ("accept", "accept4") and call.answer is not None and call.answer >= 0}
+    check(came, "nobody came")
+    for number, call in came.items():
+        set_so = [it for it in calls if it.name == "setsockopt" and it.descriptor() == number and "TCP_NODELAY, [1]" in it.words and it.begun > call.ended]
+        check(set_so, f"small packets of the socket {number} wait")
+        written = [it.begun for it in calls if it.name in ("write", "writev", "sendto", "sendmsg") and it.descriptor() == number and it.begun > call.ended]
+        check(not written or set_so[0].begun < min(written), f"small packets of the socket {number} wait at first")
+
+
 def first_run(program, folder, path):
     """An empty journal, and a client that waits for each receipt."""
     trace = folder / "first.trace"
@@ -352,6 +364,7 @@ def first_run(program, folder, path):
     journal = Journal(calls, path)
     ended, gate = start(journal, 0, bytes(32))
     listens_after(calls, ended)
+    sends_at_once(calls)
     found = durable(journal, gate, 0)
     count = heard(calls, found, journal)
     check([data for _, _, data, _, _ in found] == records, "the blocks hold other records than what the client asked for")
