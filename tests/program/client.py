@@ -11,10 +11,12 @@ import contextlib
 import os
 import pathlib
 import select
+import shutil
 import signal
 import socket
 import subprocess
 import sys
+import tempfile
 import threading
 import time
 
@@ -604,7 +606,7 @@ def patience(program, checks):
 
 
 def addresses(program, checks):
-    """A URL without a port is of port 80, and an address of IPv6 stands in brackets."""
+    """A URL without a port is of port 80, an address of IPv6 stands in brackets, and a host may have several addresses."""
     for where, port, url in (("127.0.0.1", 80, "ws://127.0.0.1/"), ("::1", 0, "ws://[::1]:{}/")):
         try:
             listener = socket.create_server((where, port), family=socket.AF_INET6 if ":" in where else socket.AF_INET)
@@ -618,6 +620,16 @@ def addresses(program, checks):
             listener.settimeout(1)
             peer.join(5)
             checks.check(f"{url} is reached", not peer.is_alive() and "no handshake" in seen[2], seen)
+    with serving(program) as broker, tempfile.NamedTemporaryFile("w") as hosts:
+        # Nobody listens at the first of these.
+        hosts.write("::1 two-addresses\n127.0.0.1 two-addresses\n")
+        hosts.flush()
+        words = ["unshare", "--mount", "sh", "-c", 'mount --bind "$0" /etc/hosts && exec "$@"', hosts.name]
+        if shutil.which("unshare") is None or subprocess.run([*words, "true"], capture_output=True).returncode:
+            checks.tell("a host with two addresses: not tried, since this system lets nobody lay a file over /etc/hosts")
+            return
+        done = subprocess.run([*words, program, "ping", f"ws://two-addresses:{broker.port}/"], capture_output=True, timeout=30)
+        checks.same("the second address of a host is tried after the first", (done.returncode, done.stderr), (0, b""))
 
 
 def main():
