@@ -126,7 +126,7 @@ SCRIPTS = [
     Script("tests/program/rubbish.py", light=""),
     Script("tests/program/holding.py", light="", waits=True),
     Script("clients/independent.py"),
-    Script("tests/program/full_journal.py", light=""),
+    Script("tests/program/full_journal.py", light="", waits=True),
     Script("tests/program/restarts.py", light=""),
     Script("clients/browser.py"),
     Script("clients/module.py", light="--engine Node --kills 1", needs=("node",)),

@@ -1,6 +1,6 @@
 #!/usr/bin/env python3
 """A journal that is full: the server logs it, its clients are disconnected, and the program opens the journal again after a pause that
-grows, at the same port. All that was receipted is there then.
+grows, at the same port. All that was receipted is there then. It takes a minute, in which it mostly waits.
 
     python3 tests/program/full_journal.py [PROGRAM]
 """
@@ -10,6 +10,7 @@ import select
 import subprocess
 import sys
 import tempfile
+import threading
 import time
 
 from lib import scenario
@@ -19,11 +20,13 @@ from lib.stomp_client import Client, Closed
 JOURNAL_BYTES = 131_104
 BODY = "x" * 1_000
 # What a server logs before its end.
-LOGGED = (b" started: ", b" compacted: ", b" journal small: ", b" journal nearly full: ")
+LOGGED = (b" started: ", b" compacted: ", b" compacted slowly: ", b" journal small: ", b" journal nearly full: ")
 FULL = b"stompd: J4 journal full\n"
 # An opened journal of this size is ready at once; a busy machine gets a minute.
 PATIENCE = 60
 
+# After a server that ran for so long, in seconds, the next pause is the shortest again.
+LONG = 66
 # More than an area has room for, and many more than a worker's window of 16 lets in at a time.
 UNASKED = 64
 LONG_BODY = "x" * 4_000
@@ -157,11 +160,26 @@ def nobody_reads(program, checks):
         checks.same("and ends in good order", server.process.wait(timeout=PATIENCE), 0)
 
 
+def after_a_minute(program, checks):
+    """a server that ran for over a minute: the next pause is the shortest"""
+    with tempfile.TemporaryDirectory(prefix="stompd-") as folder, Full(program, folder) as server:
+        for seconds, rest in ((1, 0), (2, 0), (1, LONG)):
+            checks.check("it serves", server.listens())
+            time.sleep(rest)
+            send_until_closed(Client(server.port).connect())
+            lines_until(server.process.stderr, FULL)
+            line = f"stompd: opening the journal again in {seconds} s, which makes room\n".encode()
+            checks.same(f"after {rest} s at rest the next pause is of {seconds} s", next_line(server.process.stderr), line)
+
+
 def main():
     program = scenario.words_of(__doc__).parse_args().program
     checks = scenario.Checks()
+    slow = threading.Thread(target=scenario.try_one, args=(after_a_minute, program, checks))
+    slow.start()
     for part in (one_at_a_time, all_at_once, nobody_reads):
         scenario.try_one(part, program, checks)
+    slow.join()
     return checks.status()
 
 
