@@ -259,7 +259,7 @@ impl Clients {
         }
     }
 
-    /// A client is now where it is said to be. It goes on by itself if more of its bytes may be there.
+    /// A client is now in that state. It goes on by itself if more of its bytes may be there.
     pub fn stand(&mut self, number: usize, state: ClientState, has_rest: bool)
         ensures there { MatchOption (client_at number self.old) (self.new.all ≡ self.old.all) (λ client. Updates self.old.all self.new.all number (Some (record client { state = state }))) }
         ensures rest { self.new ≡ record self.old { all = self.new.all; lines = gone_on has_rest number self.old.lines } }
@@ -268,7 +268,7 @@ impl Clients {
         self.go_on(number, has_rest);
     }
 
-    // A client is now where it is said to be.
+    // A client is now in that state.
     fn place(&mut self, number: usize, state: ClientState)
         ensures there { MatchOption (client_at number self.old) (self.new.all ≡ self.old.all) (λ client. Updates self.old.all self.new.all number (Some (record client { state = state }))) }
         ensures rest { self.new ≡ record self.old { all = self.new.all } }

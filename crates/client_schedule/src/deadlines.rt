@@ -4,7 +4,7 @@ ghost use Rattle.std.specs.Prelude.{◌≡◌, ◌<◌, ℕ, true, false};
 ghost use Rattle.std.specs.Option.{is_some};
 ghost use Rattle.client_schedule.specs.Deadlines.{IsDue, IsGivenUp, IsPingDue, IsQuiet, IsSilent, IsWriteDue, NeverCloses, OpensNothing, Overstays, Passed, SaysNoPart, TakesNothing, Until, counts, fresh, freed_by, heard_by, held_up_by, parting_by, pinged_by, taken_by, unread_by, wait_of};
 
-/// For how many milliseconds a client may say nothing between two parts of its handshake.
+/// For how many milliseconds a client may send nothing between two parts of its handshake.
 const LONGEST_PART: u64 = 20_000;
 
 /// For how many milliseconds a client may be connected without having opened a session, counting its handshake.

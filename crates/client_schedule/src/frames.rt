@@ -11,9 +11,9 @@ const MASK: u64 = 4;
 pub enum FrameProgress {
     /// Before a frame.
     Front,
-    /// Behind its first byte. The next one says how long its payload is, or its length.
+    /// Behind its first byte. The next one is the length of its payload, or of that length.
     Second,
-    /// In its length: so many bytes of that are to come, and those before say this.
+    /// In its length: that many bytes of it are to come, and those before have this value.
     Length(u32, u64),
     /// Before so many bytes of its mask and its payload.
     Payload(u64),
@@ -93,7 +93,7 @@ fn step(place: FrameProgress, byte: u8) -> FrameProgress
     }
 }
 
-// Behind the second byte, which says this of the length.
+// Behind the second byte, which has this for the length.
 fn behind_second(length: u8) -> FrameProgress
     requires { length < 128 }
     ensures { result ≡ behind_second length }

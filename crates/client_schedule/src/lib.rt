@@ -20,6 +20,7 @@ pub use clients::{Client, ClientState, Clients};
 pub use deadlines::{Due, Progress};
 pub use limits::CLIENTS;
 pub use outlook::Outlook;
-pub use read_budget::{Flow, ReadBudget};
+pub use read_budget::{Flow, Framed, ReadBudget};
 pub use supply::{Reported, reported_by};
+pub use waking::Retried;
 pub use watch::Watch;

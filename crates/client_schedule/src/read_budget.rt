@@ -1,6 +1,6 @@
 //! The socket of a client, which is read in portions, and never in vain.
 
-ghost use Rattle.std.specs.Prelude.{◌≡◌, ◌≤◌, ◌+◌, ◌-◌, ◌^◌, [], false, IfOk, OnErr, length, min};
+ghost use Rattle.std.specs.Prelude.{◌≡◌, ◌≤◌, ◌+◌, ◌-◌, ◌^◌, [], false, true, IfOk, OnErr, length, min};
 ghost use Rattle.std.specs.Io.{ReadsAtMost, WritesAtMost};
 ghost use Rattle.std.specs.Io.KnownBytes.{Keeps, ReadConsumes, WriteAppends};
 ghost use Rattle.client_schedule.specs.declared.read_budget.TheConstants.{FRAMES, READS};
@@ -11,12 +11,13 @@ use mio::net::TcpStream;
 use std::alloc::{AllocError, Global};
 use std::cell::Cell;
 use std::io::{ErrorKind, Read, Write};
+use std::marker::Model;
 use std::net::Shutdown;
 use std::{io, mem};
 use ws_core::Ending;
 
 /// How many reads that gave bytes make a portion. A link reads 4,096 bytes at a time. The other clients of the worker wait for as long as
-/// it takes to hear so many of the smallest fragments.
+/// it takes to read that many of the smallest fragments.
 const READS: u32 = 1;
 
 /// How many frames of its WebSocket end in a portion at most. One has six bytes at least, so a read may bring 682.
@@ -25,7 +26,7 @@ const FRAMES: u32 = 64;
 /// How many bytes are dropped at a time that come after a close.
 const DROPPED: usize = 16_384;
 
-/// What the stream of a client tells after a turn.
+/// What the stream of a client reports after a turn.
 #[derive(Clone, Copy)]
 pub struct Flow {
     /// How many bytes its socket took in all.
@@ -34,23 +35,38 @@ pub struct Flow {
     pub has_rest: bool,
 }
 
-/// A socket that says that it has nothing to give after so many reads that gave bytes, though it may have more. So a caller that reads
+/// A stream of which frames are counted. Only `count_frames` makes one, so whoever has it has called that. Contracts see
+/// whether it counts them.
+#[derive(Drop)]
+pub struct Framed {
+    is_framed: bool,
+}
+
+impl Model for Framed {
+    ghost use Rattle.std.specs.Prelude.{Bool};
+
+    ghost Value = { Bool };
+
+    ghost view = { λ a. a.is_framed };
+}
+
+/// A socket that answers that it has nothing to give after `READS` reads that gave bytes, though it may have more. So a caller that reads
 /// until there is nothing comes to an end, whatever a client sends. For a client may send fragments of a WebSocket's message without end
-/// (RFC 6455, section 5.4). `flow` tells that there may be more, since the poll does not tell it again. It also tells how many bytes the
-/// socket took, from which a worker knows whether its client takes anything.
+/// (RFC 6455, section 5.4). `flow` has whether there may be more, since the poll does not report it again. It also has how many bytes the
+/// socket took, from which a worker sees whether its client takes anything.
 ///
 /// Once frames are counted, the 64th ends a portion too. What was read behind it is kept for the next one; if memory is refused for that, it
 /// is given.
 ///
 /// Nor is a socket asked in vain. A read that gave fewer bytes than it asked for has left a stream empty, and so has one that gave none for
-/// now (epoll(7), on edge-triggered polls). From then on reads say `WouldBlock` without asking the socket, until `tell` says that the poll
-/// has told of it. Once its end or a failure was told, it is asked each time, since the poll doesn't tell of that again. For a read that
-/// gave fewer bytes may have left the end. A client may mark bytes as urgent, though RFC 6093 says that none should. It may be heard up to
+/// now (epoll(7), on edge-triggered polls). From then on reads answer `WouldBlock` without asking the socket, until `note_report` is called with
+/// what the poll reports. Once its end or a failure was reported, it is asked each time, since the poll doesn't report that again. For a read that
+/// gave fewer bytes may have left the end. A client may mark bytes as urgent, though by RFC 6093 none should. It may be read up to
 /// its mark, and beyond only once it sends more.
 ///
 /// Contracts see the socket; how many reads that give bytes are left of the portion, one at most; what there may be to read; and what the
 /// flow is. Each read that gives bytes takes one away, and one that gives none begins another portion. No contract sees what the poll has
-/// told since the last read.
+/// reported since the last read.
 #[derive(Drop)]
 pub struct ReadBudget<S> {
     alloc: Global,
@@ -58,7 +74,7 @@ pub struct ReadBudget<S> {
     left: u32,
     flow: Flow,
     supply: Supply,
-    // What the poll has told since the last read.
+    // What the poll has reported since the last read.
     reported: Cell<Reported>,
     // How many bytes its socket gave in all.
     given: u64,
@@ -95,7 +111,7 @@ impl<S: Drop> ReadBudget<S> {
         }
     }
 
-    /// What the stream tells now.
+    /// What the stream reports now.
     pub fn flow(&self) -> Flow
         ensures { result ≡ self.now.flow }
     {
@@ -103,14 +119,18 @@ impl<S: Drop> ReadBudget<S> {
     }
 
     /// From now on what comes is frames, and the first of them is still to begin.
-    pub fn count_frames(&self) {
-        self.is_framed.set(true);
+    pub fn count_frames(&self) -> Framed
+        ensures { result ≡ true }
+    {
+        let framed = Framed { is_framed: true };
+        self.is_framed.set(framed.is_framed);
+        framed
     }
 
-    /// The poll has told this of the socket. The next read knows it. An end that was told stays.
-    pub fn tell(&self, reported: Reported) {
-        self.reported
-            .set(reported_after(self.reported.get(), reported));
+    /// The poll has reported this of the socket, which the next read takes into account. An end that was reported stays.
+    pub fn note_report(&self, reported: Reported) {
+        let all = reported_after(self.reported.get(), reported);
+        self.reported.set(all);
     }
 }
 
@@ -118,7 +138,7 @@ impl<S: Read> ReadBudget<S> {
     ghost use Rattle.std.specs.Prelude.{◌≢◌};
     ghost use Rattle.client_schedule.specs.ReadBudget.{Asks, Declines, Reads, left_in};
 
-    // Reads, if the poll has told this since the last read.
+    // Reads, if the poll has reported this since the last read.
     fn read_reported(
         &mut self,
         reported: Reported,

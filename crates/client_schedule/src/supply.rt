@@ -7,29 +7,29 @@ use mio::event::Event;
 use std::io;
 use std::io::ErrorKind;
 
-/// What the poll has told of a socket since it was read last.
+/// What the poll has reported of a socket since it was read last.
 #[derive(Clone, Copy)]
 pub enum Reported {
-    /// Nothing of which a read would tell.
+    /// Nothing that a read would find.
     Nothing,
     /// That there are bytes.
     Bytes,
-    /// That its peer sends no more, or that it has failed. A read tells that after the bytes that came before.
+    /// That its peer sends no more, or that it has failed. A read finds that after the bytes that came before.
     End,
 }
 
 /// What there may be to read.
 #[derive(Clone, Copy)]
 pub enum Supply {
-    /// Perhaps bytes, of which the poll need not tell again.
+    /// Perhaps bytes, which the poll need not report again.
     Unknown,
-    /// Nothing, until the poll tells of it.
+    /// Nothing, until the poll reports some.
     Dry,
-    /// Bytes, and then the end. The poll tells of neither again.
+    /// Bytes, and then the end. The poll reports neither again.
     Ending,
 }
 
-/// What the poll tells of a socket that is to be read. Each flag that a read may answer to counts, whether or not the poll says that there
+/// What the poll reports of a socket that is to be read. Each flag that a read may answer to counts, whether or not it reports that there
 /// are bytes.
 pub fn reported_by(event: &Event) -> Reported
     ensures { result ≡ reported_by event.now }
@@ -43,7 +43,7 @@ pub fn reported_by(event: &Event) -> Reported
     }
 }
 
-/// What the poll has told since the last read, once it has told this after that. An end that was told stays.
+/// What the poll has reported since the last read, once it has reported this after that. An end that was reported stays.
 pub(crate) fn reported_after(before: Reported, reported: Reported) -> Reported
     ensures { result ≡ reported_after before reported }
 {
@@ -53,7 +53,7 @@ pub(crate) fn reported_after(before: Reported, reported: Reported) -> Reported
     }
 }
 
-/// What there may be to read once the poll has told this.
+/// What there may be to read once the poll has reported this.
 pub(crate) fn supply_with(supply: Supply, reported: Reported) -> Supply
     ensures { result ≡ with_reported reported supply }
 {

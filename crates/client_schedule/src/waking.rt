@@ -12,15 +12,31 @@ use crate::supply::Reported;
 use crate::timers::NEVER;
 use desk_core::{Next, Turned};
 use mio::net::TcpStream;
+use std::marker::Model;
 use std::mem;
 use ws_core::Farewell;
+
+/// Clients to which memory was refused were looked through at that moment. Only `Clients::retry` makes one, so whoever has it has called that.
+/// Contracts see the moment.
+#[derive(Drop)]
+pub struct Retried {
+    at: u64,
+}
+
+impl Model for Retried {
+    ghost use Rattle.std.specs.Prelude.{ℕ};
+
+    ghost Value = { ℕ };
+
+    ghost view = { λ a. a.at };
+}
 
 impl Clients {
     ghost use Rattle.client_schedule.specs.Turns.{gone_on, settled, woken};
 
-    /// The poll told this of a client's socket. It stands in line for a turn; its stream hears it if its handshake is under way. Answers
-    /// whether it sits at the desk: then its stream is to hear it there.
-    pub fn hear_of(&mut self, number: usize, reported: Reported, now: u64) -> bool
+    /// The poll reported this of a client's socket. It stands in line for a turn; its stream takes it if its handshake is under way. Answers
+    /// whether it sits at the desk: then its stream is to take it there.
+    pub fn note_report(&mut self, number: usize, reported: Reported, now: u64) -> bool
         ensures client { client_at number self.new ≡ option_map (heard_greeting reported now) (client_at number self.old) }
         ensures others { OthersStay number self.old self.new }
         ensures rest { self.new ≡ record self.old { all = self.new.all; lines = woken number self.old.lines } }
@@ -29,7 +45,7 @@ impl Clients {
         self.wake(number);
         match self.all.get_mut(number) {
             Some(client) => {
-                client.hear_of(reported, now);
+                client.note_report(reported, now);
                 client.is_seated()
             }
             None => false,
@@ -37,11 +53,12 @@ impl Clients {
     }
 
     /// Has clients to which memory was refused stand in line, once they are to try again.
-    pub fn retry(&mut self, now: u64)
-        ensures { self.new ≡ cond (nat_lt now self.old.retry) self.old (record self.old { lines = woken_short self.old.reach self.old self.old.lines; retry = NEVER }) }
+    pub fn retry(&mut self, now: u64) -> Retried
+        ensures clients { self.new ≡ cond (nat_lt now self.old.retry) self.old (record self.old { lines = woken_short self.old.reach self.old self.old.lines; retry = NEVER }) }
+        ensures at { result ≡ now }
     {
         if now < self.retry {
-            return;
+            return Retried { at: now };
         }
         self.retry = NEVER;
         for number in 0..self.reach {
@@ -49,6 +66,7 @@ impl Clients {
                 self.wake(number);
             }
         }
+        Retried { at: now }
     }
 
     // Whether memory was refused in a client's last turn.
@@ -68,7 +86,7 @@ impl Clients {
         self.timers.earliest().min(self.retry)
     }
 
-    /// What is to come of a client that had a turn and has not ended, and whose stream tells this. `is_unread` says that nothing is read from it,
+    /// What is to come of a client that had a turn and has not ended, and whose stream reports this. If `is_unread`, nothing is read from it,
     /// since a command of it waits for room: then its silence doesn't count.
     pub fn settle(&mut self, number: usize, turned: Turned, flow: Flow, is_unread: bool, now: u64)
         ensures lines { self.new.lines ≡ gone_on (has_more flow.has_rest turned.next (client_at number self.old)) number (settled number turned self.old.lines) }
@@ -80,8 +98,8 @@ impl Clients {
         self.go_on(number, has_more);
     }
 
-    // Whether more of a client's bytes may be there, of which the poll tells no more, after a turn that came to this. While the client
-    // was to be closed, nothing of it was heard.
+    // Whether more of a client's bytes may be there, which the poll reports no more, after a turn that came to this. While the client
+    // was to be closed, nothing of it was read.
     fn has_more(&self, number: usize, has_rest: bool, next: Next) -> bool
         ensures { result ≡ has_more has_rest next (client_at number self.now) }
     {
@@ -156,12 +174,12 @@ impl Client {
     ghost use Rattle.client_schedule.specs.Deadlines.{IsDue};
     ghost use Rattle.client_schedule.specs.Clients.{done_by};
 
-    // The poll told this of its socket.
-    fn hear_of(&mut self, reported: Reported, now: u64)
+    // The poll reported this of its socket.
+    fn note_report(&mut self, reported: Reported, now: u64)
         ensures { self.new ≡ heard_greeting reported now self.old }
     {
         if let ClientState::Greeting(greeting) = &self.state {
-            greeting.stream().tell(reported);
+            greeting.stream().note_report(reported);
             if !matches!(reported, Reported::Nothing) {
                 self.deadlines.heard(now);
             }

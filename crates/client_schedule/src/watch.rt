@@ -34,7 +34,7 @@ impl Watch {
     }
 
     /// A round is over for which so long a wait was allowed, and the system's clock shows this. If the round was longer by more than
-    /// a second, what was allowed counts, but no more than a second of it: nobody knows how much of it came before the pause.
+    /// a second, what was allowed counts, but no more than a second of it: how much of it came before the pause is unknown.
     pub fn go_on(&mut self, real: u64, allowed: u64)
         ensures seen { self.new.seen ≡ real }
         ensures shown { self.new.shown ≡ min (self.old.shown + counted allowed (real - self.old.seen)) (2 ^ 64 - 1) }
