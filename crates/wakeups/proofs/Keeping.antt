@@ -1,13 +1,13 @@
 -- What each step keeps.
 use Rattle.std.proofs.Common.{◌≡◌, ◌+◌, ◌<◌, ◌⊎◌, ℕ, Bool, true, false, List, [], ◌∷◌, inl, inr, refl, sym, ap, subst, ◌∙◌, arith}
 use Rattle.wakeups.specs.declared.bell_step.BellStep.{BellStep}
-use Rattle.wakeups.specs.declared.bell_step.BellStep.TheVariants.{Note, Ring, RingForOthers, Look, Wake, SayAsleep, Check, Return, SayAwake, TakeRing, TakeCalls}
+use Rattle.wakeups.specs.declared.bell_step.BellStep.TheVariants.{Note, Ring, RingForOthers, Look, Wake, SetAsleep, Check, Return, SetAwake, TakeRing, TakeCalls}
 use Rattle.wakeups.specs.declared.bell_step.Sleeper.{Sleeper}
 use Rattle.wakeups.specs.declared.bell_step.Sleeper.TheVariants.{Serves, FallsAsleep, Waits, Hurries, Returned, Awake, TakesCalls}
 use Rattle.wakeups.specs.Machines.{Machine, May, Polls, Runs, after, begin, checked, looked, took_ring, with_waking}
-use Rattle.wakeups.specs.Promises.{IsHeard}
+use Rattle.wakeups.specs.Promises.{IsNoticed}
 
--- it has said that it sleeps, and has not been told otherwise by itself
+-- it has set that it sleeps, and has not taken that back
 abbrev pub IsDown : Sleeper → Type 0
 IsDown FallsAsleep = Unit {0}
 IsDown Waits = Unit {0}
@@ -17,7 +17,7 @@ IsDown Returned = ⊥
 IsDown Awake = ⊥
 IsDown TakesCalls = ⊥
 
--- A bit that is set was rung for, or is being taken, or its caller is about to ring. A worker that is down has said so still, or somebody
+-- A bit that is set was rung for, or is being taken, or its caller is about to ring. A worker that is down has it set still, or somebody
 -- wakes it. And one that waits though there was a ring is woken, or one that rang is about to wake it.
 pub record IsKept (m : Machine) : Type 0 where
   pub heard : m.called ≡ true → (m.rung ≡ true) ⊎ ((m.worker ≡ TakesCalls) ⊎ (0 < m.noting))
@@ -83,7 +83,7 @@ module _ (m : Machine) (kept : IsKept m) where
     wakes = λ waits rung. elim (kept.wakes waits rung) [ inl woken ↦ inl woken | inr rest ↦ elim rest [ inl waking ↦ inr (inl (more m.asleep m.waking waking)) | inr looks ↦ inr (inl (found_asleep m.asleep m.waking looks.0)) ] ];
   }
   keeps Wake may = record { heard = kept.heard; down = λ _. inr (inr refl); wakes = λ _ _. inl refl }
-  keeps SayAsleep may = record {
+  keeps SetAsleep may = record {
     heard = not_taking m kept (λ takes. absurd (serves (sym may ∙ takes))) FallsAsleep;
     down = λ _. inl refl;
     wakes = λ waits _. absurd cc;
@@ -99,12 +99,12 @@ module _ (m : Machine) (kept : IsKept m) where
     where
       falls : FallsAsleep ≡ TakesCalls → ⊥
       falls is = absurd cc
-  keeps (Return told) may = record {
+  keeps (Return reported) may = record {
     heard = not_taking m kept (polls_no_calls m.worker may) Returned;
     down = λ down. absurd down;
     wakes = λ waits _. absurd cc;
   }
-  keeps SayAwake may = record {
+  keeps SetAwake may = record {
     heard = not_taking m kept (λ takes. absurd (returned (sym may ∙ takes))) Awake;
     down = λ down. absurd down;
     wakes = λ waits _. absurd cc;
@@ -137,7 +137,7 @@ at_first = record { heard = λ called. absurd cc; down = λ down. absurd down; w
 none : (n : ℕ) → n ≡ 0 → 0 < n → ⊥
 none n is some = absurd (omega (arith, is, some))
 
-pub heard : (steps : List BellStep) (m : Machine) → Runs begin steps m → IsHeard m
+pub heard : (steps : List BellStep) (m : Machine) → Runs begin steps m → IsNoticed m
 heard steps m runs =
     let kept = runs_keep begin steps m at_first runs in
     record {
@@ -146,7 +146,7 @@ heard steps m runs =
     }
 
 -- a worker that waits, and wakes, takes the calls
-module _ (steps : List BellStep) (m : Machine) (told : Bool) (runs : Runs begin steps m) (waits : m.worker ≡ Waits) (called : m.called ≡ true) (no_one : m.noting ≡ 0) where
+module _ (steps : List BellStep) (m : Machine) (reported : Bool) (runs : Runs begin steps m) (waits : m.worker ≡ Waits) (called : m.called ≡ true) (no_one : m.noting ≡ 0) where
   rung_for : m.rung ≡ true
   rung_for = elim ((heard steps m runs).found called no_one) [ inl rung ↦ rung | inr takes ↦ absurd (waiting (sym waits ∙ takes)) ]
     where
@@ -154,10 +154,10 @@ module _ (steps : List BellStep) (m : Machine) (told : Bool) (runs : Runs begin 
       waiting is = absurd cc
 
   abbrev pub four : List BellStep
-  four = Return told ∷ SayAwake ∷ TakeRing ∷ TakeCalls ∷ []
+  four = Return reported ∷ SetAwake ∷ TakeRing ∷ TakeCalls ∷ []
 
   abbrev woken_up : Machine
-  woken_up = after (after (after (after m (Return told)) SayAwake) TakeRing) TakeCalls
+  woken_up = after (after (after (after m (Return reported)) SetAwake) TakeRing) TakeCalls
 
   pub four_run : (n : Machine) × Runs m four n
   four_run = (woken_up, (subst Polls (sym waits) tt, (refl, (refl, (taken m.rung rung_for, refl)))))

@@ -2,13 +2,13 @@
 -- step of the code. The steps of all of them come in any order.
 use Rattle.std.specs.Prelude.{◌≡◌, ◌+◌, ◌-◌, ◌<◌, ℕ, Bool, true, false, List, [], ◌∷◌, if◌then◌else◌}
 use Rattle.wakeups.specs.declared.bell_step.BellStep.{BellStep}
-use Rattle.wakeups.specs.declared.bell_step.BellStep.TheVariants.{Note, Ring, RingForOthers, Look, Wake, SayAsleep, Check, Return, SayAwake, TakeRing, TakeCalls}
+use Rattle.wakeups.specs.declared.bell_step.BellStep.TheVariants.{Note, Ring, RingForOthers, Look, Wake, SetAsleep, Check, Return, SetAwake, TakeRing, TakeCalls}
 use Rattle.wakeups.specs.declared.bell_step.Caller.{Caller}
 use Rattle.wakeups.specs.declared.bell_step.Caller.TheVariants.{Calls, HasRung, FoundAsleep, Done}
 use Rattle.wakeups.specs.declared.bell_step.Sleeper.{Sleeper}
 use Rattle.wakeups.specs.declared.bell_step.Sleeper.TheVariants.{Serves, FallsAsleep, Waits, Hurries, Returned, Awake, TakesCalls}
 
--- Whether the client's bit is set, there was a ring, the worker has said that it sleeps, and the system was asked to end its wait. How far
+-- Whether the client's bit is set, there was a ring, the worker has set that it sleeps, and the system was asked to end its wait. How far
 -- the worker has come. How many callers have set the bit but not rung yet; how many have rung but not looked whether the worker sleeps; and
 -- how many have found it asleep but not asked the system yet.
 pub record Machine : Type 0 where
@@ -42,10 +42,10 @@ May m Ring = 0 < m.noting
 May m RingForOthers = Unit {0}
 May m Look = 0 < m.looking
 May m Wake = 0 < m.waking
-May m SayAsleep = m.worker ≡ Serves
+May m SetAsleep = m.worker ≡ Serves
 May m Check = m.worker ≡ FallsAsleep
-May m (Return told) = Polls m.worker
-May m SayAwake = m.worker ≡ Returned
+May m (Return reported) = Polls m.worker
+May m SetAwake = m.worker ≡ Returned
 May m TakeRing = m.worker ≡ Awake
 May m TakeCalls = m.worker ≡ TakesCalls
 
@@ -75,10 +75,10 @@ after m Ring = record m { rung = true; noting = m.noting - 1; looking = m.lookin
 after m RingForOthers = record m { rung = true; looking = m.looking + 1 }
 after m Look = record m { asleep = false; looking = m.looking - 1; waking = with_waking (looked m.asleep) m.waking }
 after m Wake = record m { woken = true; waking = m.waking - 1 }
-after m SayAsleep = record m { asleep = true; worker = FallsAsleep }
+after m SetAsleep = record m { asleep = true; worker = FallsAsleep }
 after m Check = record m { worker = checked m.rung }
-after m (Return told) = record m { woken = if told then false else m.woken; worker = Returned }
-after m SayAwake = record m { asleep = false; worker = Awake }
+after m (Return reported) = record m { woken = if reported then false else m.woken; worker = Returned }
+after m SetAwake = record m { asleep = false; worker = Awake }
 after m TakeRing = record m { rung = false; worker = took_ring m.rung }
 after m TakeCalls = record m { called = false; worker = Serves }
 

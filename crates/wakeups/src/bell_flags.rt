@@ -9,7 +9,7 @@ use crate::bell_step::{Caller, Sleeper};
 use mio::Waker;
 use std::sync::atomic::{AtomicBool, Ordering};
 
-/// The flags of a doorbell: whether its worker has said that it sleeps, and whether there was a ring. No contract knows what they are, since
+/// The flags of a doorbell: whether its worker sleeps, as it has set that, and whether there was a ring. No contract knows what they are, since
 /// other threads change them at any time.
 #[derive(Drop)]
 pub(crate) struct BellFlags {
@@ -77,8 +77,8 @@ impl Ringing {
         }
     }
 
-    /// It says that there was a ring.
-    pub(crate) fn say_rung(self, flags: &BellFlags) -> Ringing
+    /// It sets that there was a ring.
+    pub(crate) fn set_rung(self, flags: &BellFlags) -> Ringing
         requires { self.caller ≡ Calls }
         ensures { result.caller ≡ HasRung }
     {
@@ -138,8 +138,8 @@ impl AtBell {
         }
     }
 
-    /// It says that it sleeps.
-    pub(crate) fn say_asleep(self, flags: &BellFlags) -> AtBell
+    /// It sets that it sleeps.
+    pub(crate) fn set_asleep(self, flags: &BellFlags) -> AtBell
         requires { self.worker ≡ Serves }
         ensures { result.worker ≡ FallsAsleep }
     {
@@ -160,8 +160,8 @@ impl AtBell {
         }
     }
 
-    /// It says that it is awake.
-    pub(crate) fn say_awake(self, flags: &BellFlags) -> AtBell
+    /// It sets that it is awake.
+    pub(crate) fn set_awake(self, flags: &BellFlags) -> AtBell
         requires { self.worker ≡ Returned }
         ensures { result.worker ≡ Awake }
     {

@@ -5,7 +5,7 @@
 pub enum Sleeper {
     /// It serves its clients.
     Serves,
-    /// It has said that it sleeps, and next looks whether there was a ring.
+    /// It has set that it sleeps, and next looks whether there was a ring.
     FallsAsleep,
     /// It waits in the poll, for sockets and for the system's wake.
     Waits,
@@ -13,7 +13,7 @@ pub enum Sleeper {
     Hurries,
     /// The poll has ended.
     Returned,
-    /// It has said that it is awake, and next takes the ring back.
+    /// It has set that it is awake, and next takes the ring back.
     Awake,
     /// It has taken a ring back, and next takes the calls.
     TakesCalls,
@@ -22,9 +22,9 @@ pub enum Sleeper {
 /// How far a caller has come.
 #[derive(Clone, Copy)]
 pub enum Caller {
-    /// It has set the bit of its client, if it calls for one, and next says that there was a ring.
+    /// It has set the bit of its client, if it calls for one, and next sets that there was a ring.
     Calls,
-    /// It has said that there was a ring, and next looks whether the worker sleeps.
+    /// It has set that there was a ring, and next looks whether the worker sleeps.
     HasRung,
     /// It has found the worker asleep, and next asks the system to end its wait.
     FoundAsleep,
@@ -36,22 +36,22 @@ pub enum Caller {
 pub enum BellStep {
     /// A caller sets the bit of the client.
     Note,
-    /// A caller that has set the bit says that there was a ring.
+    /// A caller that has set the bit sets that there was a ring.
     Ring,
-    /// A caller that calls for another client, or for none, says that there was a ring.
+    /// A caller that calls for another client, or for none, sets that there was a ring.
     RingForOthers,
     /// A caller that has rung looks whether the worker sleeps, and marks it as not asleep.
     Look,
     /// A caller that found the worker asleep asks the system to end its wait.
     Wake,
-    /// The worker says that it sleeps.
-    SayAsleep,
+    /// The worker sets that it sleeps.
+    SetAsleep,
     /// It looks whether there was a ring.
     Check,
     /// Its poll ends: at any time, and at once if it does not wait. The poll may report the system's wake, which is then gone.
     Return(bool),
-    /// It says that it is awake.
-    SayAwake,
+    /// It sets that it is awake.
+    SetAwake,
     /// It takes the ring back.
     TakeRing,
     /// It takes the bits of all clients.

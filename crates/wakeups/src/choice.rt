@@ -3,7 +3,7 @@
 ghost use Rattle.std.specs.Prelude.{◌≡◌, ◌+◌, ◌-◌, ◌^◌, [], ℕ, max, min, IfSome, IsNone, IsTrue, ◌↔◌};
 ghost use Rattle.wakeups.specs.Budgets.{HasFairShare, IsGivenUp, IsMost, IsMostElsewhere, count_clients, counts_for};
 
-/// What a desk tells of its clients.
+/// What a desk reports of its clients.
 #[derive(Clone, Copy)]
 pub struct DeskHolds {
     /// How many clients it has.
@@ -45,7 +45,7 @@ impl Holdings {
         }
     }
 
-    /// What the desk of that number knows of all clients, which hold so many bytes, by what each desk tells. Of clients that hold the same,
+    /// What the desk of that number knows of all clients, which hold `total` bytes, by what each desk reports. Of clients that hold the same,
     /// one at a desk of a lower number counts for a byte more. So one of them is given up, and not one of each desk.
     pub fn known_at(desk: usize, budget: u64, total: u64, desks: &[DeskHolds]) -> Holdings
         ensures bytes { (result.budget ≡ budget) × (result.total ≡ total) }

@@ -34,6 +34,7 @@ impl ClientBytes {
     pub fn new() -> ClientBytes
         ensures nothing { All (λ bytes. bytes ≡ 0) result.bytes }
         ensures places { length result.bytes ≡ CLIENTS }
+        ensures first { result.most ≡ 0 }
     {
         let mut bytes = [0; CLIENTS];
         bytes.fill(0);

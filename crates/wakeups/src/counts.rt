@@ -1,4 +1,4 @@
-//! What threads count, until it is told.
+//! What threads count, until it is reported.
 
 use std::array;
 use std::sync::atomic::{AtomicU64, Ordering};
@@ -22,7 +22,7 @@ impl<const N: usize> Counts<N> {
         more > 0 && place < N && self.counts[place].fetch_add(more, Ordering::SeqCst) == 0
     }
 
-    /// That many came in all. Answers how many more that is than was said before.
+    /// That many came in all. Answers how many more that is than before.
     pub(crate) fn raise(&self, place: usize, all: u64) -> u64 {
         if place >= N {
             return 0;

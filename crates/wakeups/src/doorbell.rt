@@ -9,13 +9,13 @@ use mio::{Registry, Token, Waker};
 use std::io;
 use std::sync::atomic::{AtomicBool, Ordering};
 
-/// Ends the wait of one worker. The mailbox of each of its desks says for which of its clients.
+/// Ends the wait of one worker. The mailbox of each of its desks has for which of its clients.
 ///
-/// No ring is lost. A call sets its client's bit, then says that there was a ring, then looks whether the worker sleeps. The
-/// worker says that it sleeps, then looks whether there was a ring. Once it is awake, it takes the ring back before it takes the
+/// No ring is lost. A call sets its client's bit, then sets that there was a ring, then looks whether the worker sleeps. The
+/// worker sets that it sleeps, then looks whether there was a ring. Once it is awake, it takes the ring back before it takes the
 /// bits of all its desks. All of these steps stand in one order. So a call whose bit the worker has not taken comes to its
 /// second step after the worker took the ring back. Then the worker finds that ring before it sleeps the next time, or else has
-/// said by then that it sleeps, and is woken. Only a ring of a sleeping worker costs a call of the system.
+/// set by then that it sleeps, and is woken. Only a ring of a sleeping worker costs a call of the system.
 ///
 /// A number that was one client's and is another's by now may still be called for the one that is gone. Then the other gets a
 /// turn in which it finds nothing.
@@ -42,35 +42,35 @@ impl Doorbell {
     pub(crate) fn ring(&self) -> Ringing
         ensures { result.caller ≡ Done }
     {
-        let rung = Ringing::begin().say_rung(&self.flags);
+        let rung = Ringing::begin().set_rung(&self.flags);
         rung.look(&self.flags).wake(&self.waker)
     }
 
-    /// Says whether the worker waits for a greater mark.
+    /// Sets whether the worker waits for a greater mark.
     pub(crate) fn await_mark(&self, awaits: bool) {
         self.awaits_mark.store(awaits, Ordering::SeqCst);
     }
 
     /// Rings if the worker waits for a greater mark.
-    pub(crate) fn tell_mark(&self) {
+    pub(crate) fn ring_if_awaited(&self) {
         if self.awaits_mark.load(Ordering::SeqCst) {
             drop(self.ring());
         }
     }
 
-    /// Says that the worker is about to wait, and then looks whether it may: it may not if the bell was rung since it last woke.
+    /// Sets that the worker is about to wait, and then looks whether it may: it may not if the bell was rung since it last woke.
     pub fn falls_asleep(&self) -> AtBell
         ensures { (rung : Bool) × (result.worker ≡ checked rung) }
     {
-        AtBell::serves().say_asleep(&self.flags).check(&self.flags)
+        AtBell::serves().set_asleep(&self.flags).check(&self.flags)
     }
 
-    /// Says that the worker is awake, and then takes the ring back, if there was one: then it has to look for whom.
+    /// Sets that the worker is awake, and then takes the ring back, if there was one: then it has to look for whom.
     pub fn wakes_up(&self) -> AtBell
         ensures { (rung : Bool) × (result.worker ≡ took_ring rung) }
     {
         AtBell::returned()
-            .say_awake(&self.flags)
+            .set_awake(&self.flags)
             .take_ring(&self.flags)
     }
 }

@@ -5,7 +5,7 @@ use std::sync::atomic::{AtomicBool, Ordering};
 use std::thread::Parker;
 use std::time::Duration;
 
-/// Whether a server was asked to end, whether it now ends, and the sleep of its flusher, which hears of the first.
+/// Whether a server was asked to end, whether it now ends, and the sleep of its flusher, which the first ends.
 #[derive(Drop)]
 pub struct Ending {
     asked: AtomicBool,
@@ -34,7 +34,7 @@ impl Ending {
         self.asked.load(Ordering::SeqCst)
     }
 
-    /// Says that nothing more will be stored: workers are to part with their clients.
+    /// Nothing more will be stored: workers are to part with their clients.
     pub(crate) fn begin(&self) {
         self.asked.store(true, Ordering::SeqCst);
         self.begun.store(true, Ordering::SeqCst);

@@ -13,7 +13,7 @@ use std::thread::Parker;
 use std::time::{Clock, Duration};
 
 /// How many lines may wait to be written. If nobody reads what is written, later ones are left out, and counted.
-const UNTOLD: usize = 64;
+const MOST_UNWRITTEN: usize = 64;
 
 /// How often a server that ends looks whether its last lines are written, and for how many milliseconds it waits in between, unless one is
 /// written. Nobody may read them, and then it ends without.
@@ -21,7 +21,7 @@ const LOOKS: u32 = 100;
 
 const LOOK: u64 = 5;
 
-/// How the server did when its flusher said so last.
+/// How the server did when its flusher reported last.
 #[derive(Drop)]
 struct Gauges {
     commands: AtomicU64,
@@ -83,19 +83,19 @@ impl Gauges {
 /// a second at most, and how the server does once a minute.
 #[derive(Drop)]
 pub struct LogThread {
-    untold: ArrayQueue<Event>,
-    // How many events were taken to be told, and how many of them were told.
+    unwritten: ArrayQueue<Event>,
+    // How many events were taken to be written, and how many of them were.
     taken: AtomicU64,
-    told: AtomicU64,
+    written: AtomicU64,
     kinds: Counts<KINDS>,
-    // ERRORs by code that were not told yet, and those of the broker that its flusher has counted.
+    // ERRORs by code that were not reported yet, and those of the broker that its flusher has counted.
     errors: Counts<ERRORS>,
     published: Counts<ERRORS>,
     // How many ERRORs were sent that no command asked for.
     notices: AtomicU64,
     gauges: Gauges,
     thread: Parker,
-    // The sleep of what ends the server, until all is told.
+    // The sleep of what ends the server, until all is written.
     ender: Parker,
     // Whether the server has ended, and its thread with it.
     over: AtomicBool,
@@ -105,9 +105,9 @@ impl LogThread {
     /// Nothing has happened yet.
     pub fn new(alloc: Global) -> Result<LogThread, AllocError> {
         Ok(LogThread {
-            untold: ArrayQueue::new(alloc, UNTOLD)?,
+            unwritten: ArrayQueue::new(alloc, MOST_UNWRITTEN)?,
             taken: AtomicU64::new(0),
-            told: AtomicU64::new(0),
+            written: AtomicU64::new(0),
             kinds: Counts::new(),
             errors: Counts::new(),
             published: Counts::new(),
@@ -119,9 +119,9 @@ impl LogThread {
         })
     }
 
-    /// Has an event told, unless as many wait as may.
+    /// Has an event written, unless as many wait as may: then it is counted as left out.
     pub fn note<R: Wait>(&self, rt: &R, event: Event) {
-        match self.untold.push(rt, event) {
+        match self.unwritten.push(rt, event) {
             Ok(()) => {
                 self.taken.fetch_add(1, Ordering::SeqCst);
                 self.thread.unpark();
@@ -130,10 +130,10 @@ impl LogThread {
         }
     }
 
-    /// Returns once each event that was noted is told, or after half a second.
-    pub fn await_told<R: Wait>(&self, rt: &R) {
+    /// Returns once each event that was noted is written, or after half a second.
+    pub fn await_written<R: Wait>(&self, rt: &R) {
         for _look in 0..LOOKS {
-            if self.told.load(Ordering::SeqCst) >= self.taken.load(Ordering::SeqCst) {
+            if self.written.load(Ordering::SeqCst) >= self.taken.load(Ordering::SeqCst) {
                 return;
             }
             self.ender.park_timeout(rt, Duration::from_millis(LOOK));
@@ -165,7 +165,7 @@ impl LogThread {
         }
     }
 
-    /// Says how the server does, and what was published so far.
+    /// Takes how the server does, and what was published so far.
     pub fn figures(&self, figures: Figures, tally: &Tally) {
         if self.gauges.refused.load(Ordering::SeqCst) != tally.refused {
             for code in 0..ERRORS {
@@ -213,11 +213,11 @@ impl LogThread {
         form: Form,
         writer: &mut W,
     ) {
-        for _event in 0..UNTOLD {
-            match self.untold.pop(rt) {
+        for _event in 0..MOST_UNWRITTEN {
+            match self.unwritten.pop(rt) {
                 Some(event) => {
                     report(alloc, rt, form, event, writer);
-                    self.told.fetch_add(1, Ordering::SeqCst);
+                    self.written.fetch_add(1, Ordering::SeqCst);
                     self.ender.unpark();
                 }
                 None => return,

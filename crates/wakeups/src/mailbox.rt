@@ -6,7 +6,6 @@ ghost use Rattle.claim_core.specs.declared.limits.TheConstants.{WINDOW};
 ghost use Rattle.wakeups.specs.Bells.{called_by, called_for};
 ghost use Rattle.wakeups.specs.Rooms.{since};
 
-use crate::account::Account;
 use crate::calls::{Called, Calls};
 use crate::choice::DeskHolds;
 use crate::doorbell::Doorbell;
@@ -30,13 +29,18 @@ use ws_core::Vacancy;
 /// How many sockets wait at most to be looked at by one desk's worker.
 const ARRIVALS: usize = 512;
 
-/// A socket that was just accepted, and whether its client is to be told that the server is full.
+/// A socket that was just accepted, and whether its client is answered that the server is full.
 #[derive(Drop)]
 pub struct Arrival {
     /// Its socket.
     pub socket: TcpStream,
     /// Whom the server has a place for.
     pub vacancy: Vacancy,
+}
+
+/// A client that counts at a desk, since it was handed to that. It can't be let go: `Mailbox::settle` takes it, and what became of the client.
+pub struct Counted {
+    desk: usize,
 }
 
 /// What others know of a worker's desk.
@@ -90,29 +94,47 @@ impl Mailbox {
         }
     }
 
-    /// Says the most bytes that one of its clients holds, by the account of what each holds.
-    pub fn say_most(&self, account: &Account) {
-        self.most.store(account.most(), Ordering::SeqCst);
+    /// Reports the most bytes that one of its clients holds, unless that was reported last.
+    pub(crate) fn report_most(&self, reported: &mut u64, most: u64)
+        ensures { reported.new ≡ most }
+    {
+        if *reported != most {
+            self.most.store(most, Ordering::SeqCst);
+            *reported = most;
+        }
     }
 
     /// Hands the desk a client. If too many wait for its worker already, the socket is closed.
     pub fn hand<R: Wait>(&self, rt: &R, arrival: Arrival) {
         self.clients.fetch_add(1, Ordering::SeqCst);
+        let counted = Counted { desk: self.desk };
         match self.arrivals.push(rt, arrival) {
-            Ok(()) => drop(self.bell.ring()),
+            Ok(()) => {
+                self.settle(counted, true);
+                drop(self.bell.ring());
+            }
             Err(refused) => {
                 drop(refused);
-                self.leaves();
+                self.settle(counted, false);
             }
         }
     }
 
-    /// The next client that was handed to the desk.
-    pub fn next<R: Wait>(&self, rt: &R) -> Option<Arrival> {
-        self.arrivals.pop(rt)
+    /// The next client that was handed to the desk, at which it counts.
+    pub fn next<R: Wait>(&self, rt: &R) -> Option<(Arrival, Counted)> {
+        let arrival = self.arrivals.pop(rt)?;
+        Some((arrival, Counted { desk: self.desk }))
     }
 
-    /// Says that a client has left the desk.
+    /// A client that counts at the desk is taken in, or else has left.
+    pub fn settle(&self, counted: Counted, is_in: bool) {
+        let Counted { desk: _ } = counted;
+        if !is_in {
+            self.leaves();
+        }
+    }
+
+    /// A client has left the desk.
     pub fn leaves(&self) {
         self.clients.fetch_sub(1, Ordering::SeqCst);
     }
@@ -162,7 +184,7 @@ pub struct ClientWakers<'a> {
     pub costs: &'a Costs,
     /// The mark when its turns began.
     pub mark: u64,
-    /// What counts ERRORs and clients that are given up.
+    /// What counts ERRORs and clients that are evicted.
     pub log: &'a Arc<LogThread>,
 }
 

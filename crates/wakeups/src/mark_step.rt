@@ -4,8 +4,8 @@
 pub enum Waiter {
     /// It serves its clients.
     Serves,
-    /// It has said that it waits for the mark, and next reads it.
-    HasSaid,
+    /// It has set that it waits for the mark, and next reads it.
+    HasSet,
     /// It has read a mark that does not let the client in, and waits until its bell is rung.
     Waits,
     /// It has read a mark that lets the client in.
@@ -18,8 +18,8 @@ pub enum MarkStep {
     Raise,
     /// The flusher that has raised the mark looks whether the worker waits for it, and then rings the worker's bell.
     LookWhoWaits,
-    /// The worker says that it waits for the mark.
-    SayWaiting,
+    /// The worker sets that it waits for the mark.
+    SetWaiting,
     /// It reads the mark.
     ReadMark,
     /// It waits no more, for whatever reason, and lets in those that the mark lets in. The client waits for a greater mark from then on.

@@ -16,20 +16,30 @@ pub(crate) struct Marks {
     waiting: AtomicU64,
 }
 
-/// The mark to which the flusher has raised that of the workers. Only `raise` and `close` make one, so who looks for workers that wait has raised
-/// the mark before.
+/// The mark to which the flusher has raised that of the workers, and the one before. Only `raise` and `close` make one, so who looks for workers
+/// that wait has raised the mark before.
 #[derive(Drop)]
 pub struct Raised {
     mark: u64,
+    before: u64,
 }
 
-/// Whether a worker that is about to wait has said that it waits for a greater mark. Only `say_waiting` makes one.
+impl Raised {
+    /// How many commands were published by this.
+    pub(crate) fn commands(&self) -> u64
+        ensures { result ≡ self.now.mark - self.now.before }
+    {
+        self.mark.saturating_sub(self.before)
+    }
+}
+
+/// Whether a worker that is about to wait has set that it waits for a greater mark. Only `set_waiting` makes one.
 #[derive(Drop)]
-pub struct Said {
+pub struct Awaiting {
     awaits: bool,
 }
 
-/// A worker that waits: whether it has said that it waits for a greater mark, and the mark that it read after that. It has to be handed to what
+/// A worker that waits: whether it has set that it waits for a greater mark, and the mark that it read after that. It has to be handed to what
 /// ends the wait.
 pub struct Watching {
     awaits: bool,
@@ -45,7 +55,7 @@ impl Watching {
     }
 }
 
-// Whether one of so many workers waits for a greater mark.
+// Whether any worker waits for a greater mark.
 fn are_any(waiting: u64) -> bool
     ensures { IsTrue result ↔ (0 < waiting) }
 {
@@ -70,8 +80,8 @@ impl Marks {
     pub(crate) fn raise(&self, mark: u64) -> Raised
         ensures { result.mark ≡ mark }
     {
-        self.mark.store(mark, Ordering::SeqCst);
-        Raised { mark }
+        let before = self.mark.swap(mark, Ordering::SeqCst);
+        Raised { mark, before }
     }
 
     /// No greater mark will be published.
@@ -86,23 +96,23 @@ impl Marks {
         are_any(self.waiting.load(Ordering::SeqCst))
     }
 
-    /// The worker of that bell says whether it waits for a greater mark.
-    pub(crate) fn say_waiting(&self, bell: &Doorbell, awaits: bool) -> Said
+    /// The worker of that bell sets whether it waits for a greater mark.
+    pub(crate) fn set_waiting(&self, bell: &Doorbell, awaits: bool) -> Awaiting
         ensures { result.awaits ≡ awaits }
     {
         if awaits {
             bell.await_mark(true);
             self.waiting.fetch_add(1, Ordering::SeqCst);
         }
-        Said { awaits }
+        Awaiting { awaits }
     }
 
     /// It reads the mark after that.
-    pub(crate) fn read(&self, said: Said) -> Watching
-        ensures { result.awaits ≡ said.awaits }
+    pub(crate) fn read(&self, awaiting: Awaiting) -> Watching
+        ensures { result.awaits ≡ awaiting.awaits }
     {
         Watching {
-            awaits: said.awaits,
+            awaits: awaiting.awaits,
             mark: self.mark(),
         }
     }

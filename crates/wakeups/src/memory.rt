@@ -13,8 +13,8 @@ use claim_core::SEATS;
 use std::marker::Model;
 use std::sync::Arc;
 
-/// How many bytes all clients may hold together, and what they hold. Each desk counts what its own clients hold. It tells the total by how
-/// much that changes, and its mailbox the most that one of them holds. Contracts see how many they may hold.
+/// How many bytes all clients may hold together, and what they hold. Each desk counts what its own clients hold. It reports to the total by how
+/// much that changes, and to its mailbox the most that one of them holds. Contracts see how many they may hold.
 #[derive(Drop)]
 pub struct Memory {
     total: Total,
@@ -60,7 +60,7 @@ impl Memory {
         is_over(self.budget(), self.total.bytes())
     }
 
-    /// What is known of all clients by the desk of that number, as it follows from what all desks tell at this moment.
+    /// What is known of all clients by the desk of that number, as it follows from what all desks report at this moment.
     pub fn holdings(&self, desk: usize) -> Holdings
         ensures budget { result.budget ≡ self.now }
         ensures known { (desks : List DeskHolds) × (length desks ≡ SEATS) × IsKnownBy desk result desks }
@@ -72,7 +72,7 @@ impl Memory {
         for (mailbox, holds) in self.mailboxes.iter().zip(desks.iter_mut()) {
             *holds = mailbox.holds();
         }
-        // The total is read last: a desk that gives somebody up lowers it before it says that its most is less.
+        // The total is read last: a desk that evicts a client lowers it before it reports a lower most.
         Holdings::known_at(desk, self.budget(), self.total.bytes(), &desks)
     }
 }

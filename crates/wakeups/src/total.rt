@@ -1,4 +1,4 @@
-//! What all clients of a server hold together, and what each desk has told of that.
+//! What all clients of a server hold together, and what each desk has reported of that.
 
 ghost use Rattle.std.specs.Prelude.{◌≡◌, ◌+◌, ◌%◌, ◌^◌, ℕ, sum, true};
 ghost use Rattle.wakeups.specs.Sums.{Applies, changed, is_more};
@@ -7,7 +7,7 @@ use crate::sum::{Change, passes};
 use std::marker::Model;
 use std::sync::atomic::{AtomicU64, Ordering};
 
-/// How many bytes all clients may hold together, and how many they hold. Each desk tells by how much what its own clients hold changes.
+/// How many bytes all clients may hold together, and how many they hold. Each desk reports by how much what its own clients hold changes.
 /// Contracts see how many they may hold. How many they do, no contract knows, since the threads of other desks change it at any time.
 #[derive(Drop)]
 pub struct Total {
@@ -46,21 +46,21 @@ impl Total {
         self.bytes.load(Ordering::SeqCst)
     }
 
-    // Tells a change. `told` is what a desk has told by its changes so far. Answers whether by this all clients hold more than they may, and
-    // did not before. Both numbers go round at 2^64.
-    pub(crate) fn tell(&self, told: &mut u64, change: Change) -> bool
-        ensures told { (sum : ℕ) → Applies change sum → told.old ≡ sum % 2 ^ 64 → told.new ≡ changed change sum % 2 ^ 64 }
+    // Reports a change. `reported` is what a desk has reported by its changes so far. Answers whether by this all clients hold more than they may,
+    // and did not before. Both numbers go round at 2^64.
+    pub(crate) fn report_change(&self, reported: &mut u64, change: Change) -> bool
+        ensures reported { (sum : ℕ) → Applies change sum → reported.old ≡ sum % 2 ^ 64 → reported.new ≡ changed change sum % 2 ^ 64 }
         ensures more { result ≡ true → is_more change ≡ true }
     {
         match change {
             Change::Same => false,
             Change::Less(bytes) => {
-                *told = told.wrapping_sub(bytes);
+                *reported = reported.wrapping_sub(bytes);
                 self.bytes.fetch_sub(bytes, Ordering::SeqCst);
                 false
             }
             Change::More(bytes) => {
-                *told = told.wrapping_add(bytes);
+                *reported = reported.wrapping_add(bytes);
                 let before = self.bytes.fetch_add(bytes, Ordering::SeqCst);
                 passes(self.budget, before, bytes)
             }

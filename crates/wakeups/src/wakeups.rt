@@ -25,9 +25,9 @@ const SLOW: u64 = 2_000;
 const LONGEST_REST: u64 = 2_000;
 
 // For how many microseconds the flusher rests after a turn that took so many, and published so many commands. It is a quarter,
-// which is half of one of its two syncs. So a client that has just heard of these commands is in the next block, and not in the
+// which is half of one of its two syncs. So a client whose receipts have just come is in the next block, and not in the
 // one after it. A client that sends alone, or a quick disk, is not waited for.
-fn rest_behind(micros: u64, commands: u64) -> u64
+fn rest_after(micros: u64, commands: u64) -> u64
     ensures short { result ≤ 2000 }
     ensures quick { micros < 2000 → result ≡ 0 }
     ensures alone { commands ≤ 1 → result ≡ 0 }
@@ -46,10 +46,10 @@ fn sleeps(took: bool) -> bool
     !took
 }
 
-/// Has the flusher sleep until a command was put into the ring, and tells workers that wait for the mark once it has risen or
+/// Has the flusher sleep until a command was put into the ring, and wakes workers that wait for the mark once it has risen or
 /// will rise no more.
 ///
-/// No wake is lost, and only a wake of a thread that sleeps costs a call of the system. A worker says that it waits, and then
+/// No wake is lost, and only a wake of a thread that sleeps costs a call of the system. A worker sets that it waits, and then
 /// reads the mark; the flusher raises the mark, and then looks which workers wait. These steps stand in one order, so one of the
 /// two sees what the other did.
 #[derive(Drop)]
@@ -71,7 +71,7 @@ pub struct Wakeups<T> {
 }
 
 impl<T: Wait> Wakeups<T> {
-    /// The wakeups of a server at this mark, with what asks it to end and what tells of compactions, whose workers have these
+    /// The wakeups of a server at this mark, with what asks it to end and what reports compactions, whose workers have these
     /// bells.
     pub fn new(
         rt: T,
@@ -102,12 +102,12 @@ impl<T: Wait> Wakeups<T> {
         }
     }
 
-    /// Says that a command was put into the ring.
+    /// A command was put into the ring.
     pub fn wake_flusher(&self) {
         self.ending.wake_flusher();
     }
 
-    // Says that the flusher took something, and that the mark is this now.
+    // The flusher took something, and the mark is this now.
     fn raise(&self, mark: u64) -> Raised
         ensures { result.mark ≡ mark }
     {
@@ -117,7 +117,7 @@ impl<T: Wait> Wakeups<T> {
         raised
     }
 
-    // Says that no greater mark will be published.
+    // No greater mark will be published.
     fn stop(&self) -> Raised
         ensures { result.mark ≡ 2 ^ 64 - 1 }
     {
@@ -130,7 +130,7 @@ impl<T: Wait> Wakeups<T> {
     fn wake_workers(&self, raised: &Raised) {
         if self.marks.is_awaited(raised) {
             for bell in &self.bells {
-                bell.tell_mark();
+                bell.ring_if_awaited();
             }
         }
     }
@@ -167,7 +167,7 @@ impl<T> Wakeups<T> {
         self.took.load(Ordering::SeqCst)
     }
 
-    /// Says that nothing more will be published: workers are to part with their clients, and each is woken.
+    /// Nothing more will be published: workers are to part with their clients, and each is woken.
     pub fn end(&self) {
         drop(self.marks.close());
         self.ending.begin();
@@ -186,16 +186,16 @@ impl<T> Wakeups<T> {
         self.marks.mark()
     }
 
-    /// Says whether this worker waits for a greater mark from now on: then it is told of one that is published from then on. Answers the
+    /// Sets whether this worker waits for a greater mark: then it is woken by each that is published from then on. Answers the
     /// mark as it is after that, which the worker looks at before it sleeps.
     pub fn begin_to_wait(&self, bell: &Doorbell, awaits: bool) -> Watching
         ensures { result.awaits ≡ awaits }
     {
-        let said = self.marks.say_waiting(bell, awaits);
-        self.marks.read(said)
+        let awaiting = self.marks.set_waiting(bell, awaits);
+        self.marks.read(awaiting)
     }
 
-    /// Says that this worker waits no more, if it did.
+    /// This worker waits no more, if it did.
     pub fn end_to_wait(&self, bell: &Doorbell, watching: Watching) {
         self.marks.end(bell, watching);
     }
@@ -237,10 +237,10 @@ impl<T: Wait + Clock> Gate for Wakeups<T> {
     }
 
     fn published(&self, mark: u64) {
-        let commands = mark.saturating_sub(self.marks.mark());
-        let rest = rest_behind(self.taken(), commands);
+        let micros = self.taken();
+        let raised = self.raise(mark);
+        let rest = rest_after(micros, raised.commands());
         self.rest.store(rest, Ordering::SeqCst);
-        drop(self.raise(mark));
     }
 
     fn wait_for_readers(&self) {

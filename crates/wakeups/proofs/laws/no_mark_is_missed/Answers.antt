@@ -4,6 +4,6 @@ use Rattle.wakeups.proofs.laws.no_mark_is_missed.Goals as goal
 
 pub returns : goal.returns
 returns c = record {
-  told = marked;
+  missed = marked;
   reached = (_, ((refl, (refl, (tt, (omega arith, refl)))), record { waits = refl; risen = refl; done = refl }));
 }
