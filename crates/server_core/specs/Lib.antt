@@ -2,9 +2,9 @@ pub mod Descriptors
 pub mod Endings
 pub mod Farewells
 pub mod Handing
-pub mod Hearing
 pub mod Keeping
 pub mod Looks
+pub mod Reporting
 pub mod Reports
 pub mod Serving
 pub mod Sweeps

@@ -8,7 +8,7 @@ abbrev pub a_second_after : ℕ → ℕ
 a_second_after now = min (now + 1000) (2 ^ 64 - 1)
 
 -- what a look found, or else what the disk kept
-abbrev pub said : Option DeviceCause → Option DeviceCause → DeviceCause
-said (Some cause) _ = cause
-said None (Some cause) = cause
-said None None = Refused
+abbrev pub reported_cause : Option DeviceCause → Option DeviceCause → DeviceCause
+reported_cause (Some cause) _ = cause
+reported_cause None (Some cause) = cause
+reported_cause None None = Refused

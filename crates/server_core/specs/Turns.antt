@@ -1,5 +1,6 @@
--- What comes of clients that do nothing.
-use Rattle.std.specs.Prelude.{Bool, true, false}
+-- What comes of turns, and of clients that do nothing.
+use Rattle.std.specs.Prelude.{◌&&◌, ◌||◌, Bool, true, false}
+use Rattle.desk_core.specs.declared.turned.Turned.{Turned}
 use Rattle.desk_core.specs.declared.turned.Next.{Next}
 use Rattle.desk_core.specs.declared.turned.Next.TheVariants.{Go, Read, Write, Room, Output, Memory, Close, Over}
 use Rattle.client_schedule.specs.declared.deadlines.Progress.{Progress}
@@ -17,6 +18,25 @@ waits Go = false
 waits Write = false
 waits Close = false
 waits (Over ended) = false
+
+-- there may be more to do at once
+abbrev pub goes : Next → Bool
+goes Go = true
+goes Read = false
+goes Write = false
+goes (Room mark) = false
+goes (Output mark) = false
+goes Memory = false
+goes Close = false
+goes (Over ended) = false
+
+-- a client has another turn at once: its last one put a command into the ring, and left more to do
+abbrev pub goes_on : Turned → Bool
+goes_on turned = turned.appended && goes turned.next
+
+-- what turns came to and one more
+abbrev pub together : Turned → Turned → Turned
+together turns last = record { appended = turns.appended || last.appended; heard = turns.heard || last.heard; next = last.next }
 
 -- why a client is given up that has come so far
 abbrev pub why_given_up : Progress → (takes_nothing : Bool) → Kind

@@ -11,7 +11,7 @@ use std::io;
 /// streams, and those of its guests.
 const OWN: u64 = 160;
 
-/// How many descriptors a process may have; `None` if the system does not say.
+/// How many descriptors a process may have; `None` if the system does not list that.
 pub(crate) fn descriptors_allowed<R: Files<File = File>>(alloc: Global, rt: &R) -> Option<u64> {
     let file = File::open(rt, "/proc/self/limits").ok()?;
     let text = io::read_to_string(alloc, file).ok()?;

@@ -22,7 +22,7 @@ pub struct Reception {
     pub origins: Vec<Vec<u8>>,
     /// How many clients it takes at a time. One more is answered 503.
     pub most_clients: u64,
-    /// How many threads serve them: one at least, and 64 at most, whatever is said here.
+    /// How many threads serve them: one at least, and 64 at most, whatever stands here.
     pub threads: usize,
     /// How many bytes they may hold together: what waits to be sent to them, and what they have not finished. Beyond that the client
     /// that holds most is given up.

@@ -6,7 +6,7 @@ ghost use Rattle.server_core.specs.Serving.{AreAt, AreBack, AreServed};
 ghost use Rattle.server_core.specs.Waits.{first_due, is_anybody_let_in, is_anybody_ready, is_mark_awaited, wait_of};
 
 use crate::farewell::has_parted;
-use crate::rounds::{hear_events, part_all, serve_all};
+use crate::rounds::{part_all, report_events, serve_all};
 use crate::service::Service;
 use crate::shared::{ServerSeat, Shared};
 use crate::sweep::Sweep;
@@ -98,7 +98,7 @@ impl<'a, R: Wait + Clock + Drop> EventLoop<'a, R> {
         }
     }
 
-    /// The seats, with all that was said at them. Clients that are left are let go.
+    /// The seats, with all that was done at them. Clients that are left are let go.
     pub(crate) fn into_seats(self) -> Vec<ServerSeat>
         ensures { AreBack self.entry.ring self.entry.count result.items }
     {
@@ -131,7 +131,7 @@ impl<'a, R: Wait + Clock + Drop> EventLoop<'a, R> {
     }
 
     /// Waits until there is something to do, gives each ready client its turns, and then looks which clients took too long. What has
-    /// come from a client is heard before that.
+    /// come from a client is read before that.
     pub(crate) fn round(&mut self)
         ensures { self.new ≡ self.old }
     {
@@ -140,7 +140,7 @@ impl<'a, R: Wait + Clock + Drop> EventLoop<'a, R> {
             was_rung: self.bell.wakes_up().takes_calls(),
             now: self.now,
         };
-        hear_events(&self.events, &mut self.services, self.now);
+        report_events(&self.events, &mut self.services, self.now);
         serve_all(&mut self.services, self.poll.registry(), begin);
         if self.parting.is_none() && self.shared.wakeups.has_end_begun() {
             self.parting = Some(self.now);
@@ -184,7 +184,7 @@ fn have_clients<R: Wait + Clock + Drop>(services: &[Service<'_, R>]) -> bool {
     false
 }
 
-// What the desks of a worker say before it waits.
+// What the desks of a worker need before it waits.
 #[derive(Clone, Copy)]
 struct Demand {
     // Whether a client is ready.
@@ -195,7 +195,7 @@ struct Demand {
     due: u64,
 }
 
-// What these desks say, by one look at each.
+// What these desks need, by one look at each.
 fn demand_of<R: Wait + Clock + Drop>(services: &[Service<'_, R>]) -> Demand
     ensures ready { result.is_ready ≡ is_anybody_ready services.now }
     ensures awaits { result.awaits_mark ≡ is_mark_awaited services.now }
@@ -214,7 +214,7 @@ fn demand_of<R: Wait + Clock + Drop>(services: &[Service<'_, R>]) -> Demand
     demand
 }
 
-// For how many milliseconds the worker of these desks, which say this, waits at most, at this mark and this moment, by whether its bell was
+// For how many milliseconds the worker of these desks, which need this, waits at most, at this mark and this moment, by whether its bell was
 // rung and whether it looks again soon.
 fn longest_wait<R: Wait + Clock + Drop>(
     services: &[Service<'_, R>],

@@ -17,7 +17,7 @@ use std::sync::{Arc, Wait};
 use wakeups::{Ending, LogThread, Mailbox, Memory, Wakeups};
 use work_share::Costs;
 
-// What asks a server to end, and what tells its operator.
+// What asks a server to end, and what reports to its operator.
 #[derive(Drop)]
 struct Signals {
     ending: Arc<Ending>,

@@ -1,14 +1,14 @@
 //! How a desk's clients are greeted, and how those that are refused leave.
 
-ghost use Rattle.std.specs.Prelude.{◌≡◌};
+ghost use Rattle.std.specs.Prelude.{◌≡◌, true};
 
 use crate::service::Service;
-use client_schedule::{ClientState, ReadBudget};
+use client_schedule::{ClientState, Framed, ReadBudget};
 use event_log::Kind;
 use mio::net::TcpStream;
 use std::sync::Wait;
 use std::time::Clock;
-use ws_core::{Farewell, Greeted, Greeting, Received, Refusal};
+use ws_core::{Farewell, Greeted, Greeting, Received, Refusal, WsLink};
 
 impl<'a, R: Wait + Clock + Drop> Service<'a, R> {
     /// Goes on with a client's handshake. Once it has its WebSocket, it sits at the desk.
@@ -27,11 +27,8 @@ impl<'a, R: Wait + Clock + Drop> Service<'a, R> {
                 self.count(number, held);
             }
             Greeted::Accepted(link) => {
-                link.stream().count_frames();
-                match self.desk.admit(self.alloc, number, link) {
-                    Ok(()) => self.clients.stand(number, ClientState::Seated, true),
-                    Err(_) => self.leave(number),
-                }
+                let framed = link.stream().count_frames();
+                self.seat(number, link, framed);
             }
             Greeted::Refused(refusal, stream) => {
                 self.shared.wakeups.log().count(kind_of(refusal));
@@ -39,6 +36,18 @@ impl<'a, R: Wait + Clock + Drop> Service<'a, R> {
                 self.clients.part(number, Farewell::new(stream), self.now);
             }
             Greeted::Failed(_) => self.leave(number),
+        }
+    }
+
+    // Seats a client at the desk, of whose stream frames are counted.
+    fn seat(&mut self, number: usize, link: WsLink<ReadBudget<TcpStream>>, framed: Framed)
+        requires { framed ≡ true }
+        ensures shared { self.new.shared ≡ self.old.shared }
+    {
+        drop(framed);
+        match self.desk.admit(self.alloc, number, link) {
+            Ok(()) => self.clients.stand(number, ClientState::Seated, true),
+            Err(_) => self.leave(number),
         }
     }
 

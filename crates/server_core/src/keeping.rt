@@ -1,10 +1,14 @@
 //! How the clients of a desk keep to the memory that all may hold together.
 
-ghost use Rattle.std.specs.Prelude.{◌≡◌, ◌<◌, None, slice_index_or};
+ghost use Rattle.std.specs.Prelude.{◌≡◌, ◌<◌, IfSome, None, slice_index_or};
 ghost use Rattle.client_schedule.specs.Clients.{client_at, is_greeted, is_seated, state_at};
+ghost use Rattle.desk_core.specs.Desks.{seated_at};
+ghost use Rattle.desk_core.specs.Holdings.{HeldAt};
 ghost use Rattle.wakeups.specs.Sums.{counted};
 ghost use Rattle.client_schedule.specs.declared.limits.TheConstants.{CLIENTS};
 ghost use Rattle.server_core.specs.Keeping.{GivesUp, Keeps};
+ghost use Rattle.work_share.specs.Loads.{number_of};
+ghost use Rattle.ws_core.specs.Links.{IsCounted};
 
 use crate::service::Service;
 use client_schedule::Clients;
@@ -12,6 +16,7 @@ use event_log::Kind;
 use std::sync::Wait;
 use std::time::Clock;
 use wakeups::Holdings;
+use work_share::Noted;
 
 impl<'a, R: Wait + Clock + Drop> Service<'a, R> {
     /// Counts that a client holds so many bytes. If by this all clients hold more than they may, each worker looks whether it is one of its
@@ -22,15 +27,21 @@ impl<'a, R: Wait + Clock + Drop> Service<'a, R> {
         ensures shared { self.new.shared ≡ self.old.shared }
         ensures desk { self.new.desk ≡ self.old.desk }
     {
-        let counted = self
-            .account
-            .count(self.shared.memory.total(), number, holds);
-        if counted.has_passed() {
+        let total = self.shared.memory.total();
+        let has_passed = self.account.count(total, &self.mailbox, number, holds);
+        if has_passed {
             self.shared.wakeups.ring_all();
         }
-        if counted.is_change() {
-            self.mailbox.say_most(&self.account);
-        }
+    }
+
+    /// Counts what is kept for a client at the desk.
+    pub(crate) fn count_held(&mut self, number: usize)
+        ensures counts { number < CLIENTS → HeldAt (IsCounted (λ stream. stream.given)) (seated_at self.new.desk.places number) (slice_index_or self.new.account number 0) }
+        ensures shared { self.new.shared ≡ self.old.shared }
+        ensures desk { self.new.desk ≡ self.old.desk }
+    {
+        let holds = self.desk.held(number);
+        self.count(number, holds);
     }
 
     /// If all clients hold more than they may, evicts the one that holds most, if it is one of its own. Answers which it was.
@@ -91,9 +102,19 @@ impl<'a, R: Wait + Clock + Drop> Service<'a, R> {
         ensures account { self.new.account ≡ counted number 0 self.old.account }
         ensures gone { client_at number self.new.clients ≡ None }
     {
+        let left = self.shared.costs.leave(self.mailbox.desk(), number as u64);
+        self.depart(number, left);
+    }
+
+    // Lets a client go that stands in line no more.
+    fn depart(&mut self, number: usize, left: Option<Noted>)
+        requires left { IfSome left (λ load. number_of number load ≡ 0) }
+        ensures shared { self.new.shared ≡ self.old.shared }
+        ensures account { self.new.account ≡ counted number 0 self.old.account }
+        ensures gone { client_at number self.new.clients ≡ None }
+    {
+        drop(left);
         self.count(number, 0);
-        let desk = self.mailbox.desk();
-        drop(self.shared.costs.leave(desk, number as u64));
         self.clients.remove(number);
         self.mailbox.leaves();
     }

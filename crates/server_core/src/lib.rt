@@ -3,6 +3,7 @@
 #![tactic(auto)]
 
 mod acceptor;
+mod arrivals;
 mod descriptors;
 mod entrance;
 mod event_loop;

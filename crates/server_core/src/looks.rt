@@ -1,7 +1,7 @@
 //! When a server looks at the file of its journal, and what it found.
 
 ghost use Rattle.std.specs.Prelude.{◌≡◌, ◌≤◌, ◌↔◌, IsTrue, MatchBool, None, Some};
-ghost use Rattle.server_core.specs.Looks.{a_second_after, said};
+ghost use Rattle.server_core.specs.Looks.{a_second_after, reported_cause};
 
 use disk_core::DeviceCause;
 
@@ -48,7 +48,7 @@ impl Looks {
 
     /// Why the disk failed: what a look found, or else the cause that the disk kept.
     pub(crate) fn cause(&self, kept: Option<DeviceCause>) -> DeviceCause
-        ensures { result ≡ said self.now.found kept }
+        ensures { result ≡ reported_cause self.now.found kept }
     {
         match (self.found, kept) {
             (Some(cause), _) | (None, Some(cause)) => cause,

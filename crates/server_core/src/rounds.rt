@@ -2,8 +2,10 @@
 
 ghost use Rattle.std.specs.Prelude.{◌≡◌, vec_len};
 ghost use Rattle.atomic_table.specs.Seated.{TableId};
+ghost use Rattle.mio.specs.Events.{items};
 ghost use Rattle.mio.specs.declared.event.event.Event.{Event};
-ghost use Rattle.server_core.specs.Hearing.{IsHeard};
+ghost use Rattle.std.specs.List.{All};
+ghost use Rattle.server_core.specs.Reporting.{IsReported};
 ghost use Rattle.server_core.specs.Serving.{AreServed};
 ghost use Rattle.server_core.specs.Sweeps.{HasBegun, HaveAllDone, MayAllDo};
 ghost use Rattle.server_core.specs.declared.sweep.Sweep.TheVariants.{End, Part};
@@ -18,30 +20,31 @@ use std::alloc::Global;
 use std::sync::Wait;
 use std::time::Clock;
 
-/// Has clients stand in line if the poll told anything of their sockets, and has their streams hear it.
-pub(crate) fn hear_events<R: Wait + Clock + Drop>(
+/// Has each client stand in line of whose socket the poll reported something, and notes that at its stream.
+pub(crate) fn report_events<R: Wait + Clock + Drop>(
     events: &Events<Global>,
     services: &mut Vec<Service<'_, R>>,
     now: u64,
 )
+    ensures reported { All (λ (event : Event). IsReported services.new.items event) (items events.now) }
     ensures ring { (ring : TableId) → AreServed ring services.old.items → AreServed ring services.new.items }
     ensures count { vec_len services.new ≡ vec_len services.old }
 {
     for event in events.iter() {
-        hear_event(event, services, now);
+        report_event(event, services, now);
     }
 }
 
-// Does so if the poll told anything of one of them. Who stood in line before that stands there still.
-fn hear_event<R: Wait + Clock + Drop>(event: &Event, services: &mut Vec<Service<'_, R>>, now: u64)
-    ensures heard { IsHeard services.new.items event.now }
-    ensures others { (other : Event) → IsHeard services.old.items other → IsHeard services.new.items other }
+// Does so for one of these reports. Who stood in line before that stands there still.
+fn report_event<R: Wait + Clock + Drop>(event: &Event, services: &mut Vec<Service<'_, R>>, now: u64)
+    ensures reported { IsReported services.new.items event.now }
+    ensures others { (other : Event) → IsReported services.old.items other → IsReported services.new.items other }
     ensures ring { (ring : TableId) → AreServed ring services.old.items → AreServed ring services.new.items }
     ensures count { vec_len services.new ≡ vec_len services.old }
 {
     let (desk, client) = client_of(event.token());
     if desk < services.len() {
-        services[desk].hear_of(client, reported_by(event), now);
+        services[desk].note_report(client, reported_by(event), now);
     }
 }
 

@@ -1,11 +1,12 @@
 //! A desk of a worker, and how its clients are served.
 
-ghost use Rattle.std.specs.Prelude.{◌≡◌};
+ghost use Rattle.std.specs.Prelude.{◌≡◌, ◌≤◌};
+ghost use Rattle.server_core.specs.declared.arrivals.TheConstants.{NEW_CLIENTS};
 ghost use Rattle.client_schedule.specs.Turns.{woken};
-ghost use Rattle.server_core.specs.declared.sweep.Sweep.TheVariants.{Begin, Part, Pass};
 
+use crate::arrivals::{NEW_CLIENTS, may_more_wait};
 use crate::shared::{ServerSeat, Shared};
-use crate::sweep::Sweep;
+use crate::sweep::Swept;
 use crate::tokens::token_of;
 use client_schedule::{ClientState, Clients, ReadBudget, Reported};
 use desk_core::Desk;
@@ -17,9 +18,6 @@ use std::sync::{Arc, Wait};
 use std::time::Clock;
 use wakeups::{Account, Arrival, BITS, Called, ClientWaker, Mailbox, WORDS};
 use ws_core::{Greeting, Vacancy, WsLink};
-
-/// How many new clients a desk takes in at most before those that it has are served.
-const NEW_CLIENTS: u32 = 64;
 
 pub(crate) type ClientDesk = Desk<ClientWaker, WsLink<ReadBudget<TcpStream>>>;
 
@@ -37,11 +35,11 @@ pub(crate) struct Service<'a, R: Drop> {
     pub(crate) now: u64,
     pub(crate) account: Account,
     // How many of its clients went on by themselves when this round began.
-    going_on: usize,
+    pub(crate) going_on: usize,
     // Whether it parts with its clients, since the server ends.
     pub(crate) parting: bool,
     // What it has done last in a round.
-    pub(crate) swept: Sweep,
+    pub(crate) swept: Swept,
     ghost at_ring: { desk.seat.ring ≡ shared.now.ring },
 }
 
@@ -69,11 +67,11 @@ impl<'a, R: Wait + Clock + Drop> Service<'a, R> {
             account: Account::new(),
             going_on: 0,
             parting: false,
-            swept: Sweep::End,
+            swept: Swept::new(),
         }
     }
 
-    /// The seat, with all that was said at it. Clients that are left are let go.
+    /// The seat, with all that was done at it. Clients that are left are let go.
     pub(crate) fn into_seat(self) -> ServerSeat
         ensures { result.ring ≡ self.entry.shared.now.ring }
     {
@@ -88,56 +86,29 @@ impl<'a, R: Wait + Clock + Drop> Service<'a, R> {
             account,
             going_on: _,
             parting: _,
-            swept: _,
+            swept,
         } = self;
+        drop(swept);
         drop(account);
         drop(clients);
         drop(mailbox);
         desk.into_seat()
     }
 
-    /// The poll told this of a client's socket.
-    pub(crate) fn hear_of(&mut self, number: usize, told: Reported, now: u64)
+    /// The poll reported this of a client's socket.
+    pub(crate) fn note_report(&mut self, number: usize, reported: Reported, now: u64)
         ensures shared { self.new.shared ≡ self.old.shared }
         ensures lines { self.new.clients.lines ≡ woken number self.old.clients.lines }
     {
-        if self.clients.hear_of(number, told, now)
+        if self.clients.note_report(number, reported, now)
             && let Some(link) = self.desk.link(number)
         {
-            link.stream().tell(told);
+            link.stream().note_report(reported);
         }
-    }
-
-    /// Begins a round at that moment.
-    pub(crate) fn begin(&mut self, registry: &Registry, was_rung: bool, now: u64)
-        ensures shared { self.new.shared ≡ self.old.shared }
-        ensures swept { self.new.swept ≡ Begin was_rung now }
-    {
-        self.now = now;
-        self.going_on = self.clients.count_again();
-        if was_rung {
-            self.hear_calls(registry);
-        }
-        self.clients.retry(now);
-        self.let_in();
-        self.swept = Sweep::Begin { was_rung, now };
-    }
-
-    /// Begins to part with all clients: each has a turn in which it hears what may still leave.
-    pub(crate) fn part_with_all(&mut self)
-        ensures shared { self.new.shared ≡ self.old.shared }
-        ensures swept { self.new.swept ≡ Part }
-    {
-        self.parting = true;
-        for number in 0..self.clients.reach() {
-            self.clients.wake(number);
-        }
-        self.mailbox.ring();
-        self.swept = Sweep::Part;
     }
 
     // Finds out for whom the bell was rung: new clients, or those that it has.
-    fn hear_calls(&mut self, registry: &Registry)
+    pub(crate) fn take_calls(&mut self, registry: &Registry)
         ensures shared { self.new.shared ≡ self.old.shared }
     {
         for word in 0..WORDS {
@@ -147,36 +118,39 @@ impl<'a, R: Wait + Clock + Drop> Service<'a, R> {
         self.take_in(registry);
     }
 
-    // Takes in the clients that were handed to it. If there are more, its worker does not sleep before it has taken in those too.
+    // Takes in the clients that were handed to it. If there may be more, its worker does not sleep before it has taken in those too.
     fn take_in(&mut self, registry: &Registry)
         ensures shared { self.new.shared ≡ self.old.shared }
     {
-        for _client in 0..NEW_CLIENTS {
-            match self.mailbox.next(&self.shared.rt) {
-                Some(arrival) => self.admit(registry, arrival),
-                None => return,
-            }
+        let taken = self.take_some_in(registry);
+        if may_more_wait(taken) {
+            self.mailbox.ring();
         }
-        self.mailbox.ring();
     }
 
-    // Takes a client in. If there is no room for it, or the system refuses to have its socket watched, the socket is closed.
-    fn admit(&mut self, registry: &Registry, arrival: Arrival)
+    // Takes in some of the clients that were handed to it, and answers how many.
+    fn take_some_in(&mut self, registry: &Registry) -> u32
+        ensures shared { self.new.shared ≡ self.old.shared }
+        ensures most { result ≤ NEW_CLIENTS }
+    {
+        for taken in 0..NEW_CLIENTS {
+            let Some((arrival, counted)) = self.mailbox.next(&self.shared.rt) else {
+                return taken;
+            };
+            let is_in = self.register(registry, arrival).is_ok();
+            self.mailbox.settle(counted, is_in);
+        }
+        NEW_CLIENTS
+    }
+
+    // Takes a client in. If there is no room for it, if the system refuses to have its socket watched, or if the server ends, the socket is closed.
+    fn register(&mut self, registry: &Registry, arrival: Arrival) -> io::Result<()>
         ensures shared { self.new.shared ≡ self.old.shared }
     {
         if self.parting {
             drop(arrival);
-            self.mailbox.leaves();
-            return;
+            return Err(io::Error::from(io::ErrorKind::ConnectionAborted));
         }
-        if self.register(registry, arrival).is_err() {
-            self.mailbox.leaves();
-        }
-    }
-
-    fn register(&mut self, registry: &Registry, arrival: Arrival) -> io::Result<()>
-        ensures shared { self.new.shared ≡ self.old.shared }
-    {
         let Some(number) = self.clients.next_number() else {
             drop(arrival);
             return Err(io::Error::from(io::ErrorKind::OutOfMemory));
@@ -192,7 +166,7 @@ impl<'a, R: Wait + Clock + Drop> Service<'a, R> {
     }
 
     /// Sees that all clients keep to their memory. One that is evicted has a turn at once, in which what it took is given back. This is done
-    /// after each turn that may have heard a client: else a round of many would take far more.
+    /// after each turn that may have read from a client: else a round of many would take far more.
     pub(crate) fn give_way(&mut self)
         ensures shared { self.new.shared ≡ self.old.shared }
     {
@@ -201,39 +175,9 @@ impl<'a, R: Wait + Clock + Drop> Service<'a, R> {
         }
     }
 
-    /// Gives each client that stands in line now its turns. After each of them, those that are let in have theirs, so that a client that
-    /// never waits does not fill the window before them.
-    pub(crate) fn pass(&mut self)
-        ensures shared { self.new.shared ≡ self.old.shared }
-        ensures swept { self.new.swept ≡ Pass }
-    {
-        for _client in 0..self.clients.count_ready() {
-            if let Some((number, standing)) = self.clients.next() {
-                self.give_turn(number, standing);
-                self.give_way();
-            }
-            self.let_in();
-        }
-        self.swept = Sweep::Pass;
-    }
-
-    /// The same for each client that went on by itself when the round began. What this round's turns leave to be done is the next round's:
-    /// whom the poll tells of then comes first.
-    pub(crate) fn pass_again(&mut self)
-        ensures shared { self.new.shared ≡ self.old.shared }
-    {
-        for _client in 0..self.going_on {
-            if let Some((number, standing)) = self.clients.next_again() {
-                self.give_turn(number, standing);
-                self.give_way();
-            }
-            self.let_in();
-        }
-    }
-
-    // Gives a turn to those that the mark lets in, each once at most. The mark is the ring's own: it rises before the wakeups tell of it,
-    // and by the same mark others find room. Once none will be published, the wakeups' is over every mark.
-    fn let_in(&mut self)
+    /// Gives a turn to those that the mark lets in, each once at most. The mark is the ring's own: it rises before the wakeups report it,
+    /// and by the same mark others find room. Once none will be published, the wakeups' is over every mark.
+    pub(crate) fn let_in(&mut self)
         ensures shared { self.new.shared ≡ self.old.shared }
     {
         for _client in 0..self.clients.count_waiting() {
@@ -246,8 +190,8 @@ impl<'a, R: Wait + Clock + Drop> Service<'a, R> {
         }
     }
 
-    // Gives a client a turn, if it is there.
-    fn give_turn(&mut self, number: usize, standing: ClientState)
+    /// Gives a client a turn, if it is there.
+    pub(crate) fn give_turn(&mut self, number: usize, standing: ClientState)
         ensures shared { self.new.shared ≡ self.old.shared }
     {
         match standing {
@@ -269,7 +213,7 @@ fn wake_called(clients: &mut Clients, mut called: Called) {
     }
 }
 
-// The socket, which never blocks and of which the poll tells by this token.
+// The socket, which never blocks, and on which the poll reports by this token.
 fn watched(
     registry: &Registry,
     socket: std::net::TcpStream,

@@ -40,7 +40,7 @@ pub(crate) type ServerFlusher = HubFlusher<FileDisk, ClientWaker>;
 /// How many clients a server takes at a time.
 pub const MOST_CLIENTS: u64 = 16_384;
 
-/// How many bytes its clients may hold together, if nothing else is said.
+/// How many bytes its clients may hold together, by default.
 pub const MOST_MEMORY: u64 = 1_073_741_824;
 
 /// Why a server serves no more.
@@ -83,10 +83,10 @@ where
     R: Files<File = File> + Net<Listener = TcpListener, Stream = TcpStream> + Wait + Clone + Drop,
 {
     /// Opens the port at 127.0.0.1, and then the journal in the file `at` a path, whose lock the server has from then on until its flusher is gone. It
-    /// takes as many clients at a time as `reception` says, or as the process may have descriptors for, if these are fewer. `Port` if the
+    /// takes as many clients at a time as `reception` has, or as the process may have descriptors for, if these are fewer. `Port` if the
     /// port can't be opened, `Threads` if the system refuses what workers wait on, and `Memory` if memory is refused. `File` if the file
     /// can't be opened, or another server has its lock: then nothing of it is read or written. `Opening` if the journal is refused: what
-    /// opening a journal leaves is said there. A refusal keeps no lock.
+    /// opening a journal leaves is stated there. A refusal keeps no lock.
     pub fn open(
         alloc: Global,
         rt: &R,
@@ -175,13 +175,13 @@ impl<R: Wait + Clock + Drop> Server<R> {
     /// ring is stopped in both cases, and nothing more is acknowledged. `Output` if the line can't be written: then nothing has changed.
     pub fn run<W: Write>(&mut self, alloc: Global, writer: &mut W) -> ServeEnd
         ensures end { IsEnd self.old self.new result }
-        ensures told { result ≢ ServeEnd.Fault ServeFault.Output → Appends (W.contents writer.old) (W.contents writer.new) (announced self.old.port) }
+        ensures written { result ≢ ServeEnd.Fault ServeFault.Output → Appends (W.contents writer.old) (W.contents writer.new) (announced self.old.port) }
     {
         let port = self.port;
         if writeln!(writer, "listening {port}").is_err() || writer.flush().is_err() {
             return ServeEnd::Fault(ServeFault::Output);
         }
-        self.tell_start();
+        self.report_start();
         let mut looks = Looks::new();
         match flush(alloc, &self.shared, &mut self.flusher, &mut looks) {
             Ok(()) => ServeEnd::Asked,
@@ -193,8 +193,8 @@ impl<R: Wait + Clock + Drop> Server<R> {
         }
     }
 
-    // Tells the operator what the server starts with, and whether its journal may be too small.
-    fn tell_start(&self) {
+    // Reports to the operator what the server starts with, and whether its journal may be too small.
+    fn report_start(&self) {
         let clients = self.acceptor.most_clients();
         let area = self.flusher.size();
         let start = Start {
@@ -225,7 +225,7 @@ impl<R: Wait + Clock + Drop> Server<R> {
     }
 }
 
-/// Asks a server to end in good order: what is claimed is stored, and clients hear it.
+/// Asks a server to end in good order: what is claimed is stored, and clients are notified.
 #[derive(Drop)]
 pub struct Ender {
     ending: Arc<Ending>,

@@ -202,7 +202,7 @@ fn move_one(seats: &mut Vec<ServerSeat>, its: &mut Vec<ServerSeat>)
 }
 
 impl<R: Threads + Wait + Drop> Server<R> {
-    /// Ends the server. Its workers tell their clients that the broker stops, for some seconds at most, and what the operator is told is
+    /// Ends the server. Its workers notify their clients that the broker stops, for some seconds at most, and what the operator reads is
     /// written, if that takes less than half a second. Their seats come back to the hub, which is closed with them and the flusher. Then
     /// the disk goes, with its lock. `None` if memory was refused for that, or not all workers had started; the server has ended all the
     /// same.
@@ -220,7 +220,7 @@ impl<R: Threads + Wait + Drop> Server<R> {
             workers,
         } = self;
         shared.wakeups.end();
-        shared.wakeups.log().await_told(rt);
+        shared.wakeups.log().await_written(rt);
         shared.wakeups.log().end();
         drop(acceptor);
         drop(setups);

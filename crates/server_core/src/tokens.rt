@@ -1,4 +1,4 @@
-//! The tokens by which a worker's poll tells of its clients' sockets.
+//! The tokens by which a worker's poll reports its clients' sockets.
 
 ghost use Rattle.std.specs.Prelude.{◌≡◌, ◌<◌, ◌+◌, ◌*◌, ◌-◌, ◌^◌, min};
 ghost use Rattle.client_schedule.specs.declared.limits.TheConstants.{CLIENTS};
@@ -6,7 +6,7 @@ ghost use Rattle.client_schedule.specs.declared.limits.TheConstants.{CLIENTS};
 use client_schedule::CLIENTS;
 use mio::Token;
 
-/// The desk and the client of which the poll tells by this token.
+/// The desk and the client that the poll reports by this token.
 pub(crate) fn client_of(token: Token) -> (usize, usize)
     ensures client { result.1 < CLIENTS }
     ensures both { result.0 * CLIENTS + result.1 ≡ token.0 }
@@ -14,7 +14,7 @@ pub(crate) fn client_of(token: Token) -> (usize, usize)
     (token.0 / CLIENTS, token.0 % CLIENTS)
 }
 
-/// The token by which the poll tells of that client.
+/// The token by which the poll reports that client.
 pub(crate) fn token_of(desk: usize, client: usize) -> Token
     ensures { result.0 ≡ min (desk * CLIENTS + client) (2 ^ 64 - 1) }
 {

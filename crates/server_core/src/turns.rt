@@ -1,7 +1,7 @@
 //! The turns of a desk's clients.
 
 ghost use Rattle.std.specs.Prelude.{◌≡◌};
-ghost use Rattle.server_core.specs.Turns.{waits};
+ghost use Rattle.server_core.specs.Turns.{goes_on, together, waits};
 
 use crate::service::{ClientDesk, Service};
 use crate::shared::ServerRing;
@@ -60,9 +60,8 @@ impl<R: Wait + Clock + Drop> Service<'_, R> {
         let is_unread = self.desk.awaits_room(number);
         self.clients
             .settle(number, turned, flow, is_unread, self.now);
-        let holds = self.desk.held(number);
-        self.count(number, holds);
-        // One that has nothing more to do at once hears the close.
+        self.count_held(number);
+        // One that has nothing more to do at once is sent the close.
         if self.parting && waits(turned.next) {
             self.desk.give_up(number);
             self.clients.wake(number);
@@ -85,7 +84,7 @@ fn is_full(desk: &ClientDesk, number: usize) -> bool {
     matches!(desk.cut(number), Cut::Full(_))
 }
 
-// What the stream of a client at the desk tells.
+// What the stream of a client at the desk reports.
 fn flow_of(desk: &ClientDesk, number: usize) -> Flow {
     match desk.link(number) {
         Some(link) => link.stream().flow(),
@@ -96,9 +95,26 @@ fn flow_of(desk: &ClientDesk, number: usize) -> Flow {
     }
 }
 
+// Whether a client has another turn at once, after one that came to this: if it put a command into the ring and left more to do.
+fn goes_on(turned: Turned) -> bool
+    ensures { result ≡ goes_on turned }
+{
+    turned.appended && matches!(turned.next, Next::Go)
+}
+
+// What turns came to and one more: something was read or appended if either did so, and what the last one waits for.
+fn together(turns: Turned, last: Turned) -> Turned
+    ensures { result ≡ together turns last }
+{
+    Turned {
+        appended: turns.appended || last.appended,
+        heard: turns.heard || last.heard,
+        next: last.next,
+    }
+}
+
 // The turns of the client of those wakers. After each that put a command into the ring and left more to do, it has another, up to `TURNS`.
-// So what its link has read already comes into one block. They came to what the last of them did; something was heard or appended if one of
-// them did so. `None` if there is no client.
+// So what its link has read already comes into one block. `None` if there is no client.
 fn take_turns(
     alloc: Global,
     ring: &ServerRing,
@@ -109,22 +125,16 @@ fn take_turns(
     ensures { desk.new.seat.ring ≡ desk.old.seat.ring }
 {
     let mut last = desk.turn(alloc, ring, wakers.client, wakers)?;
-    let (appended, mut heard) = (last.appended, last.heard);
+    let mut turns = last;
     for _turn in 1..TURNS {
-        if !last.appended || !matches!(last.next, Next::Go) {
+        if !goes_on(last) {
             break;
         }
-        match desk.turn(alloc, ring, wakers.client, wakers) {
-            Some(turned) => {
-                heard |= turned.heard;
-                last = turned;
-            }
-            None => break,
-        }
+        let Some(turned) = desk.turn(alloc, ring, wakers.client, wakers) else {
+            break;
+        };
+        turns = together(turns, turned);
+        last = turned;
     }
-    Some(Turned {
-        appended,
-        heard,
-        next: last.next,
-    })
+    Some(turns)
 }

@@ -15,13 +15,13 @@ use std::net::Net;
 use std::sync::Arc;
 use wakeups::{Doorbell, Mailbox};
 
-/// The token by which a worker's poll tells that its doorbell was rung. Tokens of sockets come from their desks' and clients' numbers.
+/// The token by which a worker's poll reports that its doorbell was rung. Tokens of sockets come from their desks' and clients' numbers.
 const BELL: Token = Token(usize::MAX);
 
-/// Of how many sockets one look at the poll tells at most; it tells of the others the next time.
+/// How many sockets one look at the poll reports at most; it reports the others the next time.
 const EVENTS: usize = 256;
 
-/// What a worker waits on, and what others know of its desks.
+/// What a worker waits on, and what others see of its desks.
 #[derive(Drop)]
 pub(crate) struct WorkerSetup {
     pub(crate) poll: Poll,
@@ -55,7 +55,7 @@ impl WorkerSetup {
     }
 }
 
-/// The room for what a worker's poll tells of its clients. Its worker makes it, and no other thread ever has it.
+/// The room for what a worker's poll reports of its clients. Its worker makes it, and no other thread ever has it.
 pub(crate) fn room_for_events(alloc: Global) -> Result<Events<Global>, AllocError> {
     Events::with_capacity(alloc, EVENTS)
 }

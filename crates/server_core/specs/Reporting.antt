@@ -1,4 +1,4 @@
--- Who stands in line since the poll told something of it.
+-- Who stands in line since the poll reported something of it.
 use Rattle.std.specs.Prelude.{◌≡◌, ◌<◌, ◌+◌, ◌*◌, ℕ, List, length}
 use Rattle.std.specs.List.{slice_index_or}
 use Rattle.client_schedule.specs.Lines.{times}
@@ -14,6 +14,6 @@ StandsInLine client l = 0 < times client l.ready + times client l.again
 
 module _ {R : Type 0} where
   -- if an event is of a client of one of these desks, that one stands in line there
-  abbrev pub IsHeard : List (Service R) → Event → Type 0
-  IsHeard services event = (desk client : ℕ) (d : Service R) → client < CLIENTS → desk * CLIENTS + client ≡ (event_token event).0 → desk < length services
+  abbrev pub IsReported : List (Service R) → Event → Type 0
+  IsReported services event = (desk client : ℕ) (d : Service R) → client < CLIENTS → desk * CLIENTS + client ≡ (event_token event).0 → desk < length services
       → StandsInLine client (slice_index_or services desk d).clients.lines

@@ -1,5 +1,0 @@
-use Rattle.std.proofs.Common.{◌≡◌}
-use Rattle.server_core.proofs.service.Service.take_in.Given as goal
-
-abbrev pub invariant-loop-client : goal.invariant-loop-client
-invariant-loop-client g l = l.self.shared ≡ l.fn.self.shared
