@@ -620,7 +620,9 @@ def addresses(program, checks):
             listener.settimeout(1)
             peer.join(5)
             checks.check(f"{url} is reached", not peer.is_alive() and "no handshake" in seen[2], seen)
+    checks.same("the last port is one", run(program, "ping", 65_535), (1, b"", told(NOBODY)))
     with serving(program) as broker, tempfile.NamedTemporaryFile("w") as hosts:
+        checks.same("a count of 16 is one", run(program, "listen", broker.port, "/queue/a", "--count", 16, "--timeout", 1), (4, b"", told(NONE)))
         # Nobody listens at the first of these.
         hosts.write("::1 two-addresses\n127.0.0.1 two-addresses\n")
         hosts.flush()
