@@ -64,14 +64,14 @@ def is_served(client):
 
 
 def grow_until_one_is_given_up(clients, most, others):
-    """One after another of the others gets a member more, until the one that holds most hears something. Answers who ended meanwhile."""
+    """One after another of the others gets a member more, until the one that holds most hears something that is no ping. Answers who ended meanwhile."""
     for _ in range(ROUNDS):
         for number in others:
             try:
                 clients[number].grow(1)
             except (Closed, ConnectionError):
                 return [number]
-            if clients[most].client.hears_within(0):
+            if clients[most].client.has_message():
                 return []
     return []
 
