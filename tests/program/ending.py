@@ -13,6 +13,7 @@ import fcntl
 import os
 import pathlib
 import shutil
+import socket
 import subprocess
 import sys
 import tempfile
@@ -86,8 +87,8 @@ def ended(process):
 
 
 def idle(program, journal, checks):
-    """a server that nobody has come to, or whose client has left"""
-    alone, left = [], []
+    """a server that nobody has come to, whose client has left, or one that it refused stays"""
+    alone, left, refused = [], [], []
     for _ in range(TRIES):
         process = begun(program, journal, scenario.free_port())
         started = process.stderr.readline().decode()
@@ -105,7 +106,16 @@ def idle(program, journal, checks):
         status, seconds, _ = ended(process)
         checks.same("so does one whose client has left", status, 0)
         left.append(seconds)
-    for took in (alone, left):
+    for _ in range(TRIES):
+        port = scenario.free_port()
+        process = begun(program, journal, port)
+        with socket.create_connection(("127.0.0.1", port), timeout=5) as asks:
+            asks.sendall(b"GET / HTTP/1.1\r\nHost: x\r\n\r\n")
+            checks.check("one that was refused stays", asks.recv(4096).startswith(b"HTTP/1.1 426 "))
+            status, seconds, _ = ended(process)
+        checks.same("a server with it ends with status 0", status, 0)
+        refused.append(seconds)
+    for took in (alone, left, refused):
         checks.check(f"the quickest within {AT_ONCE} s", min(took) <= AT_ONCE, took)
 
 
