@@ -1,5 +1,5 @@
 -- What a call of a flusher leaves, by its answer.
-use Rattle.std.specs.Prelude.{◌≡◌, ◌≢◌, ◌⊎◌, ◌<◌, ◌≤◌, ◌+◌, ◌-◌, ◌++◌, ℕ, List, [], Result, Vec, vec_capacity, true, false, drop, take, length, min, IsErrOf, IsOk, OnErr, OnOk}
+use Rattle.std.specs.Prelude.{◌≡◌, ◌≢◌, ◌⊎◌, ◌<◌, ◌≤◌, ◌+◌, ◌-◌, ◌^◌, ◌++◌, ℕ, List, [], Result, Vec, vec_capacity, true, false, drop, take, length, min, IsErrOf, IsOk, OnErr, OnOk}
 use Rattle.std.specs.declared.alloc.Global.{Global}
 use Rattle.disk_core.specs.declared.disk.Disk.{Ghosts}
 use Rattle.disk_core.specs.Moments.{LeavesOnly}
@@ -7,14 +7,15 @@ use Rattle.command_core.specs.Commands.{CommandValue}
 use Rattle.command_core.specs.Entries.{EntryValue}
 use Rattle.command_core.specs.Outs.{OutValue}
 use Rattle.outbox_core.specs.Boxes.{SenderValue}
-use Rattle.outbox_core.specs.Giving.{AreGiven, Kept, unboxed}
+use Rattle.outbox_core.specs.Giving.{AreGiven, Kept, unboxed, without}
 use Rattle.area_core.specs.declared.faults.AreaFault.{AreaFault}
 use Rattle.area_core.specs.declared.faults.AreaFault.TheVariants as areas
 use Rattle.area_core.specs.Areas.{commands, records}
 use Rattle.area_core.specs.Puts.{Each}
 use Rattle.area_core.specs.Steps.{IsCaused}
+use Rattle.broker_state.specs.States.{IsInOrder}
 use Rattle.broker_core.specs.States.{BrokerValue}
-use Rattle.broker_core.specs.Steps.{outs_of, state_after}
+use Rattle.broker_core.specs.Steps.{outs, outs_of, state_after, step}
 use Rattle.claim_core.specs.Seats.{FlushSeatValue, next_ticket, with_mark}
 use Rattle.recover_core.specs.declared.store.Store.{Store}
 use Rattle.recover_core.specs.Calls.{StoreAdds, StoreRefuses}
@@ -23,13 +24,14 @@ use Rattle.recover_core.specs.Standing.{StandFor, Stands, StandsForEither}
 use Rattle.recover_core.specs.Stores.{disk_of, is_broken, size_of, used_of}
 use Rattle.flush_core.specs.declared.faults.FlushFault.{FlushFault}
 use Rattle.flush_core.specs.declared.faults.FlushFault.TheVariants.{Full}
+use Rattle.flush_core.specs.declared.outlet.Outlet.{Outlet}
 use Rattle.flush_core.specs.Backlogs.{IsLight, most_counted}
 use Rattle.flush_core.specs.Batches.{IsBatch, block_bytes, from_on, state_at, with_more}
 use Rattle.flush_core.specs.Faults.{IfMemory, IsFlushCaused, NeedsNoDisk}
 use Rattle.flush_core.specs.Flushed.{AreUnder, Flushed, HasStopped, gathered, state_stored}
 use Rattle.flush_core.specs.Outcomes.{IsCompacted, IsLeft, IsNext, IsOutcome, IsTurn, IsTurned, PublishesNone, compacted, storing, taking}
 use Rattle.flush_core.specs.Room.{Fits, HasNoRoom, HasNoRoomForState, HasNoRoomLeft, IsTooLong, StoresAfresh, used_afresh}
-use Rattle.flush_core.specs.Sessions.{ended_of}
+use Rattle.flush_core.specs.Sessions.{boxes_after, ended_by, ended_of}
 
 -- Unless the flusher is broken, an honest disk that stops at any moment of the call is left with bytes that have P.
 abbrev pub UnbrokenThroughout : {D : Type 0} → Ghosts D → Flushed D → Flushed D → (List ℕ → Type 0) → Type 0
@@ -198,6 +200,24 @@ pub record Executes (cs : List CommandValue) (old new : BrokerValue) (waited wai
   pub outs : waiting.items ≡ waited.items ++ outs_of old.state cs
   pub ended_are : ended.items ≡ noted.items ++ ended_of old.state cs
 
+-- One command is executed by an outlet. The broker has the state after it, its outputs come after those that wait, and the session that it
+-- ends is noted.
+pub record ExecutesOne {B : Type 0} (c : CommandValue) (old new : BrokerValue) (from to : Outlet B) : Type 0 where
+  pub broker : new ≡ record { state = step old.state c; broken = false }
+  pub outputs : to.waiting.items ≡ from.waiting.items ++ outs old.state c
+  pub ended_are : to.ended.items ≡ from.ended.items ++ ended_by old.state c
+
+-- `count` commands can be executed in portions. The broker is whole and in order, and has numbers for them. They are taken, and the mark is
+-- not over the first of them. All that waits is of commands before it, and `spare` is empty.
+pub record AreReady (count : ℕ) (broker : BrokerValue) (seat : FlushSeatValue) (waiting spare : List OutValue) : Type 0 where
+  pub whole : broker.broken ≡ false
+  pub order : IsInOrder broker.state
+  pub few : broker.state.count + count ≤ 2 ^ 62
+  pub marked : seat.published ≤ broker.state.count
+  pub taken : broker.state.count + count ≤ next_ticket seat
+  pub under : AreUnder broker.state.count waiting
+  pub none : length spare ≡ 0
+
 -- The commands are executed, in turn. Some of the first outputs were given to these boxes by then, and the mark is over them; the others
 -- wait. The number of outputs that came of the commands is counted, as far as it can be.
 pub record ExecutesInPortions (cs : List CommandValue) (old new : BrokerValue) (waited waiting : List OutValue) (noted ended : List ℕ) (kept boxes : Kept)
@@ -209,6 +229,13 @@ pub record ExecutesInPortions (cs : List CommandValue) (old new : BrokerValue) (
   pub boxed : AreGiven given kept boxes
   pub left_are : left ≡ could ++ unboxed kept given
   pub counted : many ≡ min (length (outs_of old.state cs)) most_counted
+
+-- An outlet executes these entries in portions. It keeps their boxes, and lets go of those of sessions whose last outputs are given, before it
+-- gives anything.
+abbrev pub ExecutesStored : {B : Type 0} → List (EntryValue SenderValue) → BrokerValue → BrokerValue → Outlet B → Outlet B → ℕ → Type 0
+ExecutesStored entries old new from to many =
+    ExecutesInPortions (commands entries) old new from.waiting.items to.waiting.items from.ended.items to.ended.items (without (boxes_after old.state.count from.boxes entries) from.past.items) to.boxes
+    from.left.items to.left.items many
 
 -- The mark is raised, if at all, up to at most that number, and what may be handed out in addition is under it.
 pub record RaisesUpTo (most : ℕ) (old new : FlushSeatValue) (could left : List OutValue) : Type 0 where
@@ -226,6 +253,10 @@ pub record GivesFirst (mark : ℕ) (old new : FlushSeatValue) (waited waiting : 
   pub boxed : AreGiven given kept boxes
   pub left_are : left ≡ could ++ unboxed kept given
   pub raised : RaisesUpTo mark old new could left
+
+-- The same of an outlet, by the boxes that it has.
+abbrev pub GivesPortion : {B : Type 0} → ℕ → FlushSeatValue → FlushSeatValue → Outlet B → Outlet B → Type 0
+GivesPortion mark old new from to = GivesFirst mark old new from.waiting.items to.waiting.items from.boxes to.boxes from.left.items to.left.items
 
 -- There is room for the outputs that wait: after those that are left, if any are, and in `spare`, for those that go to no box. `spare` is
 -- empty.

@@ -3,11 +3,11 @@
 ghost use Rattle.std.specs.Prelude.{◌≡◌, ◌<◌, ◌≤◌, ◌+◌, ◌++◌, ◌&&◌, ◌^◌, [], ◌∷◌, IfOk, OnOk, true, false, not, if◌then◌else◌, length};
 ghost use Rattle.area_core.specs.Areas.{commands};
 ghost use Rattle.broker_state.specs.States.{is_open};
-ghost use Rattle.broker_core.specs.Steps.{outs, step};
-ghost use Rattle.flush_core.specs.Calls.{BreaksInMemory, Executes, HasRoom};
+ghost use Rattle.broker_core.specs.Steps.{outs};
+ghost use Rattle.flush_core.specs.Calls.{BreaksInMemory, Executes, ExecutesOne, HasRoom};
 ghost use Rattle.flush_core.specs.Faults.{IsMemory};
 ghost use Rattle.flush_core.specs.Outcomes.{executing};
-ghost use Rattle.flush_core.specs.Sessions.{boxes_after, ended_by, opened};
+ghost use Rattle.flush_core.specs.Sessions.{boxes_after, opened};
 
 use crate::FlushFault;
 use crate::backlog::{bytes_of, count_more, steps_of};
@@ -16,13 +16,12 @@ use crate::outlet::Outlet;
 use crate::width::Width;
 use broker_core::Broker;
 use claim_core::BrokerRing;
-use command_core::{Command, Entry, Op, Out};
+use command_core::{Command, Entry, Op};
 use disk_core::Disk;
 use outbox_core::{Bell, Boxes, OutSender};
 use std::alloc::{AllocError, Global};
 use std::mem::replace;
-use std::sync::Arc;
-use work_share::{Audiences, Sample};
+use work_share::Sample;
 
 // Keeps the box that comes with a command of that number, if the command opens the session of that number.
 fn keep_box<B: Bell>(
@@ -82,118 +81,58 @@ fn note_end(
     Ok(())
 }
 
-// Has the broker take a step; its outputs wait after those that wait already.
-fn take_step(
-    alloc: Global,
-    broker: &mut Broker,
-    command: Command,
-    waiting: &mut Vec<Out>,
-) -> Result<(), FlushFault>
-    requires whole { broker.old.broken ≡ false }
-    requires count { broker.old.state.count < 2 ^ 62 }
-    ensures state { OnOk result (broker.new ≡ record { state = step broker.old.state command; broken = false }) }
-    ensures outs { OnOk result (waiting.new.items ≡ waiting.old.items ++ outs broker.old.state command) }
-    ensures fault { IsMemory result }
-{
-    broker.step_onto(alloc, command, waiting)?;
-    Ok(())
-}
-
-// Executes one command: its outputs wait after those that wait already, and the session that it ends is noted.
-fn execute_one(
-    alloc: Global,
-    broker: &mut Broker,
-    command: Command,
-    waiting: &mut Vec<Out>,
-    ended: &mut Vec<u64>,
-) -> Result<(), FlushFault>
-    requires whole { broker.old.broken ≡ false }
-    requires count { broker.old.state.count < 2 ^ 62 }
-    ensures state { OnOk result (broker.new ≡ record { state = step broker.old.state command; broken = false }) }
-    ensures outs { OnOk result (waiting.new.items ≡ waiting.old.items ++ outs broker.old.state command) }
-    ensures ended { OnOk result (ended.new.items ≡ ended.old.items ++ ended_by broker.old.state command) }
-    ensures fault { IsMemory result }
-{
-    let session = command.session();
-    let was_open = broker.sessions().contains_key(&session);
-    take_step(alloc, broker, command, waiting)?;
-    note_end(broker, was_open, session, ended)?;
-    Ok(())
-}
-
-// The same, and tells what that shows of a topic's audience. It answers how many outputs came of it.
-pub(crate) fn execute_telling(
-    alloc: Global,
-    broker: &mut Broker,
-    command: Command,
-    waiting: &mut Vec<Out>,
-    ended: &mut Vec<u64>,
-    audiences: &Option<Arc<Audiences>>,
-) -> Result<u64, FlushFault>
-    requires whole { broker.old.broken ≡ false }
-    requires count { broker.old.state.count < 2 ^ 62 }
-    ensures state { OnOk result (broker.new ≡ record { state = step broker.old.state command; broken = false }) }
-    ensures outs { OnOk result (waiting.new.items ≡ waiting.old.items ++ outs broker.old.state command) }
-    ensures many { IfOk result (λ many. many ≡ length (outs broker.old.state command)) }
-    ensures ended { OnOk result (ended.new.items ≡ ended.old.items ++ ended_by broker.old.state command) }
-    ensures fault { IsMemory result }
-{
-    let (sample, waited) = (Sample::of(command.op()), waiting.len());
-    execute_one(alloc, broker, command, waiting, ended)?;
-    let many = waiting.len().saturating_sub(waited) as u64;
-    if let Some(audiences) = audiences {
-        audiences.carried_out(sample, many);
+impl<B: Bell> Outlet<B> {
+    // Executes one command: its outputs wait after those that wait already, the session that it ends is noted, and its topic's audience is
+    // too. It answers how many outputs came of it.
+    pub(crate) fn execute(
+        &mut self,
+        alloc: Global,
+        broker: &mut Broker,
+        command: Command,
+    ) -> Result<u64, FlushFault>
+        requires whole { broker.old.broken ≡ false }
+        requires count { broker.old.state.count < 2 ^ 62 }
+        ensures done { OnOk result (ExecutesOne command broker.old broker.new self.old self.new) }
+        ensures many { IfOk result (λ many. many ≡ length (outs broker.old.state command)) }
+        ensures same { self.new ≡ record self.old { waiting = self.new.waiting; ended = self.new.ended } }
+        ensures fault { IsMemory result }
+    {
+        let session = command.session();
+        let was_open = broker.sessions().contains_key(&session);
+        let (sample, waited) = (Sample::of(command.op()), self.waiting.len());
+        broker.step_onto(alloc, command, &mut self.waiting)?;
+        note_end(broker, was_open, session, &mut self.ended)?;
+        let many = self.waiting.len().saturating_sub(waited) as u64;
+        if let Some(audiences) = &self.audiences {
+            audiences.carried_out(sample, many);
+        }
+        Ok(many)
     }
-    Ok(many)
-}
 
-// The same for commands in turn.
-fn execute_each(
-    alloc: Global,
-    broker: &mut Broker,
-    commands: Vec<Command>,
-    waiting: &mut Vec<Out>,
-    ended: &mut Vec<u64>,
-    audiences: &Option<Arc<Audiences>>,
-) -> Result<(), FlushFault>
-    requires whole { broker.old.broken ≡ false }
-    requires count { broker.old.state.count + length commands.items ≤ 2 ^ 62 }
-    ensures done { OnOk result (Executes commands.items broker.old broker.new waiting.old waiting.new ended.old ended.new) }
-    ensures fault { IsMemory result }
-{
-    for command in commands {
-        execute_telling(alloc, broker, command, waiting, ended, audiences)?;
+    // Keeps the boxes of all that is stored, and executes it. Then it makes the room that publishing needs.
+    fn execute_all(
+        &mut self,
+        alloc: Global,
+        broker: &mut Broker,
+        done: &mut Vec<Entry<OutSender<B>>>,
+    ) -> Result<(), FlushFault>
+        requires whole { broker.old.broken ≡ false }
+        requires count { broker.old.state.count + length done.old.items ≤ 2 ^ 62 }
+        requires none { length self.old.spare.items ≡ 0 }
+        ensures done { OnOk result (Executes (commands done.old.items) broker.old broker.new self.old.waiting self.new.waiting self.old.ended self.new.ended) }
+        ensures boxes { OnOk result (self.new.boxes ≡ boxes_after broker.old.state.count self.old.boxes done.old.items) }
+        ensures same { (done.new.items ≡ []) × (self.new.past ≡ self.old.past) × (self.new.left.items ≡ self.old.left.items) }
+        ensures room { OnOk result (HasRoom self.new.waiting self.new.left self.new.spare) }
+        ensures fault { IsMemory result }
+    {
+        let first = broker.count();
+        let commands = keep_boxes(alloc, &mut self.boxes, first, done)?;
+        for command in commands {
+            self.execute(alloc, broker, command)?;
+        }
+        self.make_room()?;
+        Ok(())
     }
-    Ok(())
-}
-
-// The same for all that is stored, whose boxes are kept; then makes the room that publishing needs.
-fn execute_all<B: Bell>(
-    alloc: Global,
-    broker: &mut Broker,
-    done: &mut Vec<Entry<OutSender<B>>>,
-    outlet: &mut Outlet<B>,
-) -> Result<(), FlushFault>
-    requires whole { broker.old.broken ≡ false }
-    requires count { broker.old.state.count + length done.old.items ≤ 2 ^ 62 }
-    requires none { length outlet.old.spare.items ≡ 0 }
-    ensures done { OnOk result (Executes (commands done.old.items) broker.old broker.new outlet.old.waiting outlet.new.waiting outlet.old.ended outlet.new.ended) }
-    ensures boxes { OnOk result (outlet.new.boxes ≡ boxes_after broker.old.state.count outlet.old.boxes done.old.items) }
-    ensures same { (done.new.items ≡ []) × (outlet.new.past ≡ outlet.old.past) × (outlet.new.left.items ≡ outlet.old.left.items) }
-    ensures room { OnOk result (HasRoom outlet.new.waiting outlet.new.left outlet.new.spare) }
-    ensures fault { IsMemory result }
-{
-    let commands = keep_boxes(alloc, &mut outlet.boxes, broker.count(), done)?;
-    execute_each(
-        alloc,
-        broker,
-        commands,
-        &mut outlet.waiting,
-        &mut outlet.ended,
-        &outlet.audiences,
-    )?;
-    outlet.make_room()?;
-    Ok(())
 }
 
 impl<D: Disk, B: Bell, W: Width> Flusher<D, B, W> {
@@ -212,24 +151,12 @@ impl<D: Disk, B: Bell, W: Width> Flusher<D, B, W> {
         if self.is_broken() {
             return Err(FlushFault::Broken);
         }
-        self.execute_stored(alloc, ring)
-    }
-
-    // The same for a flusher that is not broken.
-    pub(crate) fn execute_stored(
-        &mut self,
-        alloc: Global,
-        ring: &BrokerRing<OutSender<B>>,
-    ) -> Result<(), FlushFault>
-        requires ring { self.old.seat.ring ≡ ring.now }
-        requires whole { self.old.broken ≡ false }
-        ensures executed { OnOk result (self.new ≡ executing self.old) }
-        ensures untouched { self.new.disk ≡ self.old.disk }
-        ensures breaks { BreaksInMemory self.old self.new result }
-    {
         let (steps, bytes) = (steps_of(&self.done), bytes_of(&self.done));
         let waited = self.outlet.waiting.len();
-        match execute_all(alloc, &mut self.broker, &mut self.done, &mut self.outlet) {
+        match self
+            .outlet
+            .execute_all(alloc, &mut self.broker, &mut self.done)
+        {
             Ok(()) => {
                 let outs = self.outlet.waiting.len().saturating_sub(waited) as u64;
                 self.counted = count_more(self.counted, steps, bytes, outs);

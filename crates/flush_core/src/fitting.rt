@@ -1,18 +1,31 @@
 //! Which of the entries that wait go into one block.
 
-ghost use Rattle.std.specs.Prelude.{◌≡◌, ◌+◌, ◌-◌, ◌<◌, ◌≤◌, take, IfOk, length};
+ghost use Rattle.std.specs.Prelude.{◌≡◌, ◌+◌, ◌-◌, ◌<◌, ◌≤◌, List, take, IfOk, length};
 ghost use Rattle.disk_core.specs.Calls.{Lasts};
+ghost use Rattle.command_core.specs.Commands.{CommandValue};
 ghost use Rattle.area_core.specs.Areas.{commands, records};
 ghost use Rattle.recover_core.specs.Calls.{StandsThroughout};
 ghost use Rattle.recover_core.specs.Stores.{disk_of, size_of};
 ghost use Rattle.flush_core.specs.Calls.{AddsFirst, RefusesFirst};
-ghost use Rattle.flush_core.specs.Room.{IsTooLong};
+ghost use Rattle.flush_core.specs.Room.{Fits, IsTooLong};
 
 use area_core::AreaFault;
 use command_core::Entry;
 use disk_core::Disk;
 use recover_core::Store;
 use std::alloc::Global;
+
+// What a block has beside its records: eight bytes of their length, and the closed gate after them.
+const BESIDE_RECORDS: u64 = 9;
+
+// How many bytes the records of a block may have that fits after `used` bytes of an area of that size; 0 if no block fits.
+fn records_room(size: u64, used: u64) -> u64
+    ensures fits { (cs : List CommandValue) → 0 < result → length (records cs) ≤ result → Fits size used cs }
+    ensures long { (cs : List CommandValue) → result < length (records cs) → IsTooLong size used cs }
+    ensures room { result ≡ size - used - 9 }
+{
+    size.saturating_sub(used).saturating_sub(BESIDE_RECORDS)
+}
 
 // How many of the entries, from the first on, have records of at most `room` bytes together.
 fn count_within<B>(room: u64, batch: &[Entry<B>]) -> usize
@@ -40,7 +53,7 @@ pub(crate) fn count_fitting<B>(size: u64, used: u64, batch: &[Entry<B>]) -> usiz
     ensures one { IsTooLong size used (take result (commands batch.now)) → IsTooLong size used (take 1 (commands batch.now)) }
     ensures more { result < length batch.now → IsTooLong size used (take (result + 1) (commands batch.now)) }
 {
-    let room = size.saturating_sub(used).saturating_sub(9);
+    let room = records_room(size, used);
     count_within(room, batch).max(1).min(batch.len())
 }
 

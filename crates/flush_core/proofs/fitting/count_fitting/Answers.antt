@@ -7,7 +7,7 @@ use Rattle.flush_core.proofs.fitting.count_fitting.Goals as goal
 pub returns-clause-one : goal.returns-clause-one
 returns-clause-one g c = λ long.
     let cs = commands c.args.batch.now in
-    let fits : length (records (take c.count_within.result cs)) ≤ c.args.size - c.args.used - 9 = omega (arith, c.count_within.ensures.fits) in
+    let fits : length (records (take c.count_within.result cs)) ≤ c.args.size - c.args.used - 9 = omega (arith, c.records_room-room.ensures.room, c.count_within.ensures.fits) in
     elim (cases_lt 1 c.min.result) [
       | inl less ↦ one_too_long c.args.size c.args.used c.count_within.result c.min.result cs fits (omega arith) long
       | inr least ↦ omega (arith, long, front_less c.min.result 1 cs least)
@@ -16,6 +16,6 @@ returns-clause-one g c = λ long.
 pub returns-clause-more : goal.returns-clause-more
 returns-clause-more g c = λ less.
     let cs = commands c.args.batch.now in
-    let fits : length (records (take c.count_within.result cs)) ≤ c.args.size - c.args.used - 9 = omega (arith, c.count_within.ensures.fits) in
-    let more : c.args.size - c.args.used - 9 < length (records (take (c.count_within.result + 1) cs)) = omega (arith, c.count_within.ensures.more (omega arith)) in
+    let fits : length (records (take c.count_within.result cs)) ≤ c.args.size - c.args.used - 9 = omega (arith, c.records_room-room.ensures.room, c.count_within.ensures.fits) in
+    let more : c.args.size - c.args.used - 9 < length (records (take (c.count_within.result + 1) cs)) = omega (arith, c.records_room-room.ensures.room, c.count_within.ensures.more (omega arith)) in
     more_too_long c.args.size c.args.used c.count_within.result c.min.result cs fits (omega arith) more

@@ -18,42 +18,23 @@ use Rattle.flush_core.proofs.Counting.{counts_marked, counts_more}
 use Rattle.flush_core.proofs.Keeping.{broker_count, broker_in_order, counts, counts_stored, executed_entries, gives, gives_and_falls, gives_is, held_executed, held_marked}
 use Rattle.flush_core.proofs.flusher.Flusher.execute_in_portions.Goals as goal
 
-pub execute_all-requires-clause-whole : goal.execute_all-requires-clause-whole
-execute_all-requires-clause-whole g c = ap (λ (b : BrokerValue). b.broken) (c.self.invariant.0.running (ap (λ (f : Flushed g.row.D.Denot). f.broken) c.self.view_is ∙ c.requires.whole)).broker
-
-pub execute_all-requires-clause-none : goal.execute_all-requires-clause-none
-execute_all-requires-clause-none g c = (c.self.invariant.2 (ap (λ (f : Flushed g.row.D.Denot). f.broken) c.self.view_is ∙ c.requires.whole)).none
-
-pub execute_all-requires-clause-order : goal.execute_all-requires-clause-order
-execute_all-requires-clause-order g c =
+pub execute_in_portions-requires-clause-ready : goal.execute_in_portions-requires-clause-ready
+execute_in_portions-requires-clause-ready g c =
     let it = c.self.inside in
     let whole : it.broken ≡ false = ap (λ (f : Flushed g.row.D.Denot). f.broken) c.self.view_is ∙ c.requires.whole in
-    broker_in_order g.D.Disk.honest g.D.Disk.images (flushed_of it) whole c.self.invariant.0
-
-pub execute_all-requires-clause-count : goal.execute_all-requires-clause-count
-execute_all-requires-clause-count g c =
-    let it = c.self.inside in
-    let whole : it.broken ≡ false = ap (λ (f : Flushed g.row.D.Denot). f.broken) c.self.view_is ∙ c.requires.whole in
+    let f = flushed_of it in
+    let kept = c.self.invariant.0 in
     let held = c.self.invariant.1 whole in
-    counts g.D.Disk.honest g.D.Disk.images (flushed_of it) it.done.items whole c.self.invariant.0 held.done_is held.few
-
-pub execute_all-requires-clause-marked : goal.execute_all-requires-clause-marked
-execute_all-requires-clause-marked g c =
-    let it = c.self.inside in
-    let whole : it.broken ≡ false = ap (λ (f : Flushed g.row.D.Denot). f.broken) c.self.view_is ∙ c.requires.whole in
-    omega (arith, broker_count g.D.Disk.honest g.D.Disk.images (flushed_of it) whole c.self.invariant.0, c.self.invariant.0.marked)
-
-pub execute_all-requires-clause-taken : goal.execute_all-requires-clause-taken
-execute_all-requires-clause-taken g c =
-    let it = c.self.inside in
-    let whole : it.broken ≡ false = ap (λ (f : Flushed g.row.D.Denot). f.broken) c.self.view_is ∙ c.requires.whole in
-    omega (arith, counts_stored g.D.Disk.honest g.D.Disk.images (flushed_of it) it.done.items whole c.self.invariant.0 (c.self.invariant.1 whole).done_is, c.self.invariant.0.stored)
-
-pub execute_all-requires-clause-under : goal.execute_all-requires-clause-under
-execute_all-requires-clause-under g c =
-    let it = c.self.inside in
-    let whole : it.broken ≡ false = ap (λ (f : Flushed g.row.D.Denot). f.broken) c.self.view_is ∙ c.requires.whole in
-    subst (λ (n : ℕ). AreUnder n it.outlet.waiting.items) (sym (broker_count g.D.Disk.honest g.D.Disk.images (flushed_of it) whole c.self.invariant.0)) (c.self.invariant.0.running whole).waiting
+    let count = broker_count g.D.Disk.honest g.D.Disk.images f whole kept in
+    record {
+      whole = ap (λ (b : BrokerValue). b.broken) (kept.running whole).broker;
+      order = broker_in_order g.D.Disk.honest g.D.Disk.images f whole kept;
+      few = counts g.D.Disk.honest g.D.Disk.images f it.done.items whole kept held.done_is held.few;
+      marked = omega (arith, count, kept.marked);
+      taken = omega (arith, counts_stored g.D.Disk.honest g.D.Disk.images f it.done.items whole kept held.done_is, kept.stored);
+      under = subst (λ (n : ℕ). AreUnder n it.outlet.waiting.items) (sym count) (kept.running whole).waiting;
+      none = (c.self.invariant.2 whole).none;
+    }
 
 pub invariant_of-self : goal.invariant_of-self
 invariant_of-self g c =
@@ -63,18 +44,18 @@ invariant_of-self g c =
     let held = c.self.invariant.1 whole in
     let did = c.in-Ok.ensures.done in
     let room = c.in-Ok.ensures.room in
-    let raised = c.execute_all.ensures.raised in
-    let now = c.execute_all.new in
+    let raised = c.execute_in_portions.ensures.raised in
+    let now = c.execute_in_portions.new in
     let counted = counts_stored g.D.Disk.honest g.D.Disk.images f it.done.items whole c.self.invariant.0 held.done_is in
     let state : it.broker.state ≡ state_at it.opening.value.state it.seat it.executed = ap (λ (b : BrokerValue). b.state) (c.self.invariant.0.running whole).broker in
     let outs : outs_of it.broker.state (commands it.done.items) ≡ outs_of (state_at it.opening.value.state it.seat it.executed) (between it.seat it.executed it.stored) = (λ i. outs_of (state i) (held.done_is i)) in (
-      gives g.D.Disk.honest g.D.Disk.images f now.seat (now.done.items ++ it.batch.items) now.broker now.outlet.boxes now.outlet.ended.items now.outlet.past.items did.given now.outlet.waiting.items raised.more now.outlet.left.items
-          (ap (λ (l : List (EntryValue SenderValue)). commands (l ++ it.batch.items)) c.execute_all.ensures.none ∙ held.batch_is)
+      gives g.D.Disk.honest g.D.Disk.images f now.seat (now.done.items ++ it.batch.items) now.broker now.self.boxes now.self.ended.items now.self.past.items did.given now.self.waiting.items raised.more now.self.left.items
+          (ap (λ (l : List (EntryValue SenderValue)). commands (l ++ it.batch.items)) c.execute_in_portions.ensures.none ∙ held.batch_is)
           (did.broker ∙ ap (λ (l : List CommandValue). record { state = state_after it.broker.state l; broken = false }) held.done_is)
           (did.outs ∙ ap (λ (l : List CommandValue). it.outlet.waiting.items ++ outs_of it.broker.state l) held.done_is)
           raised.seat raised.raised (omega (arith, raised.within, counted)) raised.left_are raised.under whole c.self.invariant.0,
       λ w. held_marked it.seat now.seat now.seat.published it.stored it.stored _ it.batch.items now.done.items it.bytes _ _ _ _ _ _ raised.seat room.behind
-          (held_executed it.seat it.stored it.executed _ it.batch.items it.done.items now.done.items it.bytes _ _ _ _ _ _ c.execute_all.ensures.none room.behind held),
+          (held_executed it.seat it.stored it.executed _ it.batch.items it.done.items now.done.items it.bytes _ _ _ _ _ _ c.execute_in_portions.ensures.none room.behind held),
       λ w. record { none = room.none; room_is = room.beside },
       c.self.invariant.3,
       λ w. counts_marked it.opening.value.state it.seat now.seat now.seat.published it.since it.stored c.count_more-self-inside.result raised.seat
@@ -93,15 +74,15 @@ returns-in-Ok-clause-executed g c =
     let kept = c.self.invariant.0 in
     let held = c.self.invariant.1 whole in
     let did = c.in-Ok.ensures.done in
-    let raised = c.execute_all.ensures.raised in
-    let now = c.execute_all.new in
+    let raised = c.execute_in_portions.ensures.raised in
+    let now = c.execute_in_portions.new in
     let counted = counts_stored g.D.Disk.honest g.D.Disk.images f it.done.items whole kept held.done_is in
     let entries = executed_entries it.seat it.stored it.executed _ it.batch.items it.done.items _ _ _ _ (omega (arith, kept.begun, kept.marked)) kept.executed kept.stored held in
-    let new : Flushed g.row.D.Denot = record f { seat = now.seat; executed = it.stored; brought = now.done.items ++ it.batch.items; broker = now.broker; boxes = now.outlet.boxes; ended = now.outlet.ended.items; past = now.outlet.past.items; waiting = now.outlet.waiting.items; left = now.outlet.left.items } in
+    let new : Flushed g.row.D.Denot = record f { seat = now.seat; executed = it.stored; brought = now.done.items ++ it.batch.items; broker = now.broker; boxes = now.self.boxes; ended = now.self.ended.items; past = now.self.past.items; waiting = now.self.waiting.items; left = now.self.left.items } in
     subst (λ (old : Flushed g.row.D.Denot). Gives old new) c.self.view_is
-    (gives_is g.D.Disk.honest g.D.Disk.images f now.seat (now.done.items ++ it.batch.items) now.broker now.outlet.boxes
-    (without (boxes_after it.broker.state.count it.outlet.boxes it.done.items) it.outlet.past.items) now.outlet.ended.items now.outlet.past.items did.given now.outlet.waiting.items now.outlet.left.items whole kept
-    (ap (λ (l : List (EntryValue SenderValue)). l ++ it.batch.items) c.execute_all.ensures.none ∙ sym entries.1)
+    (gives_is g.D.Disk.honest g.D.Disk.images f now.seat (now.done.items ++ it.batch.items) now.broker now.self.boxes
+    (without (boxes_after it.broker.state.count it.outlet.boxes it.done.items) it.outlet.past.items) now.self.ended.items now.self.past.items did.given now.self.waiting.items now.self.left.items whole kept
+    (ap (λ (l : List (EntryValue SenderValue)). l ++ it.batch.items) c.execute_in_portions.ensures.none ∙ sym entries.1)
     (λ i. without (boxes_after (broker_count g.D.Disk.honest g.D.Disk.images f whole kept i) it.outlet.boxes ((sym entries.0) i)) it.outlet.past.items)
     (did.ended_are ∙ ap (λ (l : List CommandValue). it.outlet.ended.items ++ ended_of it.broker.state l) held.done_is)
     c.in-Ok.ensures.past
@@ -119,9 +100,9 @@ pub returns-in-Err-clause-falls : goal.returns-in-Err-clause-falls
 returns-in-Err-clause-falls g c =
     let it = c.self.inside in
     let f = flushed_of it in
-    let raised = c.execute_all.ensures.raised in
-    let now = c.execute_all.new in
-    let new : Flushed g.row.D.Denot = record f { seat = c.stop.new.seat; executed = c.max-self-inside.result; brought = now.done.items ++ it.batch.items; broker = now.broker; boxes = now.outlet.boxes; ended = now.outlet.ended.items; past = now.outlet.past.items; waiting = now.outlet.waiting.items; left = now.outlet.left.items; broken = true } in
+    let raised = c.execute_in_portions.ensures.raised in
+    let now = c.execute_in_portions.new in
+    let new : Flushed g.row.D.Denot = record f { seat = c.stop.new.seat; executed = c.max-self-inside.result; brought = now.done.items ++ it.batch.items; broker = now.broker; boxes = now.self.boxes; ended = now.self.ended.items; past = now.self.past.items; waiting = now.self.waiting.items; left = now.self.left.items; broken = true } in
     let stopped : c.stop.new.seat ≡ when_stopped (with_mark it.seat now.seat.published) = c.stop.ensures ∙ ap (λ (s : FlushSeatValue). when_stopped s) raised.seat in
     subst (λ (old : Flushed g.row.D.Denot). GivesAndFalls old new) c.self.view_is (record {
       was = ap (λ (f : Flushed g.row.D.Denot). f.broken) c.self.view_is ∙ c.requires.whole;
@@ -138,10 +119,10 @@ invariant_of-self-in-Err g c =
     let it = c.self.inside in
     let whole : it.broken ≡ false = ap (λ (f : Flushed g.row.D.Denot). f.broken) c.self.view_is ∙ c.requires.whole in
     let f = flushed_of it in
-    let raised = c.execute_all.ensures.raised in
-    let now = c.execute_all.new in
+    let raised = c.execute_in_portions.ensures.raised in
+    let now = c.execute_in_portions.new in
     let counted = counts_stored g.D.Disk.honest g.D.Disk.images f it.done.items whole c.self.invariant.0 (c.self.invariant.1 whole).done_is in (
-      gives_and_falls g.D.Disk.honest g.D.Disk.images f c.stop.new.seat now.seat.published c.max-self-inside.result (now.done.items ++ it.batch.items) now.broker now.outlet.boxes now.outlet.ended.items now.outlet.past.items now.outlet.waiting.items raised.more now.outlet.left.items
+      gives_and_falls g.D.Disk.honest g.D.Disk.images f c.stop.new.seat now.seat.published c.max-self-inside.result (now.done.items ++ it.batch.items) now.broker now.self.boxes now.self.ended.items now.self.past.items now.self.waiting.items raised.more now.self.left.items
           (c.stop.ensures ∙ ap (λ (s : FlushSeatValue). when_stopped s) raised.seat) raised.raised
           (omega (arith, c.max-self-inside.ensures, c.mark.ensures.mark)) (omega (arith, c.max-self-inside.ensures, c.mark.ensures.mark, raised.within, counted, c.self.invariant.0.executed))
           raised.left_are raised.under whole c.self.invariant.0,

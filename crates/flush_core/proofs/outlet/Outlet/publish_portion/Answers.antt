@@ -2,16 +2,16 @@ use Rattle.std.proofs.Common.{subst, ◌∙◌, ◌++◌, List}
 use Rattle.command_core.specs.Outs.{OutValue}
 use Rattle.outbox_core.specs.Giving.{AreGiven, Kept, unboxed}
 use Rattle.flush_core.proofs.Published.{gives_all, gives_none}
-use Rattle.flush_core.proofs.portions.publish_portion.Goals as goal
+use Rattle.flush_core.proofs.outlet.Outlet.publish_portion.Goals as goal
 
 pub returns-then-since-lt-COMMANDS-clause-gives : goal.returns-then-since-lt-COMMANDS-clause-gives
 returns-then-since-lt-COMMANDS-clause-gives g c =
-    let it = c.args.outlet.now in
+    let it = c.args.self.now in
     gives_none c.args.mark c.args.seat.now it.waiting.items it.boxes it.left.items c.requires.mark.0
 
 pub returns-clause-gives : goal.returns-clause-gives
 returns-clause-gives g c =
-    let it = c.args.outlet.now in
+    let it = c.args.self.now in
     let new = c.give_portion.new.self in
     let room = c.make_room.ensures in
     gives_all c.args.mark c.args.seat.now c.raise.new.seat it.waiting.items new.waiting.items it.boxes new.boxes it.left.items new.left.items c.raise.ensures c.requires.mark.0 c.requires.under
