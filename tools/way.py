@@ -50,7 +50,8 @@ def without(text, *patterns):
 
 def plain(text):
     """Code without comments, literals and ghost lines."""
-    text = without(text, r"//[^\n]*", r"\bghost [^;]*;")
+    # A ghost field of a struct is a line; other ghost words end by a semicolon.
+    text = without(text, r"//[^\n]*", r"(?m)^[ \t]*ghost \w+:[^\n]*$", r"\bghost [^;]*;")
     text = re.sub(r'b?"(?:[^"\\]|\\.)*"', '""', text)
     return re.sub(r"b?'(?:[^'\\]|\\.[^']*)'", "' '", text)
 

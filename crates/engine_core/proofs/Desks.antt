@@ -9,7 +9,7 @@ use Rattle.std.proofs.lemmas.List.Sums.{sum_by-cons, sum_by-le-sum_by}
 use Rattle.std.proofs.lemmas.Map.Lookups.{exact_unsigned}
 use Rattle.command_core.specs.declared.command.Op.{Op}
 use Rattle.command_core.specs.Commands.{CommandValue}
-use Rattle.desk_core.specs.Footprints.{footprint}
+use Rattle.clients.specs.Footprints.{footprint}
 use Rattle.broker_state.specs.declared.nack_rule.NackRule.{NackRule}
 use Rattle.broker_state.specs.declared.subscription.Subscription.{Subscription}
 use Rattle.broker_state.specs.Operations.{is_of}

@@ -25,9 +25,9 @@ use Rattle.broker_state.proofs.Lookups.{none_found}
 use Rattle.broker_state.proofs.Ordered.{step_in_order}
 use Rattle.broker_state.proofs.SubscriptionLimits.{step_limits}
 use Rattle.broker_state.proofs.Walk.{Gives}
-use Rattle.desk_core.specs.declared.footprint.Part.{Part}
-use Rattle.desk_core.specs.Footprints.{charged, footprint, has_id, parts_of, standing}
-use Rattle.desk_core.proofs.Footprints.{charges}
+use Rattle.clients.specs.declared.footprint.Part.{Part}
+use Rattle.clients.specs.Footprints.{charged, footprint, has_id, parts_of, standing}
+use Rattle.clients.proofs.Footprints.{charges}
 use Rattle.engine_core.specs.Desks.{operations_of, session_of}
 use Rattle.engine_core.specs.Sessions.{bytes_of_session, subscribing_of}
 use Rattle.engine_core.proofs.Taken.{Ids, of_session, of_subscription, others, taken, weigh, weight, weight_left}

@@ -3,54 +3,54 @@ use Rattle.std.proofs.Common.{◌≡◌, ◌++◌, ◌∷◌, [], ℕ, List, Opt
 use Rattle.std.specs.List.{AllByRecursion}
 use Rattle.claim_core.specs.Counts.{Pair}
 use Rattle.claim_core.specs.Seats.{SessionSeatValue}
-use Rattle.desk_core.specs.Connections.{ConnectionValue}
-use Rattle.desk_core.specs.Progress.{number_in}
-use Rattle.desk_core.specs.declared.ended.Ended as connections
-use Rattle.desk_core.specs.declared.ended.Ended.TheVariants as ends
-use Rattle.desk_core.specs.declared.progress.Progress.{Progress}
-use Rattle.desk_core.specs.declared.progress.Progress.TheVariants.{New}
-use Rattle.desk_core.specs.declared.stage.Stage.TheVariants.{Over}
-use Rattle.desk_core.specs.Answers.{Awaits, GoesOnYet}
-use Rattle.desk_core.specs.declared.turned.Next.{Next}
-use Rattle.desk_core.specs.declared.turned.Next.TheVariants as nexts
-use Rattle.desk_core.specs.Continues.{Continues}
-use Rattle.desk_core.specs.Conversations.{IsConversation, IsPart, Speaks, number_of, part_of}
-use Rattle.desk_core.specs.Effects.{commands_of}
-use Rattle.desk_core.specs.Halting.{HasHalted}
-use Rattle.desk_core.specs.Slots.{IsNew, IsOwn, Message, number_at}
-use Rattle.desk_core.specs.Steps.{GoesOn}
-use Rattle.desk_core.specs.declared.slot.Slot.{Slot}
-use Rattle.desk_core.proofs.Lists.{all_weaker, cond_same}
-use Rattle.desk_core.proofs.Going.{lives_anew}
+use Rattle.clients.specs.Connections.{ConnectionValue}
+use Rattle.clients.specs.Progress.{number_in}
+use Rattle.clients.specs.declared.ended.Ended as connections
+use Rattle.clients.specs.declared.ended.Ended.TheVariants as ends
+use Rattle.clients.specs.declared.progress.Progress.{Progress}
+use Rattle.clients.specs.declared.progress.Progress.TheVariants.{New}
+use Rattle.clients.specs.declared.stage.Stage.TheVariants.{Over}
+use Rattle.clients.specs.Answers.{Awaits, GoesOnYet}
+use Rattle.clients.specs.declared.turned.Next.{Next}
+use Rattle.clients.specs.declared.turned.Next.TheVariants as nexts
+use Rattle.clients.specs.Continues.{Continues}
+use Rattle.clients.specs.Conversations.{IsConversation, IsPart, Speaks, number_of, part_of}
+use Rattle.clients.specs.Effects.{commands_of}
+use Rattle.clients.specs.Halting.{HasHalted}
+use Rattle.clients.specs.Clients.{IsNew, IsOwn, Message, number_at}
+use Rattle.clients.specs.Steps.{GoesOn}
+use Rattle.clients.specs.declared.client.Client.{Client}
+use Rattle.clients.proofs.Lists.{all_weaker, cond_same}
+use Rattle.clients.proofs.Going.{lives_anew}
 use Rattle.engine_core.specs.Serving.{IsEndAt, Serves, end_of}
 use Rattle.engine_core.specs.declared.ended.Ended.{Ended}
 use Rattle.engine_core.specs.declared.ended.Ended.TheVariants.{Stopped}
 
 -- ── how it ended ──
 
-pub over : {B : Type 0} (slot : Slot B) (how : connections.Ended) → slot.connection.stage ≡ Over how → IsEndAt (end_of how) slot
-over slot ends.Bye e = e
-over slot ends.Lost e = e
-over slot ends.Bad e = e
-over slot ends.Stopped e = e
+pub over : {B : Type 0} (client : Client B) (how : connections.Ended) → client.stage ≡ Over how → IsEndAt (end_of how) client
+over client ends.Bye e = e
+over client ends.Lost e = e
+over client ends.Bad e = e
+over client ends.Stopped e = e
 
 -- it goes on, unless it is told to be over
-pub goes_yet : {B : Type 0} (next : Next) (slot : Slot B) → ((how : connections.Ended) → next ≡ nexts.Over how → ⊥) → Awaits next slot → GoesOnYet slot.connection.stage
-goes_yet nexts.Go slot other a = a
-goes_yet nexts.Read slot other a = subst GoesOnYet (sym a.0) tt
-goes_yet nexts.Write slot other a = subst GoesOnYet (sym a) tt
-goes_yet (nexts.Room mark) slot other a = a.0
-goes_yet (nexts.Output mark) slot other a = subst GoesOnYet (sym a.0) tt
-goes_yet nexts.Memory slot other a = a
-goes_yet nexts.Close slot other a = subst GoesOnYet (sym a.1) tt
-goes_yet (nexts.Over how) slot other a = absurd (other how refl)
+pub goes_yet : {B : Type 0} (next : Next) (client : Client B) → ((how : connections.Ended) → next ≡ nexts.Over how → ⊥) → Awaits next client → GoesOnYet client.stage
+goes_yet nexts.Go client other a = a
+goes_yet nexts.Read client other a = subst GoesOnYet (sym a.0) tt
+goes_yet nexts.Write client other a = subst GoesOnYet (sym a) tt
+goes_yet (nexts.Room mark) client other a = a.0
+goes_yet (nexts.Output mark) client other a = subst GoesOnYet (sym a.0) tt
+goes_yet nexts.Memory client other a = a
+goes_yet nexts.Close client other a = subst GoesOnYet (sym a.1) tt
+goes_yet (nexts.Over how) client other a = absurd (other how refl)
 
 -- and has ended as it is told
-pub over_as : {B : Type 0} (next : Next) (how : connections.Ended) (slot : Slot B) (told : Ended) → next ≡ nexts.Over how → told ≡ end_of how → Awaits next slot → IsEndAt told slot
-over_as next how slot told is same a = subst (λ e. IsEndAt e slot) (sym same) (over slot how (subst (λ n. Awaits n slot) is a))
+pub over_as : {B : Type 0} (next : Next) (how : connections.Ended) (client : Client B) (told : Ended) → next ≡ nexts.Over how → told ≡ end_of how → Awaits next client → IsEndAt told client
+over_as next how client told is same a = subst (λ e. IsEndAt e client) (sym same) (over client how (subst (λ n. Awaits n client) is a))
 
-pub new_yet : {B : Type 0} (limit : ℕ) (slot : Slot B) → IsNew limit slot → GoesOnYet slot.connection.stage
-new_yet limit slot anew = subst (λ (c : ConnectionValue). GoesOnYet c.stage) (sym anew.connection) tt
+pub new_yet : {B : Type 0} (limit : ℕ) (client : Client B) → IsNew limit client → GoesOnYet client.stage
+new_yet limit client anew = subst (λ (c : ConnectionValue). GoesOnYet c.stage) (sym anew.connection) tt
 
 -- ── one conversation ──
 
@@ -103,21 +103,21 @@ alone is old new c more added =
 -- ── its life ──
 
 -- a connection that has ended so was stopped
-halted : {B : Type 0} (slot : Slot B) → IsEndAt Stopped slot → HasHalted slot.connection.stage
-halted slot e = subst HasHalted (sym e) tt
+halted : {B : Type 0} (client : Client B) → IsEndAt Stopped client → HasHalted client.stage
+halted client e = subst HasHalted (sym e) tt
 
-not_yet : {B : Type 0} (limit : ℕ) (was : Slot B) → IsNew limit was → HasHalted was.connection.stage → ⊥
+not_yet : {B : Type 0} (limit : ℕ) (was : Client B) → IsNew limit was → HasHalted was.stage → ⊥
 not_yet limit was anew h = subst (λ (c : ConnectionValue). HasHalted c.stage) anew.connection h
 
-pub serves : {B L : Type 0} (sent : L → Option (List (List ℕ))) (received : L → Option (List ℕ)) (was is : Slot B) (s t : SessionSeatValue) (l m : L) (ended : Ended) (limit : ℕ)
+pub serves : {B L : Type 0} (sent : L → Option (List (List ℕ))) (received : L → Option (List ℕ)) (was is : Client B) (s t : SessionSeatValue) (l m : L) (ended : Ended) (limit : ℕ)
     → IsNew limit was → GoesOn sent received was s l is t m → IsEndAt ended is → Serves B sent received s l t m ended
 serves {B} sent received was is s t l m ended limit anew g ends = record {
   effects = g.effects;
-  slot = is;
+  client = is;
   ends = ends;
   added = g.added;
   number = number_or (number_at is);
-  conversation = alone is.connection.progress s t (subst (λ p. Continues p s is.connection.progress t) (ap (λ (c : ConnectionValue). c.progress) anew.connection) g.continues) (commands_of g.effects) g.added;
+  conversation = alone is.progress s t (subst (λ p. Continues p s is.progress t) (ap (λ (c : ConnectionValue). c.progress) anew.connection) g.continues) (commands_of g.effects) g.added;
   messages = g.served.passes.messages;
   told = g.served.passes.told;
   own = all_weaker (IsOwn (number_at is)) (IsOwn (Some (number_or (number_at is)))) (own_at (number_at is)) g.served.passes.messages g.served.passes.own;

@@ -2,7 +2,7 @@
 use Rattle.std.proofs.Common.{◌≡◌, ◌≤◌, ◌+◌, ◌*◌, ◌-◌, ◌/◌, ℕ, inl, inr, max, min, subst, arith}
 use Rattle.std.proofs.lemmas.Bool.{cases_lt}
 use Rattle.std.proofs.Math.Nat.{mul-div-le}
-use Rattle.desk_core.specs.declared.footprint.TheConstants.{SESSION_BYTES}
+use Rattle.clients.specs.declared.footprint.TheConstants.{SESSION_BYTES}
 use Rattle.engine_core.specs.Desks.{limit_of}
 use Rattle.engine_core.specs.declared.limit.TheConstants.{HELD_BYTES}
 

@@ -34,7 +34,7 @@ use Rattle.broker_state.proofs.Counts.{sum_mapped, sum_with_first}
 use Rattle.broker_state.proofs.Deliveries.{made, settling_keeps, sum_picked}
 use Rattle.broker_state.proofs.Picked.{picked_nothing}
 use Rattle.broker_state.proofs.Walk.{Gives}
-use Rattle.desk_core.specs.Footprints.{parts_of}
+use Rattle.clients.specs.Footprints.{parts_of}
 use Rattle.engine_core.specs.Sessions.{subscribing_of}
 use Rattle.engine_core.proofs.Taken.{Ids, all_others, less_filtered, less_removed, more_inserted, none_left, of_session, of_subscription, others, taken, weight}
 

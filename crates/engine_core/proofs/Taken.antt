@@ -11,8 +11,8 @@ use Rattle.std.proofs.lemmas.List.Filters.{sum_by-filter_both}
 use Rattle.std.proofs.lemmas.List.Sums.{sum_by-cons}
 use Rattle.std.proofs.lemmas.Map.Lookups.{exact_unsigned}
 use Rattle.std.proofs.lemmas.Slice.Eq.{bytes_eq-Decides}
-use Rattle.desk_core.specs.declared.footprint.Part.{Part}
-use Rattle.desk_core.specs.Footprints.{has_id, parts_of}
+use Rattle.clients.specs.declared.footprint.Part.{Part}
+use Rattle.clients.specs.Footprints.{has_id, parts_of}
 use Rattle.broker_state.specs.declared.subscription.Subscription.{Subscription}
 use Rattle.broker_state.specs.Lists.{picked}
 use Rattle.broker_state.specs.Operations.{is_named, is_of}

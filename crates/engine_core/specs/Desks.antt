@@ -3,8 +3,8 @@ use Rattle.std.specs.Prelude.{◌==◌, ◌+◌, ◌*◌, ◌-◌, ◌/◌, ◌<
 use Rattle.std.specs.List.{sum_by}
 use Rattle.command_core.specs.declared.command.Op.{Op}
 use Rattle.command_core.specs.Commands.{CommandValue}
-use Rattle.desk_core.specs.declared.footprint.TheConstants.{SESSION_BYTES}
-use Rattle.desk_core.specs.Footprints.{footprint}
+use Rattle.clients.specs.declared.footprint.TheConstants.{SESSION_BYTES}
+use Rattle.clients.specs.Footprints.{footprint}
 use Rattle.broker_state.specs.Steps.{is_opening}
 use Rattle.broker_state.specs.States.{State}
 use Rattle.engine_core.specs.declared.limit.TheConstants.{HELD_BYTES}

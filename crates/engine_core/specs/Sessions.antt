@@ -3,7 +3,7 @@ use Rattle.std.specs.Prelude.{◌==◌, ◌+◌, ℕ, List, Option, cond, option
 use Rattle.std.specs.List.{sum_by}
 use Rattle.command_core.specs.declared.command.Op.{Op}
 use Rattle.command_core.specs.declared.command.Op.TheVariants as ops
-use Rattle.desk_core.specs.Footprints.{parts_of, total}
+use Rattle.clients.specs.Footprints.{parts_of, total}
 use Rattle.broker_state.specs.declared.subscription.Subscription.{Subscription}
 use Rattle.broker_state.specs.Names.{Name}
 use Rattle.broker_state.specs.Operations.{is_of}

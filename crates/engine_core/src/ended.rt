@@ -20,14 +20,14 @@ pub enum Ended {
 
 impl Ended {
     // That of a worker whose connection has ended so.
-    pub(crate) fn of(ended: desk_core::Ended) -> Ended
+    pub(crate) fn of(ended: clients::Ended) -> Ended
         ensures { result ≡ end_of ended }
     {
         match ended {
-            desk_core::Ended::Bye => Ended::Bye,
-            desk_core::Ended::Lost => Ended::Lost,
-            desk_core::Ended::Bad => Ended::Bad,
-            desk_core::Ended::Stopped => Ended::Stopped,
+            clients::Ended::Bye => Ended::Bye,
+            clients::Ended::Lost => Ended::Lost,
+            clients::Ended::Bad => Ended::Bad,
+            clients::Ended::Stopped => Ended::Stopped,
         }
     }
 }

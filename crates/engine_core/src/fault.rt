@@ -78,7 +78,7 @@ impl From<SessionFault> for QueueFault {
 pub enum ScriptFault {
     /// Memory was refused.
     Memory(AllocError),
-    /// The line of that number, counted from 1, says nothing that is understood there, or is longer than 1,048,576 bytes, or
+    /// The line of that number, counted from 1, is not understood there, or is longer than 1,048,576 bytes, or
     /// is the last one and has no LF.
     NotUnderstood { line: u64 },
     /// A command comes once as many have been carried out as may be: 2^60.

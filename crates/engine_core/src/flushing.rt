@@ -13,9 +13,9 @@ use flush_core::FlushFault;
 use outbox_core::{Bell, OutSender};
 use std::alloc::Global;
 
-/// Makes so many turns of the flusher, counting those that its gate held up, and then answers the mark. Outputs of
+/// Makes that number of turns of the flusher, counting those that its gate held up, and then answers the mark. Outputs of
 /// sessions that have no outbox are dropped. After each turn the journal is compacted if a start would have more to repeat
-/// than it may. A fault ends it at once, and the gate hears that the flusher has stopped. The
+/// than it may. A fault ends it at once, and the gate is notified that the flusher has stopped. The
 /// fault is `Device` exactly if a call of the disk failed.
 pub fn flush_loop<D: Disk, B: Bell, G: Gate>(
     alloc: Global,
@@ -90,7 +90,7 @@ fn flush<D: Disk, B: Bell, G: Gate>(
     }
 }
 
-// Compacts the journal if a start would have more to repeat than it may. The gate hears only if that fails.
+// Compacts the journal if a start would have more to repeat than it may. The gate is notified only if that fails.
 fn compact_if_due<D: Disk, B: Bell, G: Gate>(
     alloc: Global,
     ring: &BrokerRing<OutSender<B>>,
@@ -116,7 +116,7 @@ fn compact_if_due<D: Disk, B: Bell, G: Gate>(
     }
 }
 
-// Nobody is told what the compaction won.
+// What the compaction won is not reported.
 fn forget_won<D: Disk, B: Bell>(flusher: &mut HubFlusher<D, B>)
     ensures { flusher.new ≡ record flusher.old { last = record flusher.old.last { won = None } } }
 {

@@ -1,6 +1,6 @@
 //! What workers and the flusher are asked to wait by.
 
-/// What is asked before each turn of a worker and of the flusher, and hears of what they did. Only the first call need be written; the
+/// What is asked before each turn of a worker and of the flusher, and is notified of what they did. Only the first call need be written; the
 /// others are for a gate by which threads wait for each other.
 pub trait Gate {
     /// Whether the turn is taken. A turn to which the gate answers false does nothing. A worker goes by the number of its seat, the
@@ -20,12 +20,12 @@ pub trait Gate {
     /// The flusher has published every number under this mark.
     fn published(&self, _mark: u64) {}
 
-    /// The flusher's turn has compacted the journal, whose live area had no room for what waited. The area now uses so many bytes
-    /// less, not counting what waited. This is said after `published`.
+    /// The flusher's turn has compacted the journal, whose live area had no room for what waited. The area now uses that many
+    /// bytes less, not counting what waited. This comes after `published`.
     fn compacted(&self, _won: u64) {}
 
     /// A reader's box is over half full, and is being emptied. The flusher goes on, or looks again, once this returns, so it may
-    /// be kept here for a moment: it looks 50 times at most. This is said after `published`.
+    /// be kept here for a moment: it looks 50 times at most. This comes after `published`.
     fn wait_for_readers(&self) {}
 
     /// A step of the flusher has failed: no mark over the last one will be published, and the ring takes nothing more. A worker that is

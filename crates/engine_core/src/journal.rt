@@ -97,7 +97,7 @@ impl<D: Disk> Journal<D> {
 
     /// Has waiting commands go through the ring: each is appended by its connection's seat, and made durable and carried out
     /// in the flusher's turns. Answers their outputs, in order, or `None` if a call of the disk failed. Whatever a stop then
-    /// leaves of the disk stands for the state after the first so many of these commands.
+    /// leaves of the disk stands for the state after a prefix of these commands.
     ///
     /// After a call that failed, and after a fault, the journal is not durable, and takes nothing more. `Full` comes if the block of some
     /// of the commands has no room after those before, and `Memory` if memory was refused. `Broken` comes if a step failed before, or if
@@ -158,7 +158,7 @@ impl<D: Disk> Journal<D> {
         }
     }
 
-    /// The same journal over a disk that passes so many more calls and then fails.
+    /// The same journal over a disk that passes `calls` more calls and then fails.
     pub fn fuse(self, calls: u64) -> Journal<FuseDisk<D>>
         ensures disk { fused result.disk ≡ self.disk }
         ensures calls { calls_left result.disk ≡ calls }

@@ -30,8 +30,8 @@ mod working;
 
 pub use area_core::format;
 pub use claim_core::{BrokerRing, BrokerSeat};
+pub use clients::{Kept, Relayed, relay};
 pub use closed::Closed;
-pub use desk_core::{Kept, Relayed, relay};
 pub use disk_core::{Disk, FileDisk, MemDisk};
 pub use ended::Ended;
 pub use fault::ScriptFault;

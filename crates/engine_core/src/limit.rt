@@ -4,7 +4,7 @@ ghost use Rattle.std.specs.Prelude.{◌≡◌, ◌≤◌, ◌<◌, ◌+◌, ◌*
 ghost use Rattle.engine_core.specs.Desks.{limit_of};
 ghost use Rattle.engine_core.specs.Rooms.{DesksFit};
 
-use desk_core::SESSION_BYTES;
+use clients::SESSION_BYTES;
 
 /// How many bytes an area needs at most beside those of sessions: for the messages that may be held, durable names, and the longest block of
 /// one command.

@@ -26,7 +26,7 @@ const PIECE: usize = 65_536;
 /// How many reads are made at most.
 const MOST_READS: u64 = 4_294_967_296;
 
-// What docs/PROTOCOL.md tells of reads.
+// As docs/PROTOCOL.md has it of reads.
 const _: () = prove!(MOST_READS == 4_294_967_296);
 
 /// How many times a line's text is offered to the writer at most.

@@ -153,7 +153,7 @@ fn take_connection(
     }
 }
 
-/// Has a connection's session hear bytes, and does what they ask for.
+/// Gives bytes to a connection's session, and does what they ask for.
 fn hear(
     alloc: Global,
     queue: &mut CommandQueue,

@@ -36,7 +36,7 @@ impl Script {
     ghost use Rattle.engine_core.specs.StepFaults.{IsCrashTold, IsLineTold, IsOpeningTold};
     ghost use Rattle.engine_core.specs.Scripts.{Crashes, GoesBy, IsNotUnderstood, IsStopped, OnRunning, Opens, Prints, RunsTooFar, disk_of, is_there};
 
-    /// Does what a line says, and answers what it prints; `None` if the line says nothing that is understood. The disk is still
+    /// Does what a line asks for, and answers what it prints; `None` if the line is not understood. The disk is still
     /// there, whatever is reported.
     pub fn perform(&mut self, alloc: Global, line: &[u8]) -> Result<Option<String>, QueueFault>
         requires { is_there self.old ≡ true }
@@ -194,7 +194,7 @@ fn whole_disk(script: Script) -> Result<MemDisk, MemDisk>
     }
 }
 
-// Records what waits while so many calls of the disk pass. Then the disk stops, and has the fill in what was not synced, or,
+// Records what waits within `calls` calls of the disk. Then the disk stops, and has the fill in what was not synced, or,
 // without a fill, what it held at the last sync. If what waits is not recorded for another reason, that is reported too.
 fn stop_within(
     alloc: Global,
@@ -234,7 +234,7 @@ fn beside_stop(fault: FlushFault) -> FlushFault
     }
 }
 
-// Opens the journal of a disk, and adds the line that tells of it to the text.
+// Opens the journal of a disk, and adds its line to the text.
 fn open_journal(
     alloc: Global,
     disk: MemDisk,
@@ -255,7 +255,7 @@ fn open_journal(
     }
 }
 
-// Adds the line that tells of a journal to the text: how many commands it counts, and how many messages it holds.
+// Adds the line of a journal to the text: how many commands it counts, and how many messages it holds.
 fn tell(alloc: Global, journal: &Journal<MemDisk>, text: &mut String) -> Result<(), QueueFault>
     requires durable { journal.now.durable ≡ true }
     ensures ok { OnOk result (string_bytes text.new ≡ string_bytes text.old ++ open_text journal.now.state) }

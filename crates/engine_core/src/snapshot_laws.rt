@@ -7,7 +7,7 @@ ghost use Rattle.broker_state.specs.Sound.{IsSound};
 ghost use Rattle.broker_state.specs.States.{State, is_open};
 ghost use Rattle.broker_state.specs.Steps.{state_after_by};
 ghost use Rattle.command_core.specs.Commands.{CommandValue};
-ghost use Rattle.desk_core.specs.Footprints.{footprint};
+ghost use Rattle.clients.specs.Footprints.{footprint};
 ghost use Rattle.snapshot_core.specs.Snapshots.{Spells};
 ghost use Rattle.engine_core.specs.Desks.{operations_of};
 ghost use Rattle.engine_core.specs.Rooms.{HasRoom};

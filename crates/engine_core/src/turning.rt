@@ -14,9 +14,9 @@ use disk_core::Disk;
 use flush_core::FlushFault;
 use std::alloc::Global;
 
-// Turns until so many commands are taken, stored, carried out and published.
+// Turns until `count` commands are taken, stored, carried out and published.
 //
-// `Full` if the next command's block doesn't fit after a fresh snapshot, or no such snapshot fits. `Broken` if so many turns take
+// `Full` if the next command's block doesn't fit after a fresh snapshot, or no such snapshot fits. `Broken` if `count` turns take
 // others than these, or if a session has a box. No session has one if its commands are all in the ring, without boxes.
 fn take_all<D: Disk>(
     alloc: Global,
@@ -48,7 +48,7 @@ fn take_all<D: Disk>(
     Ok(())
 }
 
-// Turns until so many commands are taken, and answers whether they are; they are not if the disk fails.
+// Turns until `count` commands are taken, and answers whether they are; they are not if the disk fails.
 fn take_until_stop<D: Disk>(
     alloc: Global,
     ring: &ScriptRing,

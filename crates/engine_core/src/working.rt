@@ -1,20 +1,20 @@
 //! What a worker's thread does.
 
 ghost use Rattle.std.specs.Prelude.{◌≡◌};
-ghost use Rattle.desk_core.specs.Answers.{GoesOnYet};
-ghost use Rattle.desk_core.specs.Steps.{GoesOn};
+ghost use Rattle.clients.specs.Answers.{GoesOnYet};
+ghost use Rattle.clients.specs.Steps.{GoesOn};
 ghost use Rattle.engine_core.specs.Serving.{IsEndAt, Serves};
 
 use crate::ended::Ended;
 use crate::gate::Gate;
 use claim_core::{BrokerRing, BrokerSeat};
-use desk_core::{Next, SESSION_BYTES, Slot, Turned, Wakers};
+use clients::{Client, Next, SESSION_BYTES, Turned, Wakers};
 use outbox_core::{Bell, OutSender};
 use std::alloc::Global;
 use ws_core::Link;
 
-/// Serves one connection to its end, or for so many turns, counting those that its gate held up. Its link may wait within its calls.
-/// `&Silent` makes bells that nobody hears.
+/// Serves one connection to its end, or for `turns` turns, counting those that its gate held up. Its link may wait within its calls.
+/// `&Silent` makes bells that wake nobody.
 ///
 /// What it appends is one conversation: an Open, then commands of the session whose number is the Open's ticket, and last its End, if it
 /// comes to that. It is what the bytes ask for that the link gave, however they were cut: no command is left out, and none is put before
@@ -39,9 +39,9 @@ pub fn worker<B: Bell, M: Wakers<B>, L: Link, G: Gate>(
         worker: seat.number(),
         turns,
     };
-    let mut slot = Slot::new(alloc, SESSION_BYTES);
-    let ended = serve(alloc, ring, seat, link, wakers, &mut slot, &rounds);
-    drop(slot);
+    let mut client = Client::new(alloc, SESSION_BYTES);
+    let ended = serve(alloc, ring, seat, link, wakers, &mut client, &rounds);
+    drop(client);
     ended
 }
 
@@ -60,19 +60,19 @@ fn serve<B: Bell, M: Wakers<B>, L: Link, G: Gate>(
     seat: &mut BrokerSeat<OutSender<B>>,
     link: &mut L,
     wakers: &M,
-    slot: &mut Slot<B>,
+    client: &mut Client<B>,
     rounds: &Rounds<'_, G>,
 ) -> Ended
     requires ring { seat.old.ring ≡ ring.now }
-    requires yet { GoesOnYet slot.old.connection.stage }
-    ensures goes { GoesOn L.sent L.received slot.old seat.old link.old slot.new seat.new link.new }
-    ensures ends { IsEndAt result slot.new }
+    requires yet { GoesOnYet client.old.stage }
+    ensures goes { GoesOn L.sent L.received client.old seat.old link.old client.new seat.new link.new }
+    ensures ends { IsEndAt result client.new }
 {
     for turn in 0..rounds.turns {
         if !rounds.gate.pass(rounds.worker, turn) {
             continue;
         }
-        let turned = slot.turn(alloc, ring, seat, link, wakers);
+        let turned = client.turn(alloc, ring, seat, link, wakers);
         if let Next::Over(ended) = turned.next {
             return Ended::of(ended);
         }

@@ -3,12 +3,12 @@
 
 mod acts;
 mod budget_tests;
-mod clients;
 mod crowd_tests;
 mod driver;
 mod failing_tests;
 mod feeds;
 mod foreign_tests;
+mod guests;
 mod handshake_tests;
 mod place_tests;
 mod receiving_tests;

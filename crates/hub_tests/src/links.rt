@@ -1,7 +1,7 @@
 //! Links in memory that end as a test wants them to, and want of memory.
 
 use claim_core::Released;
-use desk_core::Wakers;
+use clients::Wakers;
 use outbox_core::Silent;
 use session_core::Notice;
 use std::alloc::{AllocError, Global};

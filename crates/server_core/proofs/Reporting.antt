@@ -4,10 +4,10 @@ use Rattle.std.specs.List.{slice_index_or, slice_set}
 use Rattle.std.proofs.lemmas.Bool.{cases_eq}
 use Rattle.std.proofs.lemmas.List.Sums.{sum_by_push}
 use Rattle.std.proofs.lemmas.List.{append-nil, get_or-set_other, get_or-set_same, length-set, nil_from_length}
-use Rattle.client_schedule.specs.Lines.{joined, may_join, times}
-use Rattle.client_schedule.specs.Turns.{woken}
-use Rattle.client_schedule.specs.declared.lines.Lines.{Lines}
-use Rattle.client_schedule.specs.declared.limits.TheConstants.{CLIENTS}
+use Rattle.clients.specs.Lines.{joined, may_join, times}
+use Rattle.clients.specs.Turns.{woken}
+use Rattle.clients.specs.declared.lines.Lines.{Lines}
+use Rattle.clients.specs.declared.limits.TheConstants.{CLIENTS}
 use Rattle.mio.specs.Event.{event_token}
 use Rattle.mio.specs.declared.event.event.Event.{Event}
 use Rattle.server_core.specs.Reporting.{IsReported, StandsInLine}

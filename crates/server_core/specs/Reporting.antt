@@ -1,9 +1,9 @@
 -- Who stands in line since the poll reported something of it.
 use Rattle.std.specs.Prelude.{◌≡◌, ◌<◌, ◌+◌, ◌*◌, ℕ, List, length}
 use Rattle.std.specs.List.{slice_index_or}
-use Rattle.client_schedule.specs.Lines.{times}
-use Rattle.client_schedule.specs.declared.lines.Lines.{Lines}
-use Rattle.client_schedule.specs.declared.limits.TheConstants.{CLIENTS}
+use Rattle.clients.specs.Lines.{times}
+use Rattle.clients.specs.declared.lines.Lines.{Lines}
+use Rattle.clients.specs.declared.limits.TheConstants.{CLIENTS}
 use Rattle.mio.specs.Event.{event_token}
 use Rattle.mio.specs.declared.event.event.Event.{Event}
 use Rattle.server_core.specs.declared.service.Service.{Service}

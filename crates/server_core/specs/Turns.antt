@@ -1,10 +1,10 @@
 -- What comes of turns, and of clients that do nothing.
 use Rattle.std.specs.Prelude.{◌&&◌, ◌||◌, Bool, true, false}
-use Rattle.desk_core.specs.declared.turned.Turned.{Turned}
-use Rattle.desk_core.specs.declared.turned.Next.{Next}
-use Rattle.desk_core.specs.declared.turned.Next.TheVariants.{Go, Read, Write, Room, Output, Memory, Close, Over}
-use Rattle.client_schedule.specs.declared.deadlines.Progress.{Progress}
-use Rattle.client_schedule.specs.declared.deadlines.Progress.TheVariants.{Greeting, Unopened, Open}
+use Rattle.clients.specs.declared.turned.Turned.{Turned}
+use Rattle.clients.specs.declared.turned.Next.{Next}
+use Rattle.clients.specs.declared.turned.Next.TheVariants.{Go, Read, Write, Room, Output, Memory, Close, Over}
+use Rattle.clients.specs.declared.deadlines.Progress.{Progress}
+use Rattle.clients.specs.declared.deadlines.Progress.TheVariants.{Greeting, Unopened, Open}
 use Rattle.event_log.specs.declared.kind.Kind.{Kind}
 use Rattle.event_log.specs.declared.kind.Kind.TheVariants as kinds
 

@@ -1,8 +1,8 @@
 -- Whether a worker waits, and for how long.
 use Rattle.std.specs.Prelude.{◌||◌, ℕ, Bool, List, min}
 use Rattle.std.specs.List.{fold, list_any}
-use Rattle.client_schedule.specs.Outlooks.{awaits_mark, due_at, is_ready, lets_in, longest_wait}
-use Rattle.client_schedule.specs.declared.timers.TheConstants.{NEVER}
+use Rattle.clients.specs.Outlooks.{awaits_mark, due_at, is_ready, lets_in, longest_wait}
+use Rattle.clients.specs.declared.timers.TheConstants.{NEVER}
 use Rattle.server_core.specs.declared.service.Service.{Service}
 
 module _ {R : Type 0} where

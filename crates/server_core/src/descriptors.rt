@@ -20,7 +20,7 @@ pub(crate) fn descriptors_allowed<R: Files<File = File>>(alloc: Global, rt: &R) 
     limit
 }
 
-/// How many clients a server takes that is to take so many at most, and may have so many descriptors.
+/// How many clients a server takes that is to take `most` at most, and may have `limit` descriptors.
 pub(crate) fn clients_within(limit: Option<u64>, most: u64) -> u64
     ensures { result ≡ clients_within limit most }
 {

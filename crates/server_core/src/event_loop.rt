@@ -11,7 +11,7 @@ use crate::service::Service;
 use crate::shared::{ServerSeat, Shared};
 use crate::sweep::Sweep;
 use crate::worker_setup::{WorkerSetup, room_for_events};
-use client_schedule::{Clients, Outlook, Watch};
+use clients::{Clients, Outlook, Watch};
 use mio::{Events, Poll};
 use std::alloc::{AllocError, Global};
 use std::marker::Model;
@@ -259,7 +259,7 @@ struct Room<'a, R: Drop> {
 }
 
 impl<'a, R: Drop> Room<'a, R> {
-    // The room of a worker with so many desks.
+    // The room of a worker with that number of desks.
     fn new(alloc: Global, desks: usize) -> Result<Room<'a, R>, AllocError>
         ensures { IfOk result (λ room. (room.services.items ≡ []) × (desks ≤ vec_capacity room.services)) }
     {
@@ -275,7 +275,7 @@ impl<'a, R: Drop> Room<'a, R> {
     }
 }
 
-// The room of a worker with so many desks. If memory is refused for it, it tries again in a while.
+// The room of a worker with that number of desks. If memory is refused for it, it tries again in a while.
 fn room_for<'a, R: Wait + Clock + Drop>(alloc: Global, rt: &R, desks: usize) -> Room<'a, R>
     ensures { (result.services.items ≡ []) × (desks ≤ vec_capacity result.services) }
 {

@@ -133,7 +133,7 @@ pub(crate) fn share<R: Wait + Clone + Drop>(
     }
 }
 
-// The same with these fittings, over a journal of so many bytes.
+// The same with these fittings, over a journal whose size is given.
 fn share_all<R: Wait + Clone + Drop>(
     alloc: Global,
     rt: &R,

@@ -3,7 +3,7 @@
 ghost use Rattle.std.specs.Prelude.{◌≡◌, true};
 
 use crate::service::Service;
-use client_schedule::{ClientState, Framed, ReadBudget};
+use clients::{ClientState, Framed, ReadBudget};
 use event_log::Kind;
 use mio::net::TcpStream;
 use std::sync::Wait;

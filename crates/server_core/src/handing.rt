@@ -33,7 +33,7 @@ pub(crate) fn comes_to(is_asked: bool, has_begun: bool) -> Coming
     }
 }
 
-/// The desk that gets a client, if the desks have so many clients and the server takes no more than that, and whom the server has a place for;
+/// The desk that gets a client, and whom the server has a place for, by how many clients each desk has and how many the server takes;
 /// `None` if it has none for anybody, not even to answer.
 pub(crate) fn place_for(counts: &[u64], most_clients: u64) -> Option<(usize, Vacancy)>
     ensures desk { IfSome result (λ place. IsFewest counts.now place.0) }
@@ -56,7 +56,7 @@ fn total(counts: &[u64]) -> u64
     total
 }
 
-// Whom the server has a place for if it has so many clients, and takes no more than that; `None` if nobody is even answered.
+// Whom a server has a place for that has `clients`, and takes `most`; `None` if nobody is even answered.
 fn vacancy(clients: u64, most: u64) -> Option<Vacancy>
     ensures { result ≡ vacancy clients most }
 {

@@ -1,17 +1,17 @@
 //! How the clients of a desk keep to the memory that all may hold together.
 
 ghost use Rattle.std.specs.Prelude.{◌≡◌, ◌<◌, IfSome, None, slice_index_or};
-ghost use Rattle.client_schedule.specs.Clients.{client_at, is_greeted, is_seated, state_at};
-ghost use Rattle.desk_core.specs.Desks.{seated_at};
-ghost use Rattle.desk_core.specs.Holdings.{HeldAt};
+ghost use Rattle.clients.specs.Schedules.{client_at, is_greeted, is_seated, state_at};
+ghost use Rattle.clients.specs.Desks.{seated_at};
+ghost use Rattle.clients.specs.Holdings.{HeldAt};
 ghost use Rattle.wakeups.specs.Sums.{counted};
-ghost use Rattle.client_schedule.specs.declared.limits.TheConstants.{CLIENTS};
+ghost use Rattle.clients.specs.declared.limits.TheConstants.{CLIENTS};
 ghost use Rattle.server_core.specs.Keeping.{GivesUp, Keeps};
 ghost use Rattle.work_share.specs.Loads.{number_of};
 ghost use Rattle.ws_core.specs.Links.{IsCounted};
 
 use crate::service::Service;
-use client_schedule::Clients;
+use clients::Clients;
 use event_log::Kind;
 use std::sync::Wait;
 use std::time::Clock;
@@ -19,7 +19,7 @@ use wakeups::Holdings;
 use work_share::Noted;
 
 impl<'a, R: Wait + Clock + Drop> Service<'a, R> {
-    /// Counts that a client holds so many bytes. If by this all clients hold more than they may, each worker looks whether it is one of its
+    /// Counts that a client holds `holds` bytes. If by this all clients hold more than they may, each worker looks whether it is one of its
     /// own that holds most.
     pub(crate) fn count(&mut self, number: usize, holds: u64)
         ensures account { self.new.account ≡ counted number holds self.old.account }

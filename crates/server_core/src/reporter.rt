@@ -32,8 +32,8 @@ impl Reporter {
         }
     }
 
-    /// Says how the server does after so many commands, whether a compaction has left little room, and whether nearly all is held that may be:
-    /// that once, until it has become clearly less.
+    /// Logs how the server does once `commands` are taken, if a compaction has left little room, and if nearly all is held that may be: the
+    /// last of these once, until it has become clearly less.
     pub(crate) fn report<R: Wait + Clock>(
         &mut self,
         alloc: Global,
@@ -79,7 +79,7 @@ impl Reporter {
     }
 }
 
-// Whether a compaction has left little room in an area of so many bytes, of which so many are used.
+// Whether a compaction has left little room in an area of `area` bytes, of which it uses `used`.
 fn leaves_little(has_compacted: bool, used: u64, area: u64) -> bool
     ensures { IsTrue result ↔ LeavesLittle has_compacted used area }
 {

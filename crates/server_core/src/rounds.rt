@@ -13,7 +13,7 @@ ghost use Rattle.server_core.specs.declared.sweep.Sweep.TheVariants.{End, Part};
 use crate::service::Service;
 use crate::sweep::Sweep;
 use crate::tokens::client_of;
-use client_schedule::reported_by;
+use clients::reported_by;
 use mio::event::Event;
 use mio::{Events, Registry};
 use std::alloc::Global;

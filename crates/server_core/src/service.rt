@@ -2,14 +2,13 @@
 
 ghost use Rattle.std.specs.Prelude.{◌≡◌, ◌≤◌};
 ghost use Rattle.server_core.specs.declared.arrivals.TheConstants.{NEW_CLIENTS};
-ghost use Rattle.client_schedule.specs.Turns.{woken};
+ghost use Rattle.clients.specs.Turns.{woken};
 
 use crate::arrivals::{NEW_CLIENTS, may_more_wait};
 use crate::shared::{ServerSeat, Shared};
 use crate::sweep::Swept;
 use crate::tokens::token_of;
-use client_schedule::{ClientState, Clients, ReadBudget, Reported};
-use desk_core::Desk;
+use clients::{ClientState, Clients, Desk, ReadBudget, Reported};
 use mio::net::TcpStream;
 use mio::{Interest, Registry, Token};
 use std::alloc::Global;

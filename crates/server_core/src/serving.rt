@@ -18,7 +18,7 @@ use crate::shared::{ServerSeat, Shared};
 use crate::worker::WorkerThread;
 use crate::worker_setup::WorkerSetup;
 use claim_core::SEATS;
-use desk_core::SESSION_BYTES;
+use clients::SESSION_BYTES;
 use disk_core::{FileAt, FileDisk, OpenError};
 use engine_core::{Gate, HELD_BYTES, Hub, HubFlusher, SeatRoom, compact_last, flush_loop};
 use event_log::{Event, ServeFault, Start};

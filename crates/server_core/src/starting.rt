@@ -174,7 +174,7 @@ where
     }
 }
 
-// Moves the last seats, so many of them, into room that is there.
+// Moves the last `count` seats into room that is there.
 fn move_last(seats: &mut Vec<ServerSeat>, its: &mut Vec<ServerSeat>, count: usize)
     requires enough { count ≤ length seats.old.items }
     requires room { (its.old.items ≡ []) × (count ≤ vec_capacity its.old) }

@@ -5,7 +5,7 @@ ghost use Rattle.server_core.specs.Sweeps.{Follows};
 ghost use Rattle.server_core.specs.declared.sweep.Sweep.TheVariants.{Begin, End, Part, Pass};
 
 use crate::service::Service;
-use client_schedule::Retried;
+use clients::Retried;
 use mio::Registry;
 use std::marker::Model;
 use std::sync::Wait;

@@ -5,7 +5,7 @@ ghost use Rattle.server_core.specs.Turns.{why_given_up};
 
 use crate::keeping::{is_greeted, is_seated};
 use crate::service::{ClientDesk, Service};
-use client_schedule::{Due, Progress};
+use clients::{Due, Progress};
 use event_log::Kind;
 use std::sync::Wait;
 use std::time::Clock;

@@ -1,9 +1,9 @@
 //! The tokens by which a worker's poll reports its clients' sockets.
 
 ghost use Rattle.std.specs.Prelude.{◌≡◌, ◌<◌, ◌+◌, ◌*◌, ◌-◌, ◌^◌, min};
-ghost use Rattle.client_schedule.specs.declared.limits.TheConstants.{CLIENTS};
+ghost use Rattle.clients.specs.declared.limits.TheConstants.{CLIENTS};
 
-use client_schedule::CLIENTS;
+use clients::CLIENTS;
 use mio::Token;
 
 /// The desk and the client that the poll reports by this token.

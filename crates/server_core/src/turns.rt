@@ -5,8 +5,7 @@ ghost use Rattle.server_core.specs.Turns.{goes_on, together, waits};
 
 use crate::service::{ClientDesk, Service};
 use crate::shared::ServerRing;
-use client_schedule::Flow;
-use desk_core::{Cut, Next, Turned};
+use clients::{Cut, Flow, Next, Turned};
 use event_log::Kind;
 use std::alloc::Global;
 use std::sync::Wait;

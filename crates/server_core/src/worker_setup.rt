@@ -5,7 +5,7 @@ ghost use Rattle.claim_core.specs.declared.limits.TheConstants.{SEATS};
 ghost use Rattle.server_core.specs.Serving.{count_mailboxes};
 
 use claim_core::SEATS;
-use client_schedule::Clients;
+use clients::Clients;
 use event_log::ServeFault;
 use mio::{Events, Poll, Token};
 use std::alloc::{AllocError, Global};

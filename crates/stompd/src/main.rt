@@ -177,7 +177,7 @@ fn pinged(alloc: Global, words: &[String]) -> Option<Address<'_>> {
     }
 }
 
-/// Pings the server at that address, tells what that came to, and answers the status.
+/// Pings the server at that address, prints the outcome, and answers the status.
 fn run_ping(rt: &HostRuntime, address: Address<'_>) -> u8 {
     let mut writer = rt.stdout().lock();
     let mut errors = rt.stderr().lock();

@@ -24,13 +24,13 @@ pub struct Asked<'a> {
     pub port: u16,
     /// The origins whose pages are served; if there are none, all are.
     pub origins: Vec<&'a [u8]>,
-    /// How many threads serve clients; as many as there are processors, if it isn't said.
+    /// How many threads serve clients; as many as there are processors, if none is given.
     pub threads: Option<u16>,
-    /// How many bytes clients may hold together; 1 GiB, if it isn't said.
+    /// How many bytes clients may hold together; 1 GiB, if none is given.
     pub memory: Option<u64>,
     /// Whether it ends in good order once its input ends.
     pub until_eof: bool,
-    /// How many bytes a journal gets that is made if the file is missing; none is made, if it isn't said.
+    /// How many bytes a journal gets that is made if the file is missing; none is made, if none is given.
     pub new: Option<u64>,
     /// How its log is written.
     pub form: Form,

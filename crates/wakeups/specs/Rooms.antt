@@ -1,7 +1,7 @@
 -- What a client waits for after its turns, if its next command had no room.
 use Rattle.std.specs.Prelude.{ℕ, Bool, true, false, min}
-use Rattle.desk_core.specs.declared.turned.Next.{Next}
-use Rattle.desk_core.specs.declared.turned.Next.TheVariants.{Room, Output}
+use Rattle.clients.specs.declared.turned.Next.{Next}
+use Rattle.clients.specs.declared.turned.Next.TheVariants.{Room, Output}
 
 -- Room is waited for over the mark when its turns began. If the client waits with a dear command, it waits as for an output, behind its
 -- neighbours.

@@ -3,7 +3,7 @@
 use crate::client_bytes::ClientBytes;
 use crate::mailbox::Mailbox;
 use crate::total::Total;
-use client_schedule::CLIENTS;
+use clients::CLIENTS;
 use std::marker::Model;
 
 /// How many bytes each client of a desk holds, by their places, and what the desk has reported of that: their sum, which goes round at 2^64, to the
@@ -19,7 +19,7 @@ pub struct Account {
 impl Model for Account {
     ghost use Rattle.std.specs.Prelude.{◌≡◌, ◌%◌, ◌^◌, List, ℕ, length, sum};
     ghost use Rattle.std.specs.List.{slice_index_or};
-    ghost use Rattle.client_schedule.specs.declared.limits.TheConstants.{CLIENTS};
+    ghost use Rattle.clients.specs.declared.limits.TheConstants.{CLIENTS};
 
     ghost Value = { List ℕ };
 
@@ -44,7 +44,7 @@ impl Account {
         }
     }
 
-    /// The client at that place holds so many bytes from now on. The change is reported to the total, and the most that one holds to the mailbox.
+    /// The client at that place holds `holds` bytes from now on. The change is reported to the total, and the most that one holds to the mailbox.
     /// Answers whether by this all clients hold more than they may, and did not before. Nothing changes if there is no such
     /// place.
     pub fn count(&mut self, total: &Total, mailbox: &Mailbox, at: usize, holds: u64) -> bool

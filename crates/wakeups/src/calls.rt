@@ -1,10 +1,10 @@
 //! Which clients were called for.
 
 ghost use Rattle.std.specs.Prelude.{◌≡◌, ◌<◌, ◌*◌, ◌-◌, ◌^◌, IfSome, IsNone, min};
-ghost use Rattle.client_schedule.specs.declared.limits.TheConstants.{CLIENTS};
+ghost use Rattle.clients.specs.declared.limits.TheConstants.{CLIENTS};
 ghost use Rattle.wakeups.specs.Called.{IsBitOf, IsNextCall};
 
-use client_schedule::CLIENTS;
+use clients::CLIENTS;
 use std::sync::atomic::{AtomicU64, Ordering};
 
 /// How many clients have their bits in one word.

@@ -26,7 +26,7 @@ pub struct Holdings {
 }
 
 impl Holdings {
-    /// Which of these clients is given up, each of which holds so many bytes; `None` if none of them is. The place of one is answered only
+    /// Which of these clients is evicted, by how many bytes each holds; `None` if none of them is. The place of one is answered only
     /// if all clients hold more than the budget. It holds no less than any other client, here or elsewhere. It also holds no less than a
     /// fair share, which is the budget divided by the number of clients. `None` comes only if there is no such client here.
     pub fn given_up(&self, here: &[u64]) -> Option<usize>
@@ -64,7 +64,7 @@ impl Holdings {
         holdings
     }
 
-    // The same, if so many clients more sit at a desk, and another decides for these, of which one counts for so many bytes and none for more.
+    // The same with another desk, at which `clients` sit. Another worker decides for these, of which one holds `most` bytes and none more.
     fn with(self, clients: u64, most: u64) -> Holdings
         ensures { result ≡ record self { clients = min (self.clients + clients) (2 ^ 64 - 1); elsewhere = max self.elsewhere most } }
     {
@@ -75,7 +75,7 @@ impl Holdings {
         }
     }
 
-    // Whether so many bytes are no less than a fair share.
+    // Whether that many bytes are no less than a fair share.
     fn is_fair(&self, held: u64) -> bool
         ensures { IsTrue result ↔ HasFairShare self.now held }
     {

@@ -2,7 +2,7 @@
 
 use crate::choice::most;
 use crate::sum::Change;
-use client_schedule::CLIENTS;
+use clients::CLIENTS;
 use std::marker::Model;
 use std::mem;
 
@@ -28,7 +28,7 @@ impl ClientBytes {
     ghost use Rattle.std.specs.List.{All, slice_index_or};
     ghost use Rattle.wakeups.specs.Sums.{Applies, changed, is_more};
     ghost use Rattle.wakeups.specs.declared.sum.Change.TheVariants.{Same};
-    ghost use Rattle.client_schedule.specs.declared.limits.TheConstants.{CLIENTS};
+    ghost use Rattle.clients.specs.declared.limits.TheConstants.{CLIENTS};
 
     /// Nobody holds anything.
     pub fn new() -> ClientBytes
@@ -41,7 +41,7 @@ impl ClientBytes {
         ClientBytes { bytes, most: 0 }
     }
 
-    /// The client at that place holds so many bytes from now on. Answers how the sum changes of what all hold.
+    /// The client at that place holds `holds` bytes from now on. Answers how the sum changes of what all hold.
     pub fn set(&mut self, at: usize, holds: u64) -> Change
         requires { at < CLIENTS }
         ensures holds { self.new.bytes ≡ slice_set self.old.bytes at holds }

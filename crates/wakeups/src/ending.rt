@@ -50,7 +50,7 @@ impl Ending {
         self.flusher.unpark();
     }
 
-    /// Has the flusher sleep for so long, unless it is woken or the server was asked to end.
+    /// Has the flusher sleep for `longest` at most, unless it is woken or the server was asked to end.
     pub(crate) fn sleep<R: Wait>(&self, rt: &R, longest: Duration) {
         if !self.is_asked() {
             self.flusher.park_timeout(rt, longest);

@@ -3,7 +3,7 @@
 ghost use Rattle.std.specs.Prelude.{◌≡◌};
 ghost use Rattle.wakeups.specs.Rooms.{since};
 
-use desk_core::Next;
+use clients::Next;
 
 /// What a client waits for after turns that came to this, and that began at this mark, by whether its desk waits with a dear command.
 pub(crate) fn since(next: Next, waits: bool, mark: u64) -> Next

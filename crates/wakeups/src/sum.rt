@@ -9,14 +9,14 @@ ghost use Rattle.wakeups.specs.declared.sum.Change.TheVariants.{Same};
 pub enum Change {
     /// It stays.
     Same,
-    /// It is so many bytes more.
+    /// It grows by that many bytes.
     More(u64),
-    /// It is so many bytes less.
+    /// It shrinks by that many bytes.
     Less(u64),
 }
 
 impl Change {
-    /// How a client that held so many bytes, and now holds so many, changes the sum.
+    /// How a client that held `held` bytes, and now holds `holds`, changes the sum.
     pub fn of(held: u64, holds: u64) -> Change
         ensures change { (total : ℕ) → held ≤ total → (changed result total + held ≡ total + holds) × Applies result total }
         ensures more { is_more result ≡ true ↔ (held < holds) }
@@ -32,14 +32,14 @@ impl Change {
     }
 }
 
-/// Whether a sum that is so large is over the budget.
+/// Whether that sum is over the budget.
 pub fn is_over(budget: u64, sum: u64) -> bool
     ensures { IsTrue result ↔ (budget < sum) }
 {
     sum > budget
 }
 
-/// Whether a sum that was so large passes the budget by so many bytes more, and did not before.
+/// Whether a sum passes the budget if it grows by `more`, and did not before.
 pub fn passes(budget: u64, before: u64, more: u64) -> bool
     ensures { IsTrue result ↔ ((before ≤ budget) × (budget < before + more)) }
 {

@@ -24,7 +24,7 @@ impl Model for Total {
 }
 
 impl Total {
-    /// All clients may hold so many bytes together, and hold nothing yet.
+    /// All clients may hold `budget` bytes together, and hold nothing yet.
     pub fn new(budget: u64) -> Total
         ensures { result ≡ budget }
     {

@@ -18,13 +18,13 @@ use std::time::{Clock, Duration};
 /// journal's file waits for this.
 const LONGEST_SLEEP: u64 = 1;
 
-/// A turn of the flusher that took so many microseconds was on a slow disk.
+/// From how many microseconds on a turn of the flusher was on a slow disk.
 const SLOW: u64 = 2_000;
 
 /// For how many microseconds the flusher rests at most after a turn on a slow disk.
 const LONGEST_REST: u64 = 2_000;
 
-// For how many microseconds the flusher rests after a turn that took so many, and published so many commands. It is a quarter,
+// For how many microseconds the flusher rests after a turn that took `micros`, and published `commands`. It is a quarter,
 // which is half of one of its two syncs. So a client whose receipts have just come is in the next block, and not in the
 // one after it. A client that sends alone, or a quick disk, is not waited for.
 fn rest_after(micros: u64, commands: u64) -> u64

@@ -1,4 +1,4 @@
-use crate::desk::clients::Guest;
+use crate::desk::guests::Guest;
 use crate::desk::rooms::{Cue, play};
 use crate::desk::says::Say;
 use crate::desk::texts::{CONNECT, CONNECTED, DISCONNECT, RECEIPT, SECOND_RECEIPT, SEND};

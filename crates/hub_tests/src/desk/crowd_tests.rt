@@ -1,13 +1,13 @@
 ghost use Rattle.std.specs.Prelude.{◌≡◌, ◌<◌, length};
 ghost use Rattle.hub_tests.specs.Parties.{AreAt, AreTogether, MayFlush};
 
-use crate::desk::clients::Guest;
+use crate::desk::guests::Guest;
 use crate::desk::rooms::{MemDesk, admit, dismiss, turn_each};
 use crate::desk::says::Say;
 use crate::desk::texts::{CONNECT, CONNECTED};
 use crate::hubs::{HubFlusher, HubRing, HubSeat, Party, close, new_party, numbers};
 use crate::paces::Free;
-use desk_core::Desk;
+use clients::Desk;
 use engine_core::flush_loop;
 use std::alloc::Global;
 use std::mem;

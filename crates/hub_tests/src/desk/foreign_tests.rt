@@ -1,13 +1,13 @@
 ghost use Rattle.std.specs.Prelude.{◌≡◌};
 
-use crate::desk::clients::Guest;
+use crate::desk::guests::Guest;
 use crate::desk::rooms::{MemDesk, admit};
 use crate::desk::says::Say;
 use crate::desk::texts::{CONNECT, CONNECTED};
 use crate::hubs::HubRing;
 use claim_core::{FlushSeat, Ring};
+use clients::Desk;
 use command_core::{Out, connected_reply};
-use desk_core::Desk;
 use outbox_core::{OutSender, Silent};
 use std::alloc::Global;
 

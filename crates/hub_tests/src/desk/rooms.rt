@@ -3,11 +3,11 @@
 ghost use Rattle.std.specs.Prelude.{◌≡◌, ◌≤◌};
 ghost use Rattle.hub_tests.specs.Parties.{AreTogether, MayFlush};
 
-use crate::desk::clients::{Client, Guest};
+use crate::desk::guests::{Client, Guest};
 use crate::desk::says::Say;
 use crate::hubs::{HubFlusher, HubRing, Party, close, new_party};
 use crate::paces::Free;
-use desk_core::{Desk, Next};
+use clients::{Desk, Next};
 use engine_core::flush_loop;
 use outbox_core::Silent;
 use std::alloc::Global;

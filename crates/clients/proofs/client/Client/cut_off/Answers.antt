@@ -1,0 +1,7 @@
+use Rattle.std.proofs.Common.{ap, refl}
+use Rattle.clients.specs.Connections.{connection_of}
+use Rattle.clients.proofs.Living.{gives_up, waits_still}
+use Rattle.clients.proofs.client.Client.cut_off.Goals as goal
+
+pub invariant_of-self-clause-next : goal.invariant_of-self-clause-next
+invariant_of-self-clause-next g c = waits_still (connection_of c.args.self.now) _ _ _ (gives_up (connection_of c.args.self.now) _ (ap (λ x. record (connection_of c.args.self.now) { stage = x }) c.given_up-self.ensures)).restaged refl c.args.self.now.next

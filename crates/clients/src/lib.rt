@@ -1,0 +1,60 @@
+//! The clients of a seat at the ring: their connections, which stand in line for a turn, what each waits for, and for how long.
+
+#![tactic(auto)]
+
+mod acts;
+mod appending;
+mod client;
+mod clients;
+mod conversation;
+mod deadlines;
+mod desk;
+mod ended;
+mod entries;
+mod footprint;
+mod frames;
+mod holding;
+mod kept;
+mod laws;
+mod lending;
+mod limits;
+mod line;
+mod lines;
+mod outcome;
+mod outlook;
+mod passing;
+mod place;
+mod places;
+mod progress;
+mod read_budget;
+mod relaying;
+mod speaking;
+mod stage;
+mod supply;
+mod timers;
+mod turned;
+mod turning;
+mod waiting;
+mod wakers;
+mod waking;
+mod watch;
+mod weights;
+
+pub use client::Client;
+pub use clients::{ClientState, Clients, Scheduled};
+pub use deadlines::{Due, Progress};
+pub use desk::Desk;
+pub use ended::Ended;
+pub use footprint::{Cut, SESSION_BYTES};
+pub use kept::{Kept, Relayed};
+pub use laws::a_connection_at_a_desk_lives_one_life;
+pub use limits::CLIENTS;
+pub use outlook::Outlook;
+pub use place::{NotAdmitted, Seated};
+pub use read_budget::{Flow, Framed, ReadBudget};
+pub use relaying::relay;
+pub use supply::{Reported, reported_by};
+pub use turned::{Next, Turned};
+pub use wakers::Wakers;
+pub use waking::Retried;
+pub use watch::Watch;

@@ -1,7 +1,0 @@
-use Rattle.std.proofs.Common.{subst}
-use Rattle.desk_core.specs.Desks.{DeskValue, TalkApart}
-use Rattle.desk_core.proofs.Standing.{talk_apart}
-use Rattle.desk_core.proofs.desk.Desk.len.Goals as goal
-
-pub returns-clause-apart : goal.returns-clause-apart
-returns-clause-apart g c = subst (λ (d : DeskValue _ _). TalkApart d) c.self.view_is (talk_apart _ _ _ _ _ c.self.invariant.0 c.self.invariant.1)

@@ -1,8 +1,0 @@
-use Rattle.desk_core.proofs.Going.{heeds_none}
-use Rattle.desk_core.proofs.slot.Slot.read.Goals as goal
-
-pub returns-then-not-listens-clause-lives : goal.returns-then-not-listens-clause-lives
-returns-then-not-listens-clause-lives g c = heeds_none g.L.Outgoing.received _ _
-
-pub returns-then-is_unsent-clause-lives : goal.returns-then-is_unsent-clause-lives
-returns-then-is_unsent-clause-lives g c = heeds_none g.L.Outgoing.received _ _
