@@ -57,6 +57,12 @@ def a_name_in_use(engine, checks):
         checks.same("one that was never ready is refused", run("return outcome(other.ready)"), "refused")
         link = fake.take()
         checks.check("and doesn't come back", link.accept_next().headers["activemq.subscriptionName"] == "d" and run(f"return it.states.length > {first}"))
+        run("globalThis.third = it.subscribe('/topic/news', () => {}, { durable: 'f' })")
+        link.accept_next()
+        for what, ask, headers in (("the end of one", "paper.end()", ["id", "receipt"]), ("and to give it up", "third.giveUp()", ["activemq.subscriptionName", "id", "receipt"])):
+            run(f"globalThis.asked = outcome({ask})")
+            frame = link.accept_next()
+            checks.same(f"{what} has these headers", (frame.command, sorted(frame.headers), run("return asked")), ("UNSUBSCRIBE", headers, "resolved"))
 
 
 def promises_left_alone(engine, checks):
@@ -125,6 +131,84 @@ def refusals(engine, checks):
         link.drop()
         link = fake.take()
         checks.check("a session that lasted brings back the shortest pause", grows(pauses[:3]) and grows(pauses_of(engine)[3:]), pauses_of(engine))
+
+
+def what_a_refusal_ends(engine, checks):
+    """what belongs to a session that was refused is rejected at once, and what had been ended is no one's fault"""
+    run = engine.value
+    with opened(engine) as (fake, link):
+        run("globalThis.paper = it.subscribe('/queue/news', message => { globalThis.last = message; }, { ack: 'client-individual' })")
+        link.message(link.accept_next().headers["id"], "news", [("ack", "1")])
+        run("await soon(() => globalThis.last); globalThis.other = it.subscribe('/topic/other', () => {}); outcome(other.end())")
+        link.take()
+        # The connection stays for a moment after the ERROR.
+        link.say("ERROR", [("message", "E14 durable subscription unknown, in use or of another topic")])
+        checks.check("the session is over", run("return soon(() => it.session === null)"))
+        late = "new Promise(resolve => setTimeout(() => resolve('late'), 1000))"
+        checks.same("a message of it is acknowledged no more", run(f"return Promise.race([outcome(last.ack()), {late}])"), "unsent")
+        checks.same("and the refusal of what had been ended is reported to nobody", run("return it.errors.map(([error]) => error.message)"), [])
+        link.close(1002)
+        run("outcome(it.send('/topic/room', 'next'))")
+        checks.same("nor is its end asked for in the next session", [frame.command for frame in fake.take().take_all(2)], ["SUBSCRIBE", "SEND"])
+
+
+def what_is_left_at_a_close(engine, checks):
+    """a client that is closed between two connections stays closed; its state is told as it is; and transactions wait as SENDs do"""
+    run = engine.value
+    with opened(engine, f"shortestPause: {LONGER}, onstate: state => globalThis.told?.push([state, it.state])") as (fake, link):
+        run("globalThis.told = []")
+        link.drop()
+        run("await soon(() => it.state == 'lost'); await it.close()")
+        checks.same("it connects no more", run(f"return [await soon(() => it.state != 'closed', {3 * LONGER / 1000}), it.state]"), [False, "closed"])
+        checks.same("and each state was its own when it was told", run("return told"), [["lost", "lost"], ["closed", "closed"]])
+    with FakeBroker() as fake:
+        run(f"globalThis.URL_ = 'ws://127.0.0.1:{fake.port}/'; globalThis.it = open({{ {QUICK}, mostWaiting: 2 }})")
+        run("globalThis.waiting = [1, 2, 3].map(() => outcome(it.transaction(tx => tx.send('/topic/room', 'x'))))")
+        late = "new Promise(resolve => setTimeout(() => resolve('waits'), 200))"
+        checks.same("a transaction over the most is not sent", run(f"return Promise.all(waiting.map(it => Promise.race([it, {late}])))"), ["waits", "waits", "unsent"])
+        run("it.close()")
+
+
+def what_is_over_stays_so(engine, checks):
+    """what was unsent in time is not sent later, and a client that is closed as it is told to connect again does not"""
+    run = engine.value
+    with opened(engine, "waitTimeout: 100") as (fake, link):
+        link.drop()
+        run("await soon(() => it.state == 'lost'); globalThis.late = outcome(it.send('/topic/room', 'late'))")
+        silent = fake.take_silent()
+        checks.same("what waited too long is unsent", run("return late"), "unsent")
+        link = silent.shake_hands().open("8")
+        run("await soon(() => it.state == 'open'); it.send('/topic/room', 'next')")
+        checks.same("and is not sent once there is a session", link.accept_next().body, b"next")
+    with opened(engine, "onstate: state => { globalThis.it?.states.push([state]); if (globalThis.closes && state == 'connecting') it.close(); }") as (fake, link):
+        run("globalThis.closes = true")
+        link.drop()
+        checks.same("it is closed", run("return [await soon(() => it.state == 'closed'), closes = false]"), [True, False])
+        fake.listener.settimeout(0.3)
+        try:
+            fake.take_silent()
+            came = True
+        except TimeoutError:
+            came = False
+        checks.check("and connects no more", not came)
+
+
+def a_refusal_by_its_receipt(engine, checks):
+    """an ERROR that names a receipt is of that frame alone; and an open session is there when it is told"""
+    run = engine.value
+    with opened(engine) as (fake, link):
+        run("it.tell('/topic/room', 'told'); globalThis.ends = ['first', 'refused', 'later'].map(text => outcome(it.send('/topic/room', text)))")
+        frames = link.take_all(4)
+        link.refuse("E12 no room for the message", frames[2])
+        link = fake.take()
+        checks.same("what is asked after it is asked again", link.accept_next().body, b"later")
+        checks.same("and what had no answer before it is unknown", run("return Promise.all(ends)"), ["unknown", "refused", "resolved"])
+    with FakeBroker() as fake:
+        run(f"globalThis.URL_ = 'ws://127.0.0.1:{fake.port}/'; globalThis.greeted = null")
+        run(f"globalThis.it = open({{ {QUICK}, onstate: state => {{ if (state == 'open') greeted = [it.session, outcome(it.send('/topic/room', 'hello'))]; }} }})")
+        checks.same("what is sent at once is sent in it", fake.take("seven").accept_next().body, b"hello")
+        checks.same("and is accepted", run("return Promise.all(greeted)"), ["seven", "resolved"])
+        run("it.close()")
 
 
 def waits_end(engine, checks):
@@ -284,13 +368,15 @@ def asked_anew(engine, checks):
         run("await it.close()")
         run(f"globalThis.it = open({{ {QUICK} }}, () => new Promise(resolve => globalThis.answer = resolve))")
         checks.same("a client that asks closes at once", run("return [await outcome(it.close()), it.state]"), ["resolved", "closed"])
-        run(f"answer('{address}/closed'); globalThis.it = open({{ {QUICK} }}, '{address}/next')")
+        run(f"answer('{address}/closed'); await new Promise(resolve => setTimeout(resolve, 100)); globalThis.it = open({{ {QUICK} }}, '{address}/next')")
         checks.same("and connects no more", offered(fake.take())[0], "/next")
         run("await soon(() => it.session); it.close()")
+        run(f"globalThis.it = open({{ {QUICK} }}, () => new Promise((_, reject) => globalThis.fail = reject)); await it.close(); fail(new Error('late'))")
+        checks.same("a failure after that is no one's", run("await new Promise(resolve => setTimeout(resolve, 100)); return [it.errors.length, it.states.map(([state]) => state)]"), [0, ["connecting", "closed"]])
         for what, options in (("an end of a line in a header of CONNECT", "{ headers: { a: 'b\\nc:d' } }"), ("one in its name", "{ headers: { 'a\\r': 'b' } }"), ("too long a one", "{ headers: { a: 'b'.repeat(8192) } }")):
             checks.check(f"{what} is not sent", run(f"try {{ open({options}, '{address}/').close(); }} catch (error) {{ return error.kind; }}") in ("unsent", "refused"))
         run(f"globalThis.it = open({{ {QUICK}, headers: () => ({{ a: 'b\\nc' }}) }}, '{address}/'); await soon(() => it.errors.length); await it.close()")
         checks.same("nor one that a function answers", run("return it.errors.map(([error]) => error.kind)"), ["unsent"])
 
 
-TRIALS = [a_name_in_use, promises_left_alone, refusals, waits_end, frames_are_right, nothing_breaks, asked_anew]
+TRIALS = [a_name_in_use, promises_left_alone, refusals, what_a_refusal_ends, what_is_left_at_a_close, what_is_over_stays_so, a_refusal_by_its_receipt, waits_end, frames_are_right, nothing_breaks, asked_anew]

@@ -22,6 +22,8 @@ def stated(pattern):
 HEADERS, HEAD, BODY = stated(r"Headers of a frame: #; bytes of command and headers: #; of a body: # \(E2\)")
 (SUBSCRIPTIONS,) = stated(r"Subscriptions of a session: #;")
 MEMBERS, MEMBERS_BYTES = stated(r"Members of a transaction: #; bytes of their operations: # \(E17\)")
+# The operation of an ACK: a byte, and the number of the delivery in eight.
+ACK_BYTES = 9
 SHORTEST, LONGEST = stated(r"`/topic/` or `/queue/` and # to # ASCII letters")
 (HELD_BYTES,) = stated(r"Held messages: [\d,]+; their bytes: # \(E12\)")
 
@@ -117,6 +119,11 @@ def of_transactions(engine, limits):
     rest = MEMBERS_BYTES - 3 * large - member("/topic/none", 0, [("key", "value")])
     heavy = lambda count: whole(f"for (const it of [{BODY}, {BODY}, {BODY}]) tx.send('/topic/none', 'x'.repeat(it)); tx.send('/topic/none', 'x'.repeat({count}), {{ key: 'value', ack: 'not kept' }})")
     limits.both("one whose last body fills it,", "E17", heavy, rest)
+    limits.run("globalThis.acking = limited.subscribe('/queue/acked', it => { globalThis.acked = it; }, { ack: 'client-individual' })")
+    limits.run("globalThis.acked = null; await limited.send('/queue/acked', 'x'); await soon(() => acked)")
+    with_ack = lambda count: heavy(count).replace("{ ", "{ tx.ack(acked); ", 1)
+    limits.both("one with an acknowledgement, whose last body fills it,", "E17", with_ack, rest - ACK_BYTES)
+    limits.run("await acking.end()")
     _, size = head_of(engine, "it.transaction(tx => tx.send('/topic/none', 'x', { x: '' }))")
     limits.run(f"globalThis.URL_ = 'ws://127.0.0.1:{limits.relay.port}/'")
     limits.both("a member with a header", "E2", lambda count: whole(f"tx.send('/topic/none', 'x', {{ x: 'x'.repeat({count}) }})"), HEAD - size)

@@ -74,6 +74,7 @@ SCRIPTS = [
     Script("tests/program/version.py", light=""),
     Script("tests/program/ping.py", light=""),
     Script("tests/program/client.py", light=""),
+    Script("tests/program/client_calls.py", light="", needs=("strace",)),
     Script("tests/program/move.py", light=""),
     Script("tests/program/closed_streams.py", light=""),
     Script("tests/program/ending.py", light="--few"),

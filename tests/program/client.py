@@ -23,13 +23,16 @@ import time
 from lib.fake_peer import CONNECTED, Peer, close, receipt_of
 from lib.scenario import BUILT, Checks, built_program, free_port, serving, words_of
 from lib.stomp_client import Client
+from lib.wire import TEXT, message_bytes
 
 UNKNOWN = "; the server may have taken it, or not"
+# For how long nothing is said in some trials: more than a step may take, in seconds.
+QUIET = 7
 NOBODY = "no connection: nobody listens there"
 # Headers that nobody may give to `send` (docs/CLI.md).
 OWN = "send sets destination, receipt and content-length itself, and the server subscription, message-id and ack"
 OWN_NAMES = ("destination", "receipt", "content-length", "subscription", "message-id", "ack")
-# What each command is called with, and its options (docs/CLI.md).
+# What each command is called with, and its options with their values (docs/CLI.md).
 COMMANDS = {
     "format": ("<FILE> <BYTES>", ["--sparse"]),
     "show": ("<FILE>", ["--json"]),
@@ -37,11 +40,11 @@ COMMANDS = {
     "sessions": ("<FILE>", ["--json"]),
     "copy": ("<FILE> <NEW> <BYTES>", ["--sparse"]),
     "ping": ("<PORT>", []),
-    "send": ("<PORT> <DESTINATION> [BODY]", ["--header", "--lines"]),
-    "listen": ("<PORT> <DESTINATION>", ["--count", "--settle", "--durable", "--headers", "--once", "--timeout"]),
-    "move": ("<PORT> <FROM> <TO>", ["--count", "--to", "--durable", "--timeout"]),
+    "send": ("<PORT> <DESTINATION> [BODY]", ["--header <NAME:VALUE>", "--lines"]),
+    "listen": ("<PORT> <DESTINATION>", ["--count <N>", "--settle", "--durable <CLIENT> <NAME>", "--headers", "--once", "--timeout <SECONDS>"]),
+    "move": ("<PORT> <FROM> <TO>", ["--count <N>", "--to <PORT2>", "--durable <CLIENT> <NAME>", "--timeout <SECONDS>"]),
     "forget": ("<PORT> <CLIENT> <NAME>", []),
-    "serve": ("<FILE> <PORT>", ["--origin", "--threads", "--memory", "--until-eof"]),
+    "serve": ("<FILE> <PORT>", ["--origin <ORIGIN>", "--threads <N>", "--memory <BYTES>", "--new <SIZE>", "--until-eof", "--json"]),
     "script": ("", []),
 }
 
@@ -565,10 +568,6 @@ def farewells(program, checks):
             checks.same(f"{' '.join(words)}, whose DISCONNECT {what}", seen, (0, b"", ""))
 
 
-# For how long one listens to a peer that says nothing: more than a step may take, in seconds.
-QUIET = 7
-
-
 def patience(program, checks):
     """One who listens waits for longer than a step takes, and connects again once a second."""
 
@@ -605,6 +604,28 @@ def patience(program, checks):
     checks.check("a connection that is lost is made again once a second", 2 <= len(tries) <= 4, tries)
 
 
+def trickles(program, checks):
+    """A step ends after five seconds, though bytes come: one each second, or one after three seconds and no more."""
+    answer = message_bytes(TEXT, CONNECTED, is_masked=False)
+    for what, count, pause in (("trickles", len(answer), 1), ("stops", 1, 3)):
+
+        def slow(peer):
+            peer.shake()
+            peer.hear()
+            for byte in answer[:count]:
+                time.sleep(pause)
+                peer.socket.sendall(bytes([byte]))
+            peer.wait()
+
+        peer = Peer(slow)
+        began = time.monotonic()
+        seen = run(program, "send", peer.port, "/queue/a", "x")
+        took = time.monotonic() - began
+        peer.end()
+        checks.same(f"a peer that {what} is no longer waited for", seen, (1, b"", told("no CONNECTED: no answer within 5 s")))
+        checks.check("after five seconds", 4.5 < took < QUIET, took)
+
+
 def addresses(program, checks):
     """A URL without a port is of port 80, an address of IPv6 stands in brackets, and a host may have several addresses."""
     for where, port, url in (("127.0.0.1", 80, "ws://127.0.0.1/"), ("::1", 0, "ws://[::1]:{}/")):
@@ -620,6 +641,12 @@ def addresses(program, checks):
             listener.settimeout(1)
             peer.join(5)
             checks.check(f"{url} is reached", not peer.is_alive() and "no handshake" in seen[2], seen)
+    for words, path in ((("send", "/queue/a", "x"), "/rooms/a?b=c"), (("listen", "/queue/a"), "/"), (("forget", "c", "n"), "/rooms/a")):
+        heads = []
+        peer = Peer(lambda peer: heads.extend(peer.shake()))
+        run(program, words[0], f"ws://127.0.0.1:{peer.port}{path}", *words[1:])
+        peer.end()
+        checks.same(f"{words[0]} asks for the path of its URL", heads[:1], [f"GET {path} HTTP/1.1"])
     checks.same("the last port is one", run(program, "ping", 65_535), (1, b"", told(NOBODY)))
     with serving(program) as broker, tempfile.NamedTemporaryFile("w") as hosts:
         checks.same("a count of 16 is one", run(program, "listen", broker.port, "/queue/a", "--count", 16, "--timeout", 1), (4, b"", told(NONE)))
@@ -639,7 +666,7 @@ def main():
     signal.signal(signal.SIGINT, signal.default_int_handler)
     program = built_program(words_of(__doc__, BUILT).parse_args())
     checks, start = Checks(), time.monotonic()
-    for scenario in (helps, bad_words, bodies, receipts, lines, peeks, durables, ends, restarts, timeouts, peers, windows, frames, farewells, patience, addresses):
+    for scenario in (helps, bad_words, bodies, receipts, lines, peeks, durables, ends, restarts, timeouts, peers, windows, frames, farewells, patience, trickles, addresses):
         scenario(program, checks)
     print(f"{checks.failed} checks failed, in {time.monotonic() - start:.0f} s")
     sys.exit(1 if checks.failed else 0)

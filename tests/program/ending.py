@@ -22,12 +22,15 @@ import time
 
 from lib import scenario
 from lib.stomp_client import Client, Closed
+from lib.wire import handshake
 
 JOURNAL_BYTES = "67108896"
 # In seconds: a server has so long to end.
 LONGEST = 5.0
 # One that has nobody to wait for ends in this time, in the quickest of a few tries.
 AT_ONCE, TRIES = 0.3, 4
+# Whoever comes while it ends is let go in this time.
+LET_GO = 1.0
 QUIET, SENDERS, DEAF = 200, 16, 8
 MOST = 250
 # How many servers are asked to end at once.
@@ -87,12 +90,16 @@ def ended(process):
 
 
 def idle(program, journal, checks):
-    """a server that nobody has come to, whose client has left, or one that it refused stays"""
-    alone, left, refused = [], [], []
+    """a server that nobody has come to, whose client has left, or one that it refused stays, or one whose request is not whole"""
+    alone, left, refused, half = [], [], [], []
     for _ in range(TRIES):
         process = begun(program, journal, scenario.free_port())
         started = process.stderr.readline().decode()
         checks.check("it says that it started", " started: " in started, started)
+        process.stdin.write(b"not the end\n")
+        process.stdin.flush()
+        time.sleep(0.1)
+        checks.check("what its input has is no end", process.poll() is None)
         status, seconds, told = ended(process)
         checks.same("a server without clients ends with status 0", status, 0)
         checks.check("it says that it was asked to", " ending: asked to\n" in told, told)
@@ -115,7 +122,16 @@ def idle(program, journal, checks):
             status, seconds, _ = ended(process)
         checks.same("a server with it ends with status 0", status, 0)
         refused.append(seconds)
-    for took in (alone, left, refused):
+    for _ in range(TRIES):
+        port = scenario.free_port()
+        process = begun(program, journal, port)
+        with socket.create_connection(("127.0.0.1", port), timeout=5) as asks:
+            asks.sendall(handshake(port)[:-2])
+            time.sleep(0.1)
+            status, seconds, _ = ended(process)
+        checks.same("so does one with a client in the midst of its request", status, 0)
+        half.append(seconds)
+    for took in (alone, left, refused, half):
         checks.check(f"the quickest within {AT_ONCE} s", min(took) <= AT_ONCE, took)
 
 
@@ -220,6 +236,24 @@ def slow_sync(folder):
     return {**os.environ, "LD_PRELOAD": str(built), "SLOW_SYNC": str(SLOW_SYNC)}
 
 
+def newcomers(port, seconds, found):
+    """Comes to a server one client after another, from so many seconds on until nobody listens. Answers how long each was kept."""
+    time.sleep(seconds)
+    while True:
+        try:
+            one = socket.create_connection(("127.0.0.1", port), timeout=LONGEST)
+        except OSError:
+            return
+        with one:
+            came = time.monotonic()
+            try:
+                one.recv(1)
+            except ConnectionError:
+                pass
+            found.append(time.monotonic() - came)
+        time.sleep(0.02)
+
+
 def held(program, journal):
     told = subprocess.run([program, "show", journal], capture_output=True, text=True, check=True).stdout
     return int(next(line.split()[1] for line in told.splitlines() if line.startswith("held ")))
@@ -238,9 +272,15 @@ def full_ring(program, journal, checks):
         for _ in range(BURST):
             one.send("SEND", [("destination", f"/queue/q{number}")], "x")
     time.sleep(0.1)
+    kept = []
+    coming = threading.Thread(target=newcomers, args=(port, 0.1, kept))
+    coming.start()
     status, seconds, told = ended(process)
+    coming.join()
     checks.same("it ends with status 0", status, 0)
     checks.check(f"within {LONGEST} s", seconds <= LONGEST, seconds)
+    checks.check("some came meanwhile", len(kept) >= 3, kept)
+    checks.check(f"each was let go within {LET_GO} s", all(it <= LET_GO for it in kept), max(kept, default=0))
     stored = held(program, journal)
     checks.check("all that waited for the disk is stored", stored >= SLOWED * UNDER_WAY, f"{stored} of {SLOWED * BURST}, of which {SLOWED * UNDER_WAY} were under way")
     checks.tell(f"{stored} of {SLOWED * BURST} messages are stored, after {seconds:.1f} s")

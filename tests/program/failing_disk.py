@@ -149,7 +149,9 @@ def progress(checks):
         seconds = time.monotonic() - start
         checks.same(f"format of {size} bytes, slowly", (status, output), (0, ""))
         lines.append(errors.splitlines())
-        fits = all(re.fullmatch(r"stompd: [0-9]+ of 64 MiB are written", line) for line in lines[-1])
+        told = [re.fullmatch(r"stompd: ([0-9]+) of 64 MiB are written", line) for line in lines[-1]]
+        parts = [int(it[1]) for it in told if it]
+        fits = len(parts) == len(told) and parts == sorted(set(parts)) and all(it <= 64 for it in parts)
         checks.same(f"{size} bytes: what is told", fits and len(lines[-1]) <= seconds, True)
         os.remove(path)
     checks.same("the large one is told of, the smaller is not", (len(lines[0]) > 2, lines[1]), (True, []))

@@ -30,14 +30,15 @@ LINE = re.compile(
 
 
 def do_something(port):
-    """Leaves two connections, five messages of which one is dead, and two ERRORs, one before its session; answers the clients, and the count of commands and of frames."""
+    """Leaves two connections, five messages of which two are dead, and two ERRORs, one before its session; answers the clients, and the count of commands and of frames."""
     one, other = Client(port).connect(), Client(port).connect()
     one.subscribe("q", "/queue/work", ack="client-individual")
     for at in range(5):
         other.publish("/queue/work", f"{at}")
     delivered = [one.receive() for _ in range(5)]
-    one.send("NACK", [("id", delivered[0].headers["ack"]), ("receipt", "dead")])
-    one.receipt("dead")
+    for refused in delivered[:2]:
+        one.send("NACK", [("id", refused.headers["ack"]), ("receipt", "dead")])
+        one.receipt("dead")
     wrong = Client(port).connect()
     wrong.send("UNSUBSCRIBE", [("id", "unknown")])
     assert "E10" in wrong.receive().headers["message"]
@@ -46,8 +47,8 @@ def do_something(port):
     early.send("UNSUBSCRIBE", [("id", "unknown")])
     assert "E7" in early.receive().headers["message"]
     early.close()
-    # CONNECTs, a SUBSCRIBE, SENDs, a NACK and a wrong UNSUBSCRIBE; and CONNECTED, RECEIPTs, MESSAGEs and ERRORs.
-    return (one, other), 3 + 1 + 5 + 1 + 1, 3 + 1 + 5 + 5 + 1 + 2
+    # CONNECTs, a SUBSCRIBE, SENDs, NACKs and a wrong UNSUBSCRIBE; and CONNECTED, RECEIPTs, MESSAGEs and ERRORs.
+    return (one, other), 3 + 1 + 5 + 2 + 1, 3 + 1 + 5 + 5 + 2 + 2
 
 
 def line_of(process, found):
@@ -110,6 +111,8 @@ def idle(program, checks):
                 process.stdin.close()
                 process.kill()
                 process.wait()
+        started = [it["messages"] for _, it in found if it["kind"] == "started"]
+        checks.same("a server says at its start how many messages it holds", started, [5])
         told = [(when, it) for when, it in found if it["kind"] == "doing"]
         checks.same("an idle server says twice in two minutes how it does", len(told), 2)
         for number, (when, it) in enumerate(told, 1):
@@ -134,7 +137,7 @@ def compare(found, commands, frames, checks):
     checks.same("ERRORs", refused, 2)
     checks.same("messages", messages, 5)
     checks.check("their bytes", 5 < held < 5_000, held)
-    checks.same("dead letters", dead, 1)
+    checks.same("dead letters", dead, 2)
     checks.check("bytes used", 0 < used < 100_000, used)
     checks.same("all commands would be repeated", to_repeat, counted)
 

@@ -1,14 +1,16 @@
 #!/usr/bin/env python3
 """What clients hold counts for as long as they hold it, and whoever holds most is the one that is given up: a server whose clients may hold 16 MiB
 together, the least that there is. First three clients sit at each desk. One of them, at three desks in turn, holds most, and three neighbours at
-another desk hold more than that together: only the first is given up. Then each of the ways in which a client may hold something is taken over and
+another desk hold more than that together: only the first is given up, and at once, though its worker sleeps. Then each of the ways in which a client may hold something is taken over and
 over, to many times the budget and given back each time: nobody is given up.
 
     python3 tests/program/holders.py [PROGRAM]
 
-PROGRAM is the built program; without it, bin/stompd. It takes some 20 seconds, and needs Python 3 alone.
+PROGRAM is the built program; without it, bin/stompd. It takes about a minute, and needs Python 3 alone.
 """
 
+import contextlib
+import os
 import socket
 import sys
 import time
@@ -33,6 +35,12 @@ LONGEST = 131_072
 HEAD = 16_000
 # A client that is disconnected is told so at once; one that isn't, is looked at for so long.
 QUIET = 0.3
+# Of clients at the desks of other workers one after another gets so many members more, in so many steps at most. From the last ones before the budget
+# was passed, so many steps are sure to be under it, and so many to pass it. A worker that has nothing to do sleeps for so many seconds, and whoever holds
+# most is given up within the others.
+STEP, STEPS, UNDER, OVER_IT, SLEEP, AT_ONCE = 16, 300, 6, 12, 2.2, 0.5
+# How many heads over the limit stay open at once: with 16,000 bytes each they have more than the budget.
+REFUSED = 1_200
 
 
 class Member:
@@ -94,6 +102,45 @@ def most_of_all(broker, checks):
             one.client.close()
         # What they held counts no more once their ends are heard.
         time.sleep(2)
+
+
+def grow_by_steps(most, others, first, steps):
+    """Others get members, one after another, until the one that holds most is given up, or all steps are done. Answers after which step it was."""
+    for step in range(first, first + steps):
+        with contextlib.suppress(Closed, ConnectionError):
+            others[step % len(others)].grow(STEP)
+        if most.client.has_message():
+            return step
+    return None
+
+
+def most_of_a_sleeping_worker(broker, checks):
+    """whoever holds most is given up as soon as others pass the budget, though its worker sleeps"""
+    workers = len(os.sched_getaffinity(broker.process.pid))
+    if workers == 1:
+        checks.tell("not tried: with one processor there is one worker")
+        return
+    # The desks are dealt out in turn, so the others sit with other workers.
+    seated = lambda: [Member(broker.port) for _ in range(DESKS)]
+    clients = seated()
+    most, others = clients[0], [one for number, one in enumerate(clients) if number % workers]
+    most.grow(A_TRANSACTION * 4 - 8)
+    last = grow_by_steps(most, others, 0, STEPS)
+    checks.check("it is given up once others pass the budget", last is not None, STEPS)
+    for one in clients:
+        one.client.close()
+    time.sleep(SLEEP)
+    clients = seated()
+    most, others = clients[0], [one for number, one in enumerate(clients) if number % workers]
+    most.grow(A_TRANSACTION * 4 - 8)
+    before = (last or 0) - UNDER
+    grow_by_steps(most, others, 0, before)
+    time.sleep(SLEEP)
+    checks.check("not before, for as long as its worker sleeps", not most.client.has_message())
+    grow_by_steps(most, others, before, OVER_IT)
+    checks.check("and then at once", most.client.hears_within(AT_ONCE) and most.client.has_message())
+    for one in clients:
+        one.client.close()
 
 
 def what_is_taken(broker, checks):
@@ -182,6 +229,13 @@ def heads_that_were_refused(broker, checks):
                 checks.check("a head over the limit is answered 431", one.recv(64).startswith(b"HTTP/1.1 431"), start) if at == 1 else one.recv(64)
             one.close()
         time.sleep(0.1)
+    over = [socket.create_connection(("127.0.0.1", broker.port), timeout=20) for _ in range(REFUSED)]
+    for one in over:
+        one.sendall(head + b"x" * 2_000)
+    answers = [one.recv(64)[:12] for one in over]
+    checks.same("each of many that are open at once is answered 431", set(answers), {b"HTTP/1.1 431"})
+    for one in over:
+        one.close()
     checks.check("others are served on", is_served(witness))
     witness.close()
 
@@ -197,8 +251,9 @@ def main():
     program = scenario.words_of(__doc__).parse_args().program
     scenario.take_descriptors()
     checks, start = scenario.Checks(), time.monotonic()
-    with scenario.serving(program, kind=with_least_budget) as broker:
-        scenario.try_one(most_of_all, broker, checks)
+    for one in (most_of_all, most_of_a_sleeping_worker):
+        with scenario.serving(program, kind=with_least_budget) as broker:
+            scenario.try_one(one, broker, checks)
     # One broker for all, so that what an earlier one left counted is found by the next.
     with scenario.serving(program, kind=with_least_budget) as broker:
         for one in SCENARIOS:

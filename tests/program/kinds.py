@@ -285,6 +285,7 @@ SMALL_AREA, SMALL = 65_536, 1_000
 def small_journal(program, checks):
     """a compaction that leaves less than a quarter of an area, and no other"""
     form = r"journal nearly full: (\d+) of 65536 bytes are used after a compaction \(J4 is near\)"
+    began = time.monotonic()
     with told(program, size=32 + 2 * SMALL_AREA) as server:
         sender = Client(server.port, timeout=20).connect()
 
@@ -302,6 +303,8 @@ def small_journal(program, checks):
         found = [int(it) for it in re.findall(form, server.text)]
         checks.check("over three quarters are, after the compaction", found and all(SMALL_AREA * 3 // 4 <= it <= SMALL_AREA for it in found), server.text)
         checks.check("and the server goes on", sender.publish("/topic/none", "x") == [])
+        took = [int(it) for it in re.findall(r" compacted(?: slowly)?: \d+ bytes won in (\d+) ms", server.text)]
+        checks.check("each compaction has a line, and all together took no longer than this", took and sum(took) <= 1_000 * (time.monotonic() - began), took)
 
 
 def main():

@@ -352,6 +352,9 @@ def frames(program, checks):
     seen, said = said_to(program, Peer(answering(connected, saying(two), receipted, receipted, receipted)), "--count", 2)
     wanted = [CONNECT, SUBSCRIBE, transaction(1, 7, b"x\0y\xff", KEPT), transaction(2, 8, b""), LEAVE]
     checks.same("of a move", (seen, said), ((0, "moved 2 messages\n", ""), wanted))
+    peer = Peer(answering(connected, saying(two), receipted, receipted, receipted))
+    said_to(program, peer, "--count", 2)
+    checks.same("and last a close (RFC 6455, section 5.5.1)", peer.heard[-1], (CLOSE, (1000).to_bytes(2, "big")))
     for what, answer, text in (
         ("the end", ending, "no RECEIPT: the connection has ended" + NOT_COUNTED),
         ("the RECEIPT of another frame", saying(b"RECEIPT\nreceipt-id:2\n\n\0"), "no RECEIPT: RECEIPT came" + NOT_COUNTED),

@@ -94,6 +94,25 @@ def a_handshake_ends_within(broker, checks):
     checks.check("the server ends the connection", ends_within(stream))
 
 
+def a_handshake_fills_a_read(broker, checks):
+    """what comes behind a handshake that just fills a read is heard"""
+    stream = Stream(broker.port)
+    # Its socket is known to the poll before anything comes.
+    time.sleep(0.3)
+    request = handshake(broker.port, headers=[("X-Pad", "")])
+    request = request.replace(b"X-Pad: ", b"X-Pad: " + (READ - len(request)) * b"x")
+    assert len(request) == READ, len(request)
+    with stopped(broker):
+        stream.write(request + stomp_message("CONNECT", [("accept-version", "1.2"), ("host", "localhost")]))
+    stream.socket.settimeout(LONGEST)
+    heard = b""
+    with contextlib.suppress(TimeoutError):
+        while b"CONNECTED" not in heard and (more := stream.socket.recv(READ)):
+            heard += more
+    checks.check("its CONNECT is answered", b"CONNECTED" in heard, heard)
+    stream.close()
+
+
 def a_reset_comes_with_bytes(broker, checks):
     """a client that resets its connection is let go: what it held goes to another"""
     holder = Client(broker.port).connect()
@@ -183,7 +202,8 @@ def reads_in_vain(program, checks):
 def main():
     program, checks = scenario.words_of(__doc__).parse_args().program, scenario.Checks()
     scenarios = [
-        the_end_comes_with_bytes, a_handshake_ends_within, a_reset_comes_with_bytes, bytes_fill_reads, bytes_come_in_between, bytes_come_unread
+        the_end_comes_with_bytes, a_handshake_ends_within, a_handshake_fills_a_read, a_reset_comes_with_bytes, bytes_fill_reads, bytes_come_in_between,
+        bytes_come_unread
     ]
     with scenario.serving(program) as broker:
         for one in scenarios:

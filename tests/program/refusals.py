@@ -42,6 +42,7 @@ ASKED = (
     ("a POST whose body is still to come", request("POST / HTTP/1.1", HOST, "Content-Length: 2"), 405),
     ("a POST that asks for a WebSocket", request("POST / HTTP/1.1", *WHOLE), 405),
     ("a POST with a body of a megabyte", request("POST / HTTP/1.1", HOST, "Content-Length: 1048576") + bytes(1_048_576), 405),
+    ("a POST with a body of 16 megabytes", request("POST / HTTP/1.1", HOST, "Content-Length: 16777216") + bytes(16_777_216), 405),
     ("a HEAD", request(HEAD, HOST), 405),
     ("a HEAD of no Host", request(HEAD), 400),
     ("a HEAD with a field of 70,000 bytes", request(HEAD, HOST, "X-Long: " + 70_000 * "x"), 431),

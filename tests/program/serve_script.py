@@ -12,6 +12,7 @@ Needs Linux and Python 3 alone; the gate does not run it.
 - What the server writes to standard error is there at once, and the options are passed on. It has the settings of the C library, and as many
   descriptors as there may be.
 - Nothing of it stays in the temporary folder.
+- A server is waited for, a second signal changes nothing, and one that doesn't end is killed after eight seconds.
 - A build that fails or is broken off ends it, and with --proved only a proved program serves.
 - It goes on if nobody reads what is logged any more, serves though standard error was full before, and ends in good order if a signal comes
   to all of its process group.
@@ -50,6 +51,8 @@ VERSION = re.compile(r"serve: stompd \d+\.")
 OPENING = re.compile(r"stompd: opening the journal, \d+ s so far$")
 # A first start writes and syncs 512 MiB, which a busy disk takes its time for. In seconds.
 PATIENCE = 120
+# For how long the script waits for a server that it ends, in seconds.
+GRACE = 8
 # Signals at random moments, and pairs of first starts.
 MOMENTS, PAIRS = 40, 20
 FEW_MOMENTS, FEW_PAIRS = 5, 2
@@ -147,9 +150,18 @@ def found_in(port):
 
 def words_and_programs(checks):
     file = new_file(checks)
-    for program in (file.parent / "missing", file.parent):
+    plain = file.parent / "plain"
+    shutil.copy2(checks.program, plain)
+    plain.chmod(0o644)
+    for program in (file.parent / "missing", file.parent, plain):
         status, logged = Start(program, file, free_port()).end()
         checks.same(f"{program} as the program", (status, logged), (1, f"serve: there is no program {program}\n"))
+    plain.unlink()
+    for words, where in ((["--help"], "stdout"), (["-h"], "stdout"), (["--none"], "stderr")):
+        done = subprocess.run([SERVE, *words], capture_output=True, text=True, timeout=PATIENCE)
+        usage = "bin/serve [--proved] [--new] [FILE [PORT [OPTION..]]]\n"
+        expected = (0, usage, "") if where == "stdout" else (2, "", f"serve: {usage}")
+        checks.same(f"{words} print how it is called", (done.returncode, done.stdout, done.stderr), expected)
     for words in (["--port"], [file, "eighty"], [file, "0"], [file, "70000"], [file, "080800"], [file, "80", "x"], [file, "80", "--origin"], [file, "80", "--threads"], [file, "80", "--memory"], [file, "80", "--origin", "o", "p"]):
         checks.same(f"{words} are refused", Start(checks.program, *words).end()[0], 2)
     status, logged = Start(checks.program, file, free_port(), "--origin", "https://chat.example/").end()
@@ -254,24 +266,56 @@ def a_killed_first_start(checks):
 def what_the_server_logs(checks):
     file = new_file(checks)
     words, given, line = file.parent / "words", file.parent / "given", "stompd: compacted: 3120 bytes won in 2 ms\n"
-    program = checks.stand_in(f"""echo "$*" > "{words}"
+    program = checks.stand_in(f"""printf '%s\\n' "$@" > "{words}"
 echo "$GLIBC_TUNABLES" "$(ulimit -n)" > "{given}"
 printf '{line[:-1]}\\n' >&2""")
     options = "--origin http://here:1 --threads 3 --memory 16777216 --origin null"
     start = Start(program, "--new", file, free_port(), *options.split())
     checks.same("what it logs is there while it runs", start.process.stderr.readline(), line)
     checks.check("and it listens then", start.listens())
-    passed = f" --until-eof --new 536870944 {options}\n"
-    checks.check("the options are passed on", words.read_text().endswith(passed), words.read_text())
+    passed = ["--until-eof", "--new", "536870944", *options.split()]
+    checks.same("the options are passed on", words.read_text().splitlines()[3:], passed)
     most = resource.getrlimit(resource.RLIMIT_NOFILE)[1]
     checks.same("it has the C library's settings, and all descriptors that it may have", given.read_text(), f"{TUNABLES} {most}\n")
     checks.same("it ends as ever", start.end(signal.SIGTERM)[0], 143)
+    os.environ["GLIBC_TUNABLES"] = "glibc.malloc.arena_max=1"
+    try:
+        start = Start(program, file, free_port())
+        checks.check("it serves with other settings of the C library", start.listens())
+    finally:
+        del os.environ["GLIBC_TUNABLES"]
+    checks.same("which are kept", given.read_text(), f"glibc.malloc.arena_max=1 {most}\n")
+    checks.same("and ends", start.end(signal.SIGTERM)[0], 143)
+    spaced = checks.stand_in(f"""printf '%s\\n' "$@" > "{words}"
+exit 7""")
+    checks.same("a word with a space ends it as its program does", Start(spaced, file, "80", "--origin", "two words", "*").end()[0], 7)
+    checks.same("and each word is passed on whole", words.read_text().splitlines()[-3:], ["--origin", "two words", "*"])
     bare = checks.stand_in(f"""echo "$*" > "{words}"
 exit 7""")
     checks.same("without words it ends as its program does", Start(bare).end()[0], 7)
     checks.same("which had the file and the port of the first lines of the script", words.read_text(), "serve rooms.journal 8080 --until-eof\n")
     fault = checks.stand_in("echo 'stompd: J3 device failed' >&2; exit 1")
     checks.same("a server that fails ends it", Start(fault, file, free_port()).end(), (1, "stompd: J3 device failed\n"))
+
+
+def servers_that_end_late(checks):
+    """A server is waited for, a second signal is none, and after eight seconds it is killed."""
+    file = new_file(checks)
+    began, done = file.parent / "began", file.parent / "done"
+    slow = checks.stand_in(f': > "{began}"; cat > /dev/null; sleep 1; : > "{done}"; exit 0')
+    start, sent = Start(slow, file, free_port()), time.monotonic()
+    wait_until(began.exists)
+    start.process.send_signal(signal.SIGTERM)
+    time.sleep(0.3)
+    checks.same("a second signal while its server ends changes nothing", start.end(signal.SIGTERM)[0], 143)
+    checks.check("its server has ended by itself, and is no longer waited for", done.exists() and time.monotonic() - sent < GRACE, time.monotonic() - sent)
+    began.unlink()
+    deaf = checks.stand_in(f': > "{began}"; exec sleep 600')
+    start = Start(deaf, file, free_port())
+    wait_until(began.exists)
+    sent = time.monotonic()
+    checks.same("a server that doesn't end is killed", start.end(signal.SIGTERM)[0], 143)
+    checks.check(f"after {GRACE} seconds", GRACE - 0.5 < time.monotonic() - sent < GRACE + 4, time.monotonic() - sent)
 
 
 def child_with(start, word):
@@ -351,6 +395,11 @@ def builds(checks):
         wait_until(began.exists)
         checks.same(f"{sent.name} while it builds", start.end(sent), (status, ""))
         checks.check("the build is told to end, and has ended", heard.exists())
+    heard, began = file.parent / "heard late", file.parent / "began early"
+    start = with_build(f"trap '' TERM; : > \"{began}\"; sleep 1.5; trap ': > \"{heard}\"; exit 143' TERM; while :; do sleep 0.02; done")
+    wait_until(began.exists)
+    checks.same("a signal that a build loses while it starts", start.end(signal.SIGTERM, GRACE), (143, ""))
+    checks.check("is sent again until the build has ended", heard.exists())
     checks.check("no journal was made", not file.exists())
     asked = file.parent / "asked"
     asks = f"echo \"$*\" >> '{asked}'"
@@ -376,6 +425,17 @@ def builds(checks):
     checks.same("and ends so", start.end(signal.SIGTERM), (143, ""))
 
 
+def an_archive(checks):
+    """The script of an archive has its program beside it, and nothing to build."""
+    top, file, port = pathlib.Path(tempfile.mkdtemp(dir=checks.folder)), new_file(checks), free_port()
+    script = shutil.copy2(SERVE, top)
+    shutil.copy2(checks.program, top / "stompd")
+    start = Start(None, "--new", file, port, script=script)
+    checks.check("the program beside the script serves", start.listens())
+    checks.same("it is that program", os.readlink(f"/proc/{child_with(start, 'serve')}/exe"), str(top / "stompd"))
+    checks.same("and ends", start.end(signal.SIGTERM)[0], 143)
+
+
 SCENARIOS = [
     words_and_programs,
     a_first_start,
@@ -383,9 +443,11 @@ SCENARIOS = [
     two_first_starts,
     a_killed_first_start,
     what_the_server_logs,
+    servers_that_end_late,
     nobody_reads,
     a_signal_to_the_group,
     builds,
+    an_archive,
 ]
 
 

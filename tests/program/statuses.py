@@ -11,12 +11,14 @@ import errno
 import json
 import os
 import pathlib
+import resource
 import select
 import socket
 import struct
 import subprocess
 import sys
 import tempfile
+import time
 
 from lib.old_journal import area, journal, open_operation, record, send_operation, subscribe_operation
 from lib.scenario import BUILT, BriefChecks, built_program, free_port, words_of
@@ -61,12 +63,16 @@ OBJECTS = {
 }
 # Areas of 4,096 bytes.
 SMALLEST = 8_224
+# In seconds.
+AT_ONCE = 0.3
+# No multiple of what is written at a time.
+LIMITED = 3_000_000
 
 
 class Checks(BriefChecks):
-    def run(self, words, status, output, errors, given=b"", sink=subprocess.PIPE):
-        """Runs the program, and compares its status and its two outputs."""
-        done = subprocess.run([self.program, *words], input=given, stdout=sink, stderr=subprocess.PIPE, timeout=60)
+    def run(self, words, status, output, errors, given=b"", sink=subprocess.PIPE, **how):
+        """Runs the program, in a folder or under limits if these are given, and compares its status and its two outputs."""
+        done = subprocess.run([self.program, *words], input=given, stdout=sink, stderr=subprocess.PIPE, timeout=60, **how)
         wrote, said = (text.decode(errors="replace") if text else "" for text in (done.stdout, done.stderr))
         fits = all(bool(seen) if wanted is SOME else wanted is None or seen == wanted for seen, wanted in ((wrote, output), (said, errors)))
         self.check(f"{words} at {given[-40:]}", fits and done.returncode == status, (done.returncode, wrote, said))
@@ -78,6 +84,7 @@ def scripts(checks):
     checks.run(["script"], 1, NOTHING, told("line 1 not understood"), b"0 " + b"%0A" * 400_000 + b"\n")
     with open("/dev/full", "wb") as full:
         checks.run(["script"], 1, NOTHING, told("input or output failed"), b"0 CONNECT%0Aaccept-version:1.2%0A%0A%00\nflush\n", full)
+        checks.run(["--version"], 1, NOTHING, told("input or output failed"), sink=full)
 
 
 def word(length):
@@ -114,6 +121,7 @@ def formats(checks, folder):
         huge = folder / text
         checks.run(["format", str(huge), "--sparse", text], 0, NOTHING, NOTHING)
         checks.check(f"{text} are 2^30 bytes", huge.stat().st_size == 1 << 30)
+    checks.run(["copy", file, other, "8x"], 2, NOTHING, bad("8x", SIZES))
     zeros, odd = str(folder / "zeros"), str(folder / "odd")
     checks.run(["format", zeros, f"000{SMALLEST}"], 0, NOTHING, NOTHING)
     checks.check("leading zeros count for nothing", pathlib.Path(zeros).read_bytes() == made)
@@ -129,6 +137,19 @@ def formats(checks, folder):
         checks.run(["format", str(path), str(size)], 0, NOTHING, NOTHING)
         data = path.read_bytes()
         checks.check(f"{size} bytes have two areas of 49,984", len(data) == size and data[8:16] == struct.pack(">Q", 49_984), data[:16])
+
+
+def places(checks, folder):
+    """A bare name is one of the current folder; a file has all of its room, if it isn't sparse; and the system's limit on files is kept."""
+    checks.run(["format", "bare", str(LIMITED)], 0, NOTHING, NOTHING, cwd=folder)
+    checks.same("a bare name is made in the current folder", (folder / "bare").stat().st_size, LIMITED)
+    checks.check("with all of its room", (folder / "bare").stat().st_blocks * 512 >= LIMITED)
+    checks.run(["format", "bare", str(LIMITED)], 1, NOTHING, unopened("bare", "it is there already"), cwd=folder)
+    # The one that counts, under the one that it may be raised to.
+    limit = lambda: resource.setrlimit(resource.RLIMIT_FSIZE, (LIMITED, resource.getrlimit(resource.RLIMIT_FSIZE)[1]))
+    checks.run(["format", "most", str(LIMITED)], 0, NOTHING, NOTHING, cwd=folder, preexec_fn=limit)
+    checks.run(["format", "more", str(LIMITED + 1)], 1, NOTHING, unopened("more", "no file may be so large here"), cwd=folder, preexec_fn=limit)
+    checks.same("what was refused has left nothing", sorted(it.name for it in folder.glob("mo*")), ["most"])
 
 
 def broken(folder):
@@ -187,6 +208,16 @@ def old_journal(folder):
     operations = (open_operation("c1"), subscribe_operation("d", "/topic/t", "client", "n"), send_operation("/topic/t", [], "x"), send_operation("/queue/q", [], "y"))
     path.write_bytes(journal(4_096, area([b"".join(record(0, it) for it in operations)]), b""))
     return path
+
+
+def soon(checks, folder):
+    """What ends by a fault ends at once: nobody waits for its line to be read."""
+    took = []
+    for _ in range(4):
+        began = time.monotonic()
+        checks.run(["serve", str(folder / "missing"), str(free_port())], 1, NOTHING, unserved(folder / "missing"))
+        took.append(time.monotonic() - began)
+    checks.check(f"the quickest of four within {AT_ONCE} s", min(took) <= AT_ONCE, took)
 
 
 def serves(checks, folder):
@@ -318,8 +349,10 @@ def main():
         folder = pathlib.Path(name)
         scripts(checks)
         formats(checks, folder)
+        places(checks, folder)
         shows(checks, folder)
         serves(checks, folder)
+        soon(checks, folder)
         words(checks, folder)
     return checks.status()
 

@@ -153,6 +153,14 @@ def names(program, checks):
                     client.receive()
             client.to_the_end()
         checks.check("E12 is told", any(line.endswith(" ERRORs (E12)") for line in server.told("sent ", 20)), server.lines)
+        for times in (1, 2):
+            wrong = Client(server.port).connect()
+            wrong.send("SUBSCRIBE", [("id", "w"), ("destination", "/queue/q"), ("ack", "never")])
+            wrong.to_the_end()
+            end = time.monotonic() + 20
+            while len(found := server.told("(E20)", 20)) < times and time.monotonic() < end:
+                time.sleep(0.05)
+            checks.same(f"so is E20, the last code, which came {times} times", found, times * ["sent 1 ERRORs (E20)"])
         near = server.told("nearly full", 5)
         checks.same("once that nearly all is held", len(near), 1)
         form = r"nearly full: (\d+) of 4096 messages held, (\d+) of 16777216 bytes, (\d+) of them in queue /queue/full-secret \(E12 is near\)"
@@ -163,6 +171,7 @@ def names(program, checks):
         checks.check("and its moment is the clock's", all(0 <= it <= 2 for it in late), (late, server.lines))
         plain = [line for _, line in server.lines if "nearly full" not in line]
         checks.check("and has no byte of a client, except the name of what is full", not any("secret" in line for line in plain), server.lines)
+        checks.same("no client failed to be accepted", [line for _, line in server.lines if "failed to accept" in line], [])
         checks.check("and nothing is forged", not any("forged" in line for _, line in server.lines), server.lines)
 
 

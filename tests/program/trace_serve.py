@@ -13,6 +13,7 @@ docs/JOURNAL.md says. No contract can know this. Needs strace and Python 3 alone
 - What the clients sent stands in the blocks, once each, with the bytes that its record has.
 - No CONNECTED, RECEIPT or MESSAGE leaves a socket before the sync after the gate of its command's block.
 - A client's socket sends small packets at once (TCP_NODELAY).
+- The journal's path is looked up at each 64th sync, and each second, and not with each sync.
 """
 
 import collections
@@ -374,13 +375,23 @@ def first_run(program, folder, path):
     print(f"trace_serve: a start, {len(records)} commands of a client that waits, each a block of its own")
 
 
+def looks(calls, path, seconds):
+    """Checks that the path is looked up seldom, since only its folder's time is compared at each sync."""
+    syncs = sum(call.name == "fdatasync" for call in calls)
+    found = sum(call.name in ("newfstatat", "statx") and call.data() == path.encode() for call in calls)
+    most = syncs // 64 + seconds + 3
+    check(found <= most, f"the path was looked up {found} times at {syncs} syncs in {seconds:.1f} s")
+
+
 def second_run(program, folder, path):
     """The journal with 40 messages held, and four clients at once."""
     trace = folder / "second.trace"
+    began = time.monotonic()
     server = Traced(program, path, trace)
     asked = many_at_once(server.port)
     server.kill()
     calls = calls_of(trace)
+    looks(calls, path, time.monotonic() - began)
     journal = Journal(calls, path)
     messages = [(1 + number, b"x" * number) for number in range(40)]
     ended, gate = start(journal, 1, held_state(41, messages))
