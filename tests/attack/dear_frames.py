@@ -40,6 +40,7 @@ def main():
     words.add_argument("--seconds", type=float, default=6)
     words.add_argument("--few", action="store_true")
     words = words.parse_args()
+    scenario.keep_journals_in_memory()
     checks = scenario.Checks()
     for clients, members in CASES[:1] if words.few else CASES:
         with scenario.serving(words.program) as broker:

@@ -83,6 +83,7 @@ def main():
     words.add_argument("--joins", type=int, default=30_000)
     words.add_argument("--few", action="store_true")
     words = words.parse_args()
+    scenario.keep_journals_in_memory()
     checks = scenario.Checks()
     joins = min(words.joins, 2_000) if words.few else words.joins
     for senders in (64,) if words.few else (64, 128):

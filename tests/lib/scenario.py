@@ -6,6 +6,7 @@ import os
 import pathlib
 import random
 import resource
+import shutil
 import signal
 import socket
 import subprocess
@@ -20,6 +21,16 @@ PROGRAM, BUILT = TOP / "bin" / "stompd", TOP / "crates" / "stompd" / "out" / "st
 
 # Two areas of 512 MiB. The file is sparse: it takes what is written. Most scripts see no compaction so.
 JOURNAL_BYTES = 1_073_741_856
+
+# Where a journal in memory is, and how many bytes have to be free there.
+MEMORY, ROOM_FOR_JOURNAL = pathlib.Path("/dev/shm"), 1 << 30
+
+
+def keep_journals_in_memory():
+    """From now on journals are made in memory, if that has room. This is for scripts that look how long clients keep each other waiting: a disk that other
+    programs keep busy may take seconds for a sync, and each receipt waits for that."""
+    if MEMORY.is_dir() and shutil.disk_usage(MEMORY).free >= ROOM_FOR_JOURNAL:
+        tempfile.tempdir = str(MEMORY)
 
 
 def free_port():

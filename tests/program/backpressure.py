@@ -82,4 +82,5 @@ def sends_and_reads_nothing(broker, checks):
 
 
 if __name__ == "__main__":
+    scenario.keep_journals_in_memory()
     sys.exit(scenario.run(__doc__, [sends_and_reads_nothing]))

@@ -280,6 +280,7 @@ def given():
 def main():
     words = given()
     scenario.take_descriptors()
+    scenario.keep_journals_in_memory()
 
     def many_at_once(broker, checks):
         """so many connections, each on a topic with others"""

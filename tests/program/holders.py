@@ -250,6 +250,7 @@ SCENARIOS = (what_is_taken, what_waited, members_that_ended, messages_that_were_
 def main():
     program = scenario.words_of(__doc__).parse_args().program
     scenario.take_descriptors()
+    scenario.keep_journals_in_memory()
     checks, start = scenario.Checks(), time.monotonic()
     for one in (most_of_all, most_of_a_sleeping_worker):
         with scenario.serving(program, kind=with_least_budget) as broker:

@@ -177,4 +177,5 @@ def pings_and_never_reads(broker, checks):
 
 
 if __name__ == "__main__":
+    scenario.keep_journals_in_memory()
     sys.exit(scenario.run(__doc__, [sends_fragments, has_neighbours, answers_its_close, answers_no_close, pings_and_never_reads]))

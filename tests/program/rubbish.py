@@ -285,4 +285,5 @@ SCENARIOS = [
 ]
 
 if __name__ == "__main__":
+    scenario.keep_journals_in_memory()
     sys.exit(scenario.run(__doc__, SCENARIOS))

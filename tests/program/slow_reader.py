@@ -138,4 +138,5 @@ if __name__ == "__main__":
     words = scenario.words_of(__doc__)
     words.add_argument("--few", action="store_true", help="without the one that never reads again")
     given = words.parse_args()
+    scenario.keep_journals_in_memory()
     sys.exit(scenario.run_over(given.program, [reads_again, answers_no_close, *(() if given.few else (reads_never,))]))

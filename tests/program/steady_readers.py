@@ -101,4 +101,5 @@ def read_steadily(broker, checks):
 
 
 if __name__ == "__main__":
+    scenario.keep_journals_in_memory()
     sys.exit(scenario.run(__doc__, [read_steadily]))

@@ -10,12 +10,9 @@ A lost ring of a bell shows as a wait until something else wakes the thread, so 
 the percentiles. The journal is in memory (/dev/shm) if that has room: a disk that other programs keep busy may take over a second for a sync.
 """
 
-import pathlib
 import random
 import select
-import shutil
 import sys
-import tempfile
 import time
 
 from lib import scenario
@@ -24,8 +21,6 @@ from lib.wire import TEXT, message_bytes, stomp_bytes
 
 # In seconds: no wait may be longer, and this long a client pauses at most between two SENDs.
 LONGEST_WAIT, LONGEST_PAUSE = 0.75, 4.0
-# Where a journal in memory is, and what has to be free there, in bytes.
-MEMORY, ROOM_FOR_JOURNAL = pathlib.Path("/dev/shm"), 1 << 30
 # How many SENDs come before one with a receipt. A desk may have 16 under way.
 BURSTS = (0, 0, 0, 1, 15, 16, 40)
 # A topic's clients: one sends at a time, and all hear it.
@@ -121,8 +116,7 @@ def main():
     words = parser.parse_args()
     print(f"seed {words.seed}", flush=True)
     chance, checks = random.Random(words.seed), scenario.Checks()
-    if MEMORY.is_dir() and shutil.disk_usage(MEMORY).free >= ROOM_FOR_JOURNAL:
-        tempfile.tempdir = str(MEMORY)
+    scenario.keep_journals_in_memory()
     with scenario.serving(words.program) as broker:
         lone = alone(broker.port)
         checks.check(f"whoever sends alone waits {LONGEST_WAIT} s at most", max(lone) <= LONGEST_WAIT, f"{max(lone):.1f} s, among {len(lone)} bursts")
