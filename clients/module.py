@@ -331,6 +331,41 @@ def lines_with_node_ws(program, folder, ws, checks):
         checks.same("and send what they say", ear.receive().body, "hello")
 
 
+# How a client may be closed, all of whose waits are longer than this script waits for its program.
+LASTS = """
+import { connect } from "./stompd.mjs";
+const [ws] = WS;
+if (ws) globalThis.WebSocket = (await import(ws)).default;
+const long = { answerTimeout: 3600000, waitTimeout: 3600000, closeTimeout: 3600000, onerror() {} };
+const lost = async client => { while (client.state != "lost") await new Promise(resolve => setTimeout(resolve, 10)); };
+const ends = { close: async (url) => { const client = connect(url, long); await client.send("/topic/room", "x"); await client.close(); },
+  waits: async (_, nobody) => { const client = connect(nobody, { ...long, shortestPause: 3600000, longestPause: 3600000 }); client.send("/topic/room", "x"); await lost(client); await client.close(); },
+  early: async (url) => { const client = connect(url, long); client.send("/topic/room", "x"); await client.close(); },
+  asks: async () => { const client = connect(() => new Promise(() => {}), long); client.subscribe("/topic/room", () => {}); await client.close(); },
+  late: async (url) => { const client = connect(url, { ...long, answerTimeout: 100 }); await client.send("/topic/room", "x"); await new Promise(resolve => setTimeout(resolve, 300)); await client.close(); } };
+await ends[KIND](...URLS);
+"""
+
+
+def a_program_ends(program, folder, ws, checks):
+    """A program in Node ends once its client is closed, since no timer is left: with a session, while it waits for one, and after."""
+    node, package = node_words(ws)
+    with scenario.serving(program) as broker:
+        urls, running = [f"ws://127.0.0.1:{port}/" for port in (broker.port, scenario.free_port())], {}
+        for kind in ("close", "waits", "early", "asks", "late"):
+            script = folder / "node" / "examples" / f"{kind}.mjs"
+            script.write_text(LASTS.replace("WS", json.dumps(list(map(str, package))), 1).replace("KIND", json.dumps(kind)).replace("URLS", json.dumps(urls)), encoding="utf-8")
+            running[kind] = subprocess.Popen([*node, script], stdin=subprocess.DEVNULL, stderr=subprocess.PIPE, text=True)
+        end = time.monotonic() + MOST_SECONDS
+        for kind, process in running.items():
+            try:
+                _, told = process.communicate(timeout=max(0, end - time.monotonic()))
+            except subprocess.TimeoutExpired:
+                process.kill()
+                _, told = process.communicate()
+            checks.check(f"a program ends with its client: {kind}", process.returncode == 0, (process.returncode, told[-300:]))
+
+
 TRIALS = [what_promises_say, *module_limits.TRIALS, around_refusals, silences, work_is_done, durable_ones, a_lost_one_is_unknown, page_says_why, kills_under_load]
 
 
@@ -365,6 +400,7 @@ def try_engine(kind, folder, words, checks):
             try_over_the_broker(engine, words, checks)
             if kind is Node:
                 lines_with_node_ws(words.program, folder, words.ws, checks)
+                a_program_ends(words.program, folder, words.ws, checks)
     finally:
         engine.close()
 

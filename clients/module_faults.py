@@ -32,6 +32,17 @@ def grows(pauses, first=20):
     return all(0.75 * first * 2**number <= pause <= 1.25 * first * 2**number for number, pause in enumerate(pauses))
 
 
+def has_left(link):
+    """Whether the client closes the connection, or ends it."""
+    with contextlib.suppress(TimeoutError):
+        try:
+            while True:
+                link.take()
+        except ConnectionError:
+            return True
+    return False
+
+
 def a_name_in_use(engine, checks):
     """a durable name that a lost session still holds is asked for again"""
     run = engine.value
@@ -52,6 +63,10 @@ def a_name_in_use(engine, checks):
         checks.same("and it is heard again", run("return [await soon(() => heard.length), heard[0], await late]"), [True, "at last", "resolved"])
         pauses = pauses_of(engine)
         checks.check("the pauses grow meanwhile", len(pauses) == 4 and grows(pauses), pauses)
+        link.drop()
+        run("await soon(() => !it.session); outcome(it.send('/topic/room', 'next'))")
+        link = fake.take()
+        checks.same("once it was ready it goes first again", [link.accept_next().command for _ in range(2)], ["SUBSCRIBE", "SEND"])
         first = run("globalThis.other = it.subscribe('/topic/news', () => {}, { durable: 'e' }); return it.states.length")
         link.refuse("E14 durable subscription unknown, in use or of another topic", link.take())
         checks.same("one that was never ready is refused", run("return outcome(other.ready)"), "refused")
@@ -131,6 +146,30 @@ def refusals(engine, checks):
         link.drop()
         link = fake.take()
         checks.check("a session that lasted brings back the shortest pause", grows(pauses[:3]) and grows(pauses_of(engine)[3:]), pauses_of(engine))
+    with opened(engine, "longestPause: 20000") as (fake, link):
+        for _ in range(3):
+            run("await soon(() => false, 0.3)")
+            link.drop()
+            link = fake.take()
+        checks.check("one that lasted for less than the longest pause doesn't", len(pauses_of(engine)) == 3 and grows(pauses_of(engine)), pauses_of(engine))
+    with opened(engine, "longestPause: 60000") as (fake, link):
+        for _ in range(2):
+            run("await soon(() => false, 0.5); it.send('/topic/room', 'x')")
+            link.refuse("E12 no room for the message", link.take())
+            link = fake.take()
+        run("await soon(() => it.state == 'open')")
+        link.drop()
+        fake.take()
+        seen = run("return it.states.map(([state, pause, reason]) => [state, pause > 0, Boolean(reason)]).filter(([state]) => ['refused', 'lost'].includes(state))")
+        checks.same("refusals long after each other have no pause, and a loss after them is none", seen, [["refused", False, True], ["refused", False, True], ["lost", True, False]])
+    with opened(engine, f"shortestPause: {10 * LONGER}, longestPause: 60000") as (fake, link):
+        run("it.send('/topic/room', 'x')")
+        link.refuse("E12 no room for the message", link.take())
+        link = fake.take()
+        run(f"await soon(() => false, {1.25 * 10 * LONGER / 1000}); it.send('/topic/room', 'x')")
+        link.refuse("E12 no room for the message", link.take())
+        checks.check("one within twice the pause is just after another", run("return soon(() => it.states.filter(([state]) => state == 'refused').length == 2)") and grows(pauses_of(engine), 10 * LONGER), pauses_of(engine))
+        checks.same("and has a pause", len(pauses_of(engine)), 1)
 
 
 def what_a_refusal_ends(engine, checks):
@@ -230,9 +269,16 @@ def waits_end(engine, checks):
         checks.same("and again", [(frame.command, frame.headers["transaction"]) for frame in frames], [("BEGIN", "probe"), ("ABORT", "probe")])
         checks.check("one that doesn't answer is lost", run("return soon(() => it.states.some(([state, , reason]) => state == 'lost' && /within 300 ms/.test(reason)))"))
         link = fake.take()
-        run("await soon(() => it.state == 'open'); globalThis.silent = outcome(it.send('/topic/room', 'x'))")
+        run("await soon(() => it.state == 'open'); globalThis.silent = it.send('/topic/room', 'x').catch(({ kind, message }) => [kind, message])")
         link.take()
-        checks.same("a SEND without an answer is unknown in time", run("return silent"), "unknown")
+        lost = "the connection was lost ({}) before the receipt"
+        checks.same("a SEND without an answer is unknown in time", run("return silent"), ["unknown", lost.format("no answer within 300 ms")])
+        checks.check("and its connection is closed", has_left(link))
+        link = fake.take()
+        run("await soon(() => it.state == 'open'); globalThis.cut = it.send('/topic/room', 'x').catch(({ kind, message }) => [kind, message])")
+        link.take()
+        link.close(1001)
+        checks.same("so is one whose connection is closed", run("return cut"), ["unknown", lost.format(1001)])
     with opened(engine, "waitTimeout: 300") as (fake, link):
         link.drop()
         run("await soon(() => !it.session); globalThis.late = outcome(it.send('/topic/room', 'once'))")

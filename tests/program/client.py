@@ -7,7 +7,9 @@ what is printed and told, and which frames are said, with docs/CLI.md ("The clie
 PROGRAM is the built program; without it, the one that bin/stompd leaves in crates/stompd/out.
 """
 
+import concurrent.futures
 import contextlib
+import json
 import os
 import pathlib
 import select
@@ -23,11 +25,13 @@ import time
 from lib.fake_peer import CONNECTED, Peer, close, receipt_of
 from lib.scenario import BUILT, Checks, built_program, free_port, serving, words_of
 from lib.stomp_client import Client
-from lib.wire import TEXT, message_bytes
+from lib.wire import CLOSE, PING, TEXT, message_bytes
 
 UNKNOWN = "; the server may have taken it, or not"
 # For how long nothing is said in some trials: more than a step may take, in seconds.
 QUIET = 7
+# For how long a step may last, and how long one lasts in some trials: two of these are longer.
+STEP, SLOW = 5, 2.6
 NOBODY = "no connection: nobody listens there"
 # Headers that nobody may give to `send` (docs/CLI.md).
 OWN = "send sets destination, receipt and content-length itself, and the server subscription, message-id and ack"
@@ -64,6 +68,12 @@ def held(program, broker):
     lines = subprocess.run([program, "held", broker.journal], capture_output=True, text=True, check=True).stdout.splitlines()
     assert lines[-1].endswith(" topics"), lines
     return lines[2:-1]
+
+
+def sessions(program, broker):
+    """The sessions that are open, by what `sessions` has of each."""
+    shown = subprocess.run([program, "sessions", "--json", broker.journal], capture_output=True, check=True).stdout
+    return {it["session"] for it in json.loads(shown)["sessions"]}
 
 
 @contextlib.contextmanager
@@ -198,6 +208,7 @@ def lines(program, checks):
         checks.same("a line that is too long", seen, (1, b"", told("a body has at most 65536 bytes") + told("2 lines before it were taken")))
         checks.same("and those before it", held(program, broker), ["2 22 queue /queue/a"])
         with started(program, "send", *at, stdin=subprocess.PIPE) as sender:
+            over = []
             for number, pause in enumerate((0, 0.5, 11)):
                 time.sleep(pause)
                 sender.stdin.write(b"%d\n" % number)
@@ -207,6 +218,8 @@ def lines(program, checks):
                         break
                     time.sleep(0.05)
                 checks.check(f"a line is sent at once, after {pause} s", held(program, broker)[0].startswith(f"{3 + number} "), held(program, broker))
+                over.append(sessions(program, broker))
+            checks.check("after ten seconds it goes over a new connection, and not before", over[0] == over[1] and over[2] - over[1], over)
             sender.stdin.close()
             sender.stdin = None
             checks.same("and it ends with its input", (sender.wait(10), sender.stderr.read()), (0, b""))
@@ -366,7 +379,7 @@ def timeouts(program, checks):
             checks.same("each message begins it anew", (listener.wait(10), listener.stdout.read()), (4, b"0\n1\n2\n3\n"))
     steps = [connected, lambda *_: None, receipted]
     seen, said = frames_said(program, ["listen", "/queue/a", "--timeout", "1"], *steps)
-    checks.same("it says DISCONNECT", (seen, said[2:]), ((4, b"", told(NONE)), [b"DISCONNECT\nreceipt:left\n\n\0"]))
+    checks.same("it says DISCONNECT", (seen, said[2:3]), ((4, b"", told(NONE)), [b"DISCONNECT\nreceipt:left\n\n\0"]))
 
 
 def answering(*steps):
@@ -501,20 +514,25 @@ def windows(program, checks):
         checks.same("arrive in their order", seen, (0, b"".join(b"%d\n" % number for number in range(500)), ""))
 
 
-def frames_said(program, words, *steps):
-    """What the program says to such a peer, and its ending."""
+def frames_said(program, words, *steps, given=b"", leaves=close):
+    """What the program says to such a peer, and its ending. The last is to be a close with 1000 (RFC 6455, section 7.4.1), after which the peer closes too."""
+    closes = []
 
     def act(peer):
         peer.shake()
         for step in steps:
             step(peer, peer.hear()[1])
-        close(peer)
+        with contextlib.suppress(EOFError):
+            closes.append(peer.hear())
+        leaves(peer)
         peer.wait()
 
     peer = Peer(act)
-    seen = run(program, words[0], peer.port, *words[1:])
+    seen = run(program, words[0], peer.port, *words[1:], given=given)
     peer.end()
-    return seen, [payload for _, payload in peer.heard]
+    if closes != [(CLOSE, (1000).to_bytes(2, "big"))]:
+        return seen, [*(payload for _, payload in peer.heard), f"no close with 1000: {closes}"]
+    return seen, [payload for _, payload in peer.heard[:-1]]
 
 
 def frames(program, checks):
@@ -523,6 +541,9 @@ def frames(program, checks):
     seen, said = frames_said(program, ["send", "/queue/a", "a:b", "--header", "c:d:e"], connected, receipted, receipted)
     send = b"SEND\ndestination:/queue/a\nreceipt:sent\ncontent-length:3\nc:d\\ce\n\na:b\0"
     checks.same("of one who sends", (seen, said), ((0, b"", ""), [connect, send, leave]))
+    seen, said = frames_said(program, ["send", "/queue/a", "--lines"], connected, lambda peer, _: peer.say(receipt(1)), receipted, given=b"one\n")
+    line = b"SEND\ndestination:/queue/a\nreceipt:1\ncontent-length:3\n\none\0"
+    checks.same("of one who sends a line", (seen, said), ((0, b"", ""), [connect, line, leave]))
     seen, said = frames_said(program, ["forget", "c", "n"], connected, receipted, receipted)
     forget = b"UNSUBSCRIBE\nactivemq.subscriptionName:n\nreceipt:sent\n\n\0"
     named = connect.replace(b"\n\n", b"\nclient-id:c\n\n")
@@ -541,6 +562,9 @@ def frames(program, checks):
         steps = [connected, saying(three), *[lambda *_: None for _ in acks], receipted]
         seen, said = frames_said(program, ["listen", *words], *steps)
         checks.same(f"of one who listens by {words}", (seen, said[1:]), ((0, b"one\ntwo\n", ""), [subscribe, *acks, leave]))
+    for what, leaves, text in (("isn't answered", lambda _: None, "no answer within 5 s"), ("finds the end", lambda peer: peer.socket.shutdown(2), "the connection has ended")):
+        seen, _ = frames_said(program, ["listen", "/queue/a", "--count", "1"], connected, saying(message(b"x", 1)), receipted, leaves=leaves)
+        checks.same(f"a listener's close {what}", seen, (1, b"x\n", told(f"no close: {text}")))
     for what, payload, text in (
         ("a message without ack", message(b"x", 7).replace(b"ack:7\n", b""), "what came is no STOMP"),
         ("an ERROR", ERROR, "ERROR: E12 no room for the message"),
@@ -626,6 +650,90 @@ def trickles(program, checks):
         checks.check("after five seconds", 4.5 < took < QUIET, took)
 
 
+def slow_steps(program):
+    """What a ping ends with each of whose steps takes its time: the handshake, CONNECTED, two RECEIPTs and the close."""
+
+    def act(peer):
+        time.sleep(SLOW)
+        peer.shake()
+        for step in (connected, receipted, receipted, lambda peer, _: close(peer)):
+            payload = peer.hear()[1]
+            time.sleep(SLOW)
+            step(peer, payload)
+        peer.wait()
+
+    peer = Peer(act)
+    seen = run(program, "ping", peer.port)
+    peer.end()
+    return seen
+
+
+def slow_receipts(program):
+    """What two lines end with that are sent at once, and whose RECEIPTs take their time one after the other."""
+
+    def act(peer):
+        peer.shake()
+        connected(peer, peer.hear())
+        peer.hear()
+        for number in (1, 2):
+            time.sleep(SLOW)
+            peer.say(receipt(number))
+            if number == 1:
+                peer.hear()
+        receipted(peer, peer.hear()[1])
+        close(peer)
+        peer.wait()
+
+    peer = Peer(act)
+    seen = run(program, "send", peer.port, "/queue/a", "--lines", given=b"one\ntwo\n")
+    peer.end()
+    return seen
+
+
+def no_receipt_but_pings(program):
+    """What a line ends with that has no RECEIPT, and after how long: the server pings each second."""
+
+    def act(peer):
+        peer.shake()
+        connected(peer, peer.hear())
+        peer.hear()
+        for _ in range(4 * STEP):
+            peer.say(b"", PING)
+            time.sleep(1)
+
+    peer, began = Peer(act), time.monotonic()
+    seen = run(program, "send", peer.port, "/queue/a", "--lines", given=b"one\n")
+    took = time.monotonic() - began
+    peer.end()
+    return seen, took
+
+
+def no_connection(program):
+    """What a ping ends with whose connection is neither taken nor refused, and after how long."""
+    with contextlib.ExitStack() as stack:
+        listener = stack.enter_context(socket.create_server(("127.0.0.1", 0), backlog=0))
+        # They fill its queue.
+        for _ in range(4):
+            waiting = stack.enter_context(socket.socket())
+            waiting.setblocking(False)
+            waiting.connect_ex(listener.getsockname())
+        began = time.monotonic()
+        return run(program, "ping", listener.getsockname()[1]), time.monotonic() - began
+
+
+WAITS = (slow_steps, slow_receipts, no_receipt_but_pings, no_connection)
+
+
+def waits(checks, stepped, received, pinged, connected_to):
+    """Each step has its own five seconds, and a ping of the server is none (docs/CLI.md, "Pings" and "Lines")."""
+    checks.check(f"each step of a ping may take {SLOW} s", stepped[0] == 0 and stepped[2] == "", stepped)
+    checks.same(f"each RECEIPT of lines may take {SLOW} s after the one before", received, (0, b"", ""))
+    checks.same("a line without a RECEIPT", pinged[0], (1, b"", told("no RECEIPT: no answer within 5 s" + UNKNOWN) + told("0 lines before it were taken")))
+    checks.check("is no longer waited for though the server pings", pinged[1] < 3 * STEP, pinged[1])
+    checks.same("a connection that nobody takes", connected_to[0], (1, b"", told("no connection: no answer within 5 s")))
+    checks.check("is no longer waited for", STEP - 0.5 < connected_to[1] < 3 * STEP, connected_to[1])
+
+
 def addresses(program, checks):
     """A URL without a port is of port 80, an address of IPv6 stands in brackets, and a host may have several addresses."""
     for where, port, url in (("127.0.0.1", 80, "ws://127.0.0.1/"), ("::1", 0, "ws://[::1]:{}/")):
@@ -666,8 +774,12 @@ def main():
     signal.signal(signal.SIGINT, signal.default_int_handler)
     program = built_program(words_of(__doc__, BUILT).parse_args())
     checks, start = Checks(), time.monotonic()
+    # These mostly wait, so the others run meanwhile.
+    pool = concurrent.futures.ThreadPoolExecutor()
+    waiting = [pool.submit(it, program) for it in WAITS]
     for scenario in (helps, bad_words, bodies, receipts, lines, peeks, durables, ends, restarts, timeouts, peers, windows, frames, farewells, patience, trickles, addresses):
         scenario(program, checks)
+    waits(checks, *(it.result() for it in waiting))
     print(f"{checks.failed} checks failed, in {time.monotonic() - start:.0f} s")
     sys.exit(1 if checks.failed else 0)
 

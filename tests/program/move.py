@@ -7,6 +7,7 @@ program are killed at any moment. Compares with docs/CLI.md ("The client") and S
 PROGRAM is the built program; without it, the one that bin/stompd leaves in crates/stompd/out.
 """
 
+import concurrent.futures
 import contextlib
 import fcntl
 import os
@@ -22,9 +23,13 @@ import time
 from lib.fake_peer import CONNECTED, Peer, receipt_of
 from lib.scenario import BUILT, Checks, built_program, free_port, serving, words_of
 from lib.stomp_client import Client
-from lib.wire import BINARY, CLOSE, message_bytes, take_frame
+from lib.wire import BINARY, CLOSE, PING, message_bytes, take_frame
 
 COUNT = 100
+# After how many seconds of waiting for a message it connects to the other server anew, which pings meanwhile and is not answered.
+STALE = 10
+# For how many seconds no message may come in a trial.
+SPAN = 4
 # What the server writes anew into each MESSAGE, and what a message does not keep (docs/PROTOCOL.md, "The broker").
 ANEW = ("destination", "receipt", "transaction", "content-length", "subscription", "message-id", "ack")
 NOT_COUNTED = "; one more message may be moved, or not"
@@ -359,6 +364,7 @@ def frames(program, checks):
         ("the end", ending, "no RECEIPT: the connection has ended" + NOT_COUNTED),
         ("the RECEIPT of another frame", saying(b"RECEIPT\nreceipt-id:2\n\n\0"), "no RECEIPT: RECEIPT came" + NOT_COUNTED),
         ("an ERROR", saying(b"ERROR\nmessage:E12 no room for the message\nreceipt-id:1\n\n\0"), "no RECEIPT: ERROR: E12 no room for the message" + STAYS),
+        ("what is no STOMP", saying(b"hello\n\n\0"), "no RECEIPT: what came is no STOMP" + NOT_COUNTED),
     ):
         seen, said = said_to(program, Peer(answering(connected, saying(two), answer)))
         checks.same(f"a COMMIT is answered by {what}", (seen, said), ((1, "moved 0 messages\n", told(text)), wanted[:3]))
@@ -380,6 +386,8 @@ def far_frames(program, checks):
     for what, answer, text in (
         ("the end", ending, "no RECEIPT: the connection has ended" + TWICE),
         ("an ERROR", saying(b"ERROR\nmessage:E8 bad destination\nreceipt-id:1\n\n\0"), "no RECEIPT: ERROR: E8 bad destination" + STAYS),
+        ("the RECEIPT of another frame", saying(b"RECEIPT\nreceipt-id:2\n\n\0"), "no RECEIPT: RECEIPT came" + TWICE),
+        ("what is no STOMP", saying(b"hello\n\n\0"), "no RECEIPT: what came is no STOMP" + TWICE),
     ):
         there = Peer(answering(connected, answer))
         seen, said = said_to(program, Peer(answering(connected, saying(two))), "--to", there.port)
@@ -389,6 +397,87 @@ def far_frames(program, checks):
     seen, said = said_to(program, Peer(answering(connected, saying(two), ending)), "--to", there.port)
     there.end()
     checks.same("the ACK is answered by the end", (seen, said[2:]), ((1, "moved 0 messages\n", told("no RECEIPT: the connection has ended" + TWICE)), [ack % (7, 1)]))
+    there = Peer(answering(connected, receipted, receipted))
+    here = Peer(answering(connected, saying(delivery(7, b"x\0y\xff", MORE)), receipted, receipted))
+    seen = run(program, "move", here.port, "/topic/a", "/queue/b", "--to", there.port, "--count", 2, "--timeout", 1, *DURABLE)
+    here.end()
+    there.end()
+    checks.same("the client-id is that of a client here, and not there", ([b"client-id:kiosk\n" in it for it in frames_to(here)[:1]], frames_to(there)), ([True], [CONNECT, send, LEAVE]))
+    checks.same("both sessions end in good order though a message is missing", (seen, frames_to(here)[-1]), ((4, "moved 1 messages\n", told(NONE)), LEAVE))
+    checks.same("and are closed", (here.heard[-1][0], there.heard[-1][0]), (CLOSE, CLOSE))
+
+
+def renewed(program):
+    """With --to, where a message comes after more than ten seconds: what the program ended with, and the frames on each connection to the other server."""
+    heard = []
+
+    def twice(peer):
+        peer.shake()
+        connected(peer, peer.hear())
+        with contextlib.suppress(EOFError):
+            receipted(peer, peer.hear()[1])
+            peer.hear()
+        heard.append(frames_to(peer))
+        peer.listener.settimeout(1)
+        with contextlib.suppress(TimeoutError):
+            peer.stream.close()
+            peer.socket.close()
+            peer.socket, _ = peer.listener.accept()
+            peer.socket.settimeout(30)
+            peer.stream, peer.buffer, peer.heard = peer.socket.makefile("rb"), bytearray(), []
+            answering(connected, receipted, receipted)(peer)
+            heard.append(frames_to(peer))
+
+    def late(peer, _):
+        time.sleep(STALE + 1)
+        peer.say(delivery(7, b""), BINARY)
+
+    there = Peer(twice)
+    seen, _ = said_to(program, Peer(answering(connected, late, receipted, receipted)), "--to", there.port, "--count", 1, "--timeout", 60)
+    there.end()
+    return seen, heard, there.fault
+
+
+def with_pings(program):
+    """What a move ends with that no message comes for, and after how long: the server pings twice a second, for twenty seconds."""
+
+    def pings(peer):
+        peer.shake()
+        connected(peer, peer.hear())
+        peer.hear()
+        for _ in range(40):
+            peer.say(b"", PING)
+            if not select.select([peer.socket], [], [], 0.5)[0]:
+                continue
+            # Pongs come too, of which `hear` would wait for what comes next.
+            peer.buffer += peer.stream.read1(65_536)
+            while frame := take_frame(peer.buffer, is_masked=True):
+                if frame[2] == LEAVE:
+                    peer.say(receipt_of(LEAVE))
+                    peer.hear()
+                    return
+            time.sleep(0.5)
+
+    peer, start = Peer(pings), time.monotonic()
+    seen, _ = said_to(program, peer, "--timeout", 1)
+    return seen, time.monotonic() - start
+
+
+def one_after_another(program):
+    """What a move of all ends with whose messages come one after another, each in half of the time that none may come for."""
+
+    def act(peer):
+        peer.shake()
+        connected(peer, peer.hear())
+        peer.hear()
+        for number in range(1, 4):
+            time.sleep(SPAN / 2)
+            peer.say(delivery(number, b""), BINARY)
+            receipted(peer, peer.hear()[1])
+        receipted(peer, peer.hear()[1])
+        peer.hear()
+
+    return said_to(program, Peer(act), "--timeout", SPAN)[0]
 
 
 def bad_words(program, checks):
@@ -442,8 +531,17 @@ def broken_pipe(program, checks):
 def main():
     program = built_program(words_of(__doc__, BUILT).parse_args())
     checks, start = Checks(), time.monotonic()
+    # These mostly wait, so the others run meanwhile.
+    waits = concurrent.futures.ThreadPoolExecutor()
+    renewal, pinged, slow = (waits.submit(it, program) for it in (renewed, with_pings, one_after_another))
     for scenario in (bad_words, frames, far_frames, moves, many_headers, to_another, killed_server, killed_mover, killed_between, broken_pipe):
         scenario(program, checks)
+    send = b"SEND\ndestination:/queue/b\nreceipt:1\ncontent-length:0\n\n\0"
+    wanted = ((0, "moved 1 messages\n", ""), [[CONNECT], [CONNECT, send, LEAVE]], None)
+    checks.same(f"after {STALE} seconds without a message the other server is connected to anew", renewal.result(), wanted)
+    ended, took = pinged.result()
+    checks.check("pings are no messages, so it ends in time", ended == (0, "moved 0 messages\n", "") and took < 10, (ended, took))
+    checks.same("each message begins the time anew in which none may come", slow.result(), (0, "moved 3 messages\n", ""))
     print(f"{checks.failed} checks failed, in {time.monotonic() - start:.0f} s")
     sys.exit(1 if checks.failed else 0)
 

@@ -124,6 +124,16 @@ def beside(file):
     return sorted(it.name for it in file.parent.iterdir() if it.name.startswith(f"{file.name}."))
 
 
+def group_of(start):
+    """The processes of a start's group, by what they were called with. Those that have ended have no words."""
+    found = []
+    for words in pathlib.Path("/proc").glob("[0-9]*/cmdline"):
+        with contextlib.suppress(OSError):
+            if os.getpgid(int(words.parent.name)) == start.process.pid and (said := words.read_bytes()):
+                found.append(said.replace(b"\0", b" ").decode(errors="replace").strip())
+    return found
+
+
 def wait_until(holds, seconds=PATIENCE):
     end = time.monotonic() + seconds
     while not holds():
@@ -308,7 +318,11 @@ def servers_that_end_late(checks):
     start.process.send_signal(signal.SIGTERM)
     time.sleep(0.3)
     checks.same("a second signal while its server ends changes nothing", start.end(signal.SIGTERM)[0], 143)
-    checks.check("its server has ended by itself, and is no longer waited for", done.exists() and time.monotonic() - sent < GRACE, time.monotonic() - sent)
+    ended = time.monotonic()
+    checks.check("its server has ended by itself, and is no longer waited for", done.exists() and ended - sent < GRACE, ended - sent)
+    with contextlib.suppress(AssertionError):
+        wait_until(lambda: not group_of(start), GRACE / 2)
+    checks.same("nor is anything else of it left, which would wait until then", group_of(start), [])
     began.unlink()
     deaf = checks.stand_in(f': > "{began}"; exec sleep 600')
     start = Start(deaf, file, free_port())
