@@ -178,6 +178,11 @@ def bodies(program, checks):
         checks.same("no body", run(program, "send", *at), nothing)
         closed = subprocess.run(["sh", "-c", 'exec "$@" <&-', "sh", program, "send", *map(str, at)], capture_output=True, timeout=60)
         checks.same("no body on a closed standard input", (closed.returncode, closed.stdout, closed.stderr.decode()), nothing)
+        folder = os.open("/", os.O_RDONLY)
+        for more, rest in (([], ""), (["--lines"], told("0 lines before it were taken"))):
+            unread = subprocess.run([program, "send", *map(str, at), *more], stdin=folder, capture_output=True, timeout=60)
+            checks.same(f"standard input that can't be read {more}", (unread.returncode, unread.stdout, unread.stderr.decode()), (1, b"", told("input or output failed") + rest))
+        os.close(folder)
         seen = run(program, "send", broker.port, "/nowhere", "x")
         checks.same("a bad destination", seen, (1, b"", told("no RECEIPT: ERROR: E8 bad destination")))
         checks.same("a bad destination is listened to", run(program, "listen", broker.port, "/nowhere"), (1, b"", told("no more messages: ERROR: E8 bad destination")))
@@ -541,8 +546,8 @@ def frames(program, checks):
     seen, said = frames_said(program, ["send", "/queue/a", "a:b", "--header", "c:d:e"], connected, receipted, receipted)
     send = b"SEND\ndestination:/queue/a\nreceipt:sent\ncontent-length:3\nc:d\\ce\n\na:b\0"
     checks.same("of one who sends", (seen, said), ((0, b"", ""), [connect, send, leave]))
-    seen, said = frames_said(program, ["send", "/queue/a", "--lines"], connected, lambda peer, _: peer.say(receipt(1)), receipted, given=b"one\n")
-    line = b"SEND\ndestination:/queue/a\nreceipt:1\ncontent-length:3\n\none\0"
+    seen, said = frames_said(program, ["send", "/queue/a", "--lines", "--header", "c:d:e"], connected, lambda peer, _: peer.say(receipt(1)), receipted, given=b"one\n")
+    line = b"SEND\ndestination:/queue/a\nreceipt:1\ncontent-length:3\nc:d\\ce\n\none\0"
     checks.same("of one who sends a line", (seen, said), ((0, b"", ""), [connect, line, leave]))
     seen, said = frames_said(program, ["forget", "c", "n"], connected, receipted, receipted)
     forget = b"UNSUBSCRIBE\nactivemq.subscriptionName:n\nreceipt:sent\n\n\0"

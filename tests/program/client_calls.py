@@ -7,6 +7,7 @@ before the end of a connection count, though a write has found that end. A write
 PROGRAM is the built program; without it, the one that bin/stompd leaves in crates/stompd/out. It needs Python 3 and strace, and takes a second.
 """
 
+import os
 import re
 import shutil
 import subprocess
@@ -96,6 +97,14 @@ def a_write_that_waits(program, checks):
     checks.check("at once", took < STEP / 2, took)
 
 
+def no_null(program, checks):
+    """Without /dev/null, which holds the numbers of closed streams, the program reports that."""
+    words = ["strace", "-f", "-qq", "-o", os.devnull, "-P", os.devnull, "-e", "inject=openat:error=EACCES", program, "--version"]
+    done = subprocess.run(words, stdin=subprocess.PIPE, capture_output=True, timeout=60)
+    wanted = (1, b"", b"stompd: cannot open: /dev/null: permission denied\n")
+    checks.same("a /dev/null that can't be opened is reported", (done.returncode, done.stdout, done.stderr), wanted)
+
+
 def main():
     program = built_program(words_of(__doc__, BUILT).parse_args())
     if shutil.which("strace") is None:
@@ -105,6 +114,7 @@ def main():
     limits(program, checks)
     receipts_before_the_end(program, checks)
     a_write_that_waits(program, checks)
+    no_null(program, checks)
     return checks.status()
 
 

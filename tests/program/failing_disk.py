@@ -91,6 +91,21 @@ def formatting(checks):
             checks.same(f"{what}: what is there", [it for it in (path, path + ".new") if os.path.exists(it)], [])
 
 
+def naming(checks):
+    """The folder that gets a new file is synced last, and `show` opens a journal for reading alone."""
+    path = checks.path("opened")
+    for name, where in ((path, "/"), ("bare", checks.folder)):
+        words = ["strace", "-f", "-y", "-o", checks.path("trace"), "-e", "trace=fsync", checks.program, "format", name, SMALLEST]
+        subprocess.run(words, cwd=where, check=True)
+        synced = re.findall(r"fsync\(\d+<([^>]*)>\) += 0", pathlib.Path(checks.path("trace")).read_text())
+        checks.same(f"what is synced last of {name}", synced[-1:], [os.path.realpath(checks.folder)])
+    words = ["strace", "-f", "-o", checks.path("trace"), "-P", path, "-e", "trace=open,openat", checks.program]
+    for subcommand in ("show", "held", "sessions"):
+        subprocess.run([*words, subcommand, path], check=True, stdout=subprocess.DEVNULL)
+        opened = re.findall(r"O_(?:RDONLY|WRONLY|RDWR)", pathlib.Path(checks.path("trace")).read_text())
+        checks.same(f"how {subcommand} opens a journal", set(opened), {"O_RDONLY"})
+
+
 def linking(checks):
     """A file system without hard links is told, and a file that took the name meanwhile stays."""
     for error in ("EPERM", "EOPNOTSUPP", "ENOSYS", "EMLINK"):
@@ -367,7 +382,7 @@ def main():
         return 2
     with tempfile.TemporaryDirectory() as name:
         checks = Checks(str(program), pathlib.Path(name).resolve())
-        for part in (formatting, linking, filling, progress, swapping, limiting, what_is_no_file, showing, locking, opening, slow_opening, storing, asleep, losing):
+        for part in (formatting, naming, linking, filling, progress, swapping, limiting, what_is_no_file, showing, locking, opening, slow_opening, storing, asleep, losing):
             part(checks)
     return checks.status()
 

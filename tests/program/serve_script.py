@@ -15,7 +15,7 @@ Needs Linux and Python 3 alone; the gate does not run it.
 - A server is waited for, a second signal changes nothing, and one that doesn't end is killed after eight seconds.
 - A build that fails or is broken off ends it, and with --proved only a proved program serves.
 - It goes on if nobody reads what is logged any more, serves though standard error was full before, and ends in good order if a signal comes
-  to all of its process group.
+  to all of its process group. If it is killed, its server ends in good order.
 
 PROGRAM is the built program; without it, the one that bin/stompd leaves in crates/stompd/out. With --few there are fewer moments and pairs, since each
 first start writes 512 MiB.
@@ -389,6 +389,29 @@ def a_signal_to_the_group(checks):
         checks.same("it ends as by one to itself", start.end(), (status, f"stompd: made the journal {file}\n"))
 
 
+def a_killed_script(checks):
+    """If the script is killed, the server ends in the same way: nobody else holds the other end of its input, and the server has no more of the script's."""
+    file, port = new_file(checks), free_port()
+    subprocess.run([checks.program, "format", "--sparse", file, "64M"], check=True)
+    (file.parent / "VERSION").write_text("stompd 1.2.3, not proved\n", encoding="utf-8")
+    shutil.copy2(checks.program, file.parent / "program")
+    # The line of the version waits, since standard error is full.
+    reads, writes = full_pipe()
+    start = Start(file.parent / "program", file, port, errors=writes)
+    checks.check("it serves", start.listens())
+    server = child_with(start, "serve")
+    held = {it.name: os.readlink(it) for it in pathlib.Path(f"/proc/{server}/fd").iterdir()}
+    checks.same("its server has one file of the script, its input", [it for it in held if held[it].endswith(" (deleted)")], ["0"])
+    client = Client(port).connect()
+    start.process.kill()
+    checks.same("its clients are closed with 1001 if it is killed", client.to_the_end()[1], 1001)
+    with contextlib.suppress(AssertionError):
+        wait_until(lambda: child_with(start, "serve") is None, GRACE)
+    checks.same("and its server ends", child_with(start, "serve"), None)
+    os.close(reads)
+    os.close(writes)
+
+
 def builds(checks):
     """A copy of the script stands beside a stand-in for bin/build."""
     top, file, port = pathlib.Path(tempfile.mkdtemp(dir=checks.folder)), new_file(checks), free_port()
@@ -448,6 +471,11 @@ def an_archive(checks):
     checks.check("the program beside the script serves", start.listens())
     checks.same("it is that program", os.readlink(f"/proc/{child_with(start, 'serve')}/exe"), str(top / "stompd"))
     checks.same("and ends", start.end(signal.SIGTERM)[0], 143)
+    link = file.parent / "linked"
+    link.symlink_to(script)
+    start = Start(None, file, port, script=link)
+    checks.check("by a link to the script too", start.listens())
+    checks.same("which ends so", start.end(signal.SIGTERM)[0], 143)
 
 
 SCENARIOS = [
@@ -460,6 +488,7 @@ SCENARIOS = [
     servers_that_end_late,
     nobody_reads,
     a_signal_to_the_group,
+    a_killed_script,
     builds,
     an_archive,
 ]

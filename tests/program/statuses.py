@@ -8,6 +8,7 @@ PROGRAM is the built program; without it, the one that bin/stompd leaves in crat
 """
 
 import errno
+import fcntl
 import json
 import os
 import pathlib
@@ -150,6 +151,14 @@ def places(checks, folder):
     checks.run(["format", "most", str(LIMITED)], 0, NOTHING, NOTHING, cwd=folder, preexec_fn=limit)
     checks.run(["format", "more", str(LIMITED + 1)], 1, NOTHING, unopened("more", "no file may be so large here"), cwd=folder, preexec_fn=limit)
     checks.same("what was refused has left nothing", sorted(it.name for it in folder.glob("mo*")), ["most"])
+    (folder / "link").symlink_to(folder / "nothing")
+    with open(folder / "locked.new", "wb") as other:
+        fcntl.flock(other, fcntl.LOCK_EX)
+        for words in (["format"], ["copy", "bare"]):
+            checks.run([*words, "link", str(LIMITED)], 1, NOTHING, unopened("link", "it is there already"), cwd=folder)
+            checks.run([*words, "locked", str(LIMITED)], 1, NOTHING, unopened("locked.new", "it is locked, since another stompd makes the file"), cwd=folder)
+    left = [(folder / it).exists() for it in ("nothing", "locked", "locked.new")]
+    checks.same("a link to nothing leads nowhere still, and what another one makes stays", left, [False, False, True])
 
 
 def broken(folder):
