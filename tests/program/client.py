@@ -25,7 +25,7 @@ import time
 from lib.fake_peer import CONNECTED, Peer, close, receipt_of
 from lib.scenario import BUILT, Checks, built_program, free_port, serving, words_of
 from lib.stomp_client import Client
-from lib.wire import CLOSE, PING, TEXT, message_bytes
+from lib.wire import CLOSE, PING, PONG, TEXT, message_bytes
 
 UNKNOWN = "; the server may have taken it, or not"
 # For how long nothing is said in some trials: more than a step may take, in seconds.
@@ -102,6 +102,7 @@ def helps(program, checks):
         checks.check(f"the usage of {command}", (status, printed) == (2, b"") and usage in text, text)
         for option in options:
             checks.check(f"the help of {command} has {option}", f" {option} " in text.replace("\n", " \n"), text)
+            checks.check(f"{command} names the status of {option}", "--timeout" not in option or "status 4" in " ".join(text.split()), text)
         checks.same(f"help {command} prints the same", run(program, "help", command), (0, text.encode(), ""))
     checks.same("help prints the program's", run(program, "help"), (0, whole.encode(), ""))
     for words in (["relay"], ["send", "relay"], ["--send"]):
@@ -214,7 +215,7 @@ def lines(program, checks):
         checks.same("and those before it", held(program, broker), ["2 22 queue /queue/a"])
         with started(program, "send", *at, stdin=subprocess.PIPE) as sender:
             over = []
-            for number, pause in enumerate((0, 0.5, 11)):
+            for number, pause in enumerate((0, 0.5, 13)):
                 time.sleep(pause)
                 sender.stdin.write(b"%d\n" % number)
                 sender.stdin.flush()
@@ -428,6 +429,7 @@ UNSENT = {
     "the RECEIPT of another frame": (saying(b"RECEIPT\nreceipt-id:another\n\n\0"), "no RECEIPT: RECEIPT came" + UNKNOWN),
     "an ERROR": (saying(ERROR), "no RECEIPT: ERROR: E12 no room for the message"),
     "a close": (lambda peer, _: close(peer, 1001), "no RECEIPT: closed with 1001" + UNKNOWN),
+    "a close without a code": (lambda peer, _: peer.say(b"", CLOSE), "no RECEIPT: closed with 1005" + UNKNOWN),
     "the end": (ending, "no RECEIPT: the connection has ended" + UNKNOWN),
     "nothing": (lambda *_: None, "no RECEIPT: no answer within 5 s" + UNKNOWN),
     "what is no STOMP": (saying(b"hello\n\n\0"), "no RECEIPT: what came is no STOMP" + UNKNOWN),
@@ -441,6 +443,12 @@ def peers(program, checks):
         seen = run(program, "send", peer.port, "/queue/a", "x")
         peer.end()
         checks.same(f"a SEND is answered by {what}", (seen, peer.fault), ((1, b"", told(text)), None))
+    seen, _ = frames_said(program, ["send", "/queue/a", "x"], connected, lambda peer, frame: peer.say(b"alive", PONG) or receipted(peer, frame), receipted)
+    checks.same("a Pong that nobody asked for (RFC 6455, section 5.5.3) changes nothing", seen, (0, b"", ""))
+    peer = Peer(answering(connected, ending))
+    seen = run(program, "listen", peer.port, "/topic/a", "--durable", "c", "n", "--once")
+    peer.end()
+    checks.same("with --once a durable name is not listened to again", seen, (1, b"", told("no more messages: the connection has ended")))
     peer = Peer(answering(connected, receipted, ending))
     seen = run(program, "send", peer.port, "/queue/a", "--lines", given=b"one\ntwo\nthree\n")
     peer.end()
@@ -581,7 +589,7 @@ def frames(program, checks):
         peer.end()
         checks.same(f"to listen is answered by {what}", (seen, len(peer.heard)), ((1, b"", told(f"no more messages: {text}")), 2))
     peer = Peer(answering(connected, saying(message(b"x\0y\nz", 1).replace(b"ack:1", b"ack:1\na\\cb:c\\nd%"))))
-    with started(program, "listen", peer.port, "/queue/a", "--headers") as listener:
+    with started(program, "listen", peer.port, "/queue/a", "--settle", "--headers") as listener:
         wanted = b"subscription:heard\nmessage-id:1.0\ndestination:/queue/a\nack:1\na:b:c%0Ad%25\ncontent-length:5\n\nx\0y\nz\n"
         checks.same("headers are printed, each on its line", listener.stdout.read(len(wanted)), wanted)
     peer.end()

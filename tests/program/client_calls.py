@@ -1,6 +1,7 @@
 #!/usr/bin/env python3
 """The system calls of the program's client, by strace: each read and write of its socket has a time limit of five seconds at most, and RECEIPTs that came
-before the end of a connection count, though a write has found that end. A write of `move` that takes too long ends it.
+before the end of a connection count, though a write has found that end. A write of `move` that takes too long ends it. Without
+/dev/null no command runs.
 
     python3 tests/program/client_calls.py [PROGRAM]
 
@@ -42,6 +43,13 @@ def answers(peer):
         peer.say(receipt_of(peer.hear()[1]))
 
 
+def limit_in(line, kind):
+    """How many seconds a call of that kind may take from this line of a trace on, if it says so."""
+    found = re.search(rf"SO_{kind}TIMEO\w*, \"((?:\\x[0-9a-f]{{2}}){{16}})\"", line)
+    span = bytes.fromhex(found[1].replace("\\x", "")) if found else b""
+    return int.from_bytes(span[:8], "little") + int.from_bytes(span[8:], "little") / 1e6 if found else None
+
+
 def limits(program, checks):
     """No read and no write of the socket may take longer than a step."""
     peer = Peer(answers)
@@ -49,10 +57,9 @@ def limits(program, checks):
     peer.end()
     limit, counts = {"sendto": None, "recvfrom": None}, {"sendto": 0, "recvfrom": 0}
     for line in trace:
-        if found := re.search(r"SO_(SND|RCV)TIMEO\w*, \"((?:\\x[0-9a-f]{2}){16})\"", line):
-            span = bytes.fromhex(found[2].replace("\\x", ""))
-            limit["sendto" if found[1] == "SND" else "recvfrom"] = int.from_bytes(span[:8], "little") + int.from_bytes(span[8:], "little") / 1e6
-        elif found := re.search(r"\b(sendto|recvfrom)\(", line):
+        for kind, call in (("SND", "sendto"), ("RCV", "recvfrom")):
+            limit[call] = seconds if (seconds := limit_in(line, kind)) is not None else limit[call]
+        if found := re.search(r"\b(sendto|recvfrom)\(", line):
             counts[found[1]] += 1
             checks.check(f"call {counts[found[1]]} of {found[1]} has a limit", limit[found[1]] is not None and 0 < limit[found[1]] <= STEP, limit[found[1]])
     checks.check("small packets are sent at once (TCP_NODELAY)", any(re.search(r"TCP_NODELAY, \[1\]", line) for line in trace))
@@ -97,6 +104,32 @@ def a_write_that_waits(program, checks):
     checks.check("at once", took < STEP / 2, took)
 
 
+def silence(program, checks):
+    """A read of a listener may take 90 seconds, or what `--timeout` leaves if that is less; so it ends by what its time was."""
+
+    def connects(peer):
+        peer.shake()
+        peer.hear()
+        peer.say(CONNECTED)
+        peer.hear()
+        if b"DISCONNECT" in peer.hear()[1]:
+            peer.say(b"RECEIPT\nreceipt-id:left\n\n\0")
+            peer.wait()
+
+    for more, least, most, wanted in (
+        ([], 80, 90, (1, "stompd: no more messages: nothing came for 90 s\n")),
+        (["--timeout", "60"], 50, 60, (4, "stompd: no more messages: none came within --timeout\n")),
+        (["--timeout", "900"], 80, 90, (1, "stompd: no more messages: nothing came for 90 s\n")),
+    ):
+        peer = Peer(connects)
+        # The handshake and CONNECTED are read; the read after them finds its time over.
+        seen, trace = traced(program, ["listen", str(peer.port), "/queue/a", *more], b"", "-e", "inject=recvfrom:error=EAGAIN:when=3")
+        peer.end()
+        limits = [seconds for it in trace if (seconds := limit_in(it, "RCV")) is not None and seconds > STEP]
+        checks.check(f"a read of a listener with {more} may take long", len(limits) == 1 and least < limits[0] <= most, limits)
+        checks.same(f"and ends it with {more}", seen, wanted)
+
+
 def no_null(program, checks):
     """Without /dev/null, which holds the numbers of closed streams, the program reports that."""
     words = ["strace", "-f", "-qq", "-o", os.devnull, "-P", os.devnull, "-e", "inject=openat:error=EACCES", program, "--version"]
@@ -114,6 +147,7 @@ def main():
     limits(program, checks)
     receipts_before_the_end(program, checks)
     a_write_that_waits(program, checks)
+    silence(program, checks)
     no_null(program, checks)
     return checks.status()
 

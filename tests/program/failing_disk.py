@@ -7,6 +7,7 @@ Python 3 alone; the gate does not run it.
 
 - If a write or a sync of `stompd format` fails, it ends with status 1 and one line, and the file is gone again. If the
   file system has no room for its zeros, the line says so.
+- The folder of a new file is synced last, and `show`, `held` and `sessions` open a journal for reading only.
 - If its name becomes a link while it is made, what that leads to stays as it is. So does a file that takes its name meanwhile. A limit on the
   size of files is told, and a file system without hard links.
 - `show`, `held` and `serve` of a directory, a FIFO or a device say so at once.

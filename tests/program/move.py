@@ -399,7 +399,7 @@ def far_frames(program, checks):
     checks.same("the ACK is answered by the end", (seen, said[2:]), ((1, "moved 0 messages\n", told("no RECEIPT: the connection has ended" + TWICE)), [ack % (7, 1)]))
     there = Peer(answering(connected, receipted, receipted))
     here = Peer(answering(connected, saying(delivery(7, b"x\0y\xff", MORE)), receipted, receipted))
-    seen = run(program, "move", here.port, "/topic/a", "/queue/b", "--to", there.port, "--count", 2, "--timeout", 1, *DURABLE)
+    seen = run(program, "move", here.port, "/topic/a", "/queue/b", "--to", there.port, "--count", 2, "--timeout", 3, *DURABLE)
     here.end()
     there.end()
     checks.same("the client-id is that of a client here, and not there", ([b"client-id:kiosk\n" in it for it in frames_to(here)[:1]], frames_to(there)), ([True], [CONNECT, send, LEAVE]))
@@ -429,7 +429,7 @@ def renewed(program):
             heard.append(frames_to(peer))
 
     def late(peer, _):
-        time.sleep(STALE + 1)
+        time.sleep(STALE + 3)
         peer.say(delivery(7, b""), BINARY)
 
     there = Peer(twice)

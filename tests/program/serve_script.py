@@ -72,7 +72,9 @@ class Checks(BriefChecks):
 
 
 def as_from_a_terminal():
-    """No signal is ignored, whatever this script was started by."""
+    """No signal is ignored, whatever this script was started by, and there are fewer descriptors than there may be."""
+    most = resource.getrlimit(resource.RLIMIT_NOFILE)[1]
+    resource.setrlimit(resource.RLIMIT_NOFILE, (most // 2, most))
     for it in STATUSES:
         signal.signal(it, signal.SIG_DFL)
 
