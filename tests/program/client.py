@@ -589,7 +589,7 @@ def frames(program, checks):
         peer.end()
         checks.same(f"to listen is answered by {what}", (seen, len(peer.heard)), ((1, b"", told(f"no more messages: {text}")), 2))
     peer = Peer(answering(connected, saying(message(b"x\0y\nz", 1).replace(b"ack:1", b"ack:1\na\\cb:c\\nd%"))))
-    with started(program, "listen", peer.port, "/queue/a", "--settle", "--headers") as listener:
+    with started(program, "listen", peer.port, "/queue/a", "--settle", "--headers", "--once") as listener:
         wanted = b"subscription:heard\nmessage-id:1.0\ndestination:/queue/a\nack:1\na:b:c%0Ad%25\ncontent-length:5\n\nx\0y\nz\n"
         checks.same("headers are printed, each on its line", listener.stdout.read(len(wanted)), wanted)
     peer.end()
