@@ -339,10 +339,16 @@ if (ws) globalThis.WebSocket = (await import(ws)).default;
 const long = { answerTimeout: 3600000, waitTimeout: 3600000, closeTimeout: 3600000, onerror() {} };
 const lost = async client => { while (client.state != "lost") await new Promise(resolve => setTimeout(resolve, 10)); };
 const ends = { close: async (url) => { const client = connect(url, long); await client.send("/topic/room", "x"); await client.close(); },
-  waits: async (_, nobody) => { const client = connect(nobody, { ...long, shortestPause: 3600000, longestPause: 3600000 }); client.send("/topic/room", "x"); await lost(client); await client.close(); },
+  waits: async (_, nobody) => {
+    const client = connect(nobody, { ...long, shortestPause: 3600000, longestPause: 3600000 });
+    client.send("/topic/room", "x"); await lost(client); await client.close();
+  },
   early: async (url) => { const client = connect(url, long); client.send("/topic/room", "x"); await client.close(); },
   asks: async () => { const client = connect(() => new Promise(() => {}), long); client.subscribe("/topic/room", () => {}); await client.close(); },
-  late: async (url) => { const client = connect(url, { ...long, answerTimeout: 100 }); await client.send("/topic/room", "x"); await new Promise(resolve => setTimeout(resolve, 300)); await client.close(); } };
+  late: async (url) => {
+    const client = connect(url, { ...long, answerTimeout: 100 });
+    await client.send("/topic/room", "x"); await new Promise(resolve => setTimeout(resolve, 300)); await client.close();
+  } };
 await ends[KIND](...URLS);
 """
 
@@ -354,7 +360,8 @@ def a_program_ends(program, folder, ws, checks):
         urls, running = [f"ws://127.0.0.1:{port}/" for port in (broker.port, scenario.free_port())], {}
         for kind in ("close", "waits", "early", "asks", "late"):
             script = folder / "node" / "examples" / f"{kind}.mjs"
-            script.write_text(LASTS.replace("WS", json.dumps(list(map(str, package))), 1).replace("KIND", json.dumps(kind)).replace("URLS", json.dumps(urls)), encoding="utf-8")
+            words = {"WS": list(map(str, package)), "KIND": kind, "URLS": urls}
+            script.write_text(re.sub(r"\b(WS|KIND|URLS)\b", lambda it: json.dumps(words[it[1]]), LASTS), encoding="utf-8")
             running[kind] = subprocess.Popen([*node, script], stdin=subprocess.DEVNULL, stderr=subprocess.PIPE, text=True)
         end = time.monotonic() + MOST_SECONDS
         for kind, process in running.items():

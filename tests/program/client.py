@@ -182,7 +182,8 @@ def bodies(program, checks):
         folder = os.open("/", os.O_RDONLY)
         for more, rest in (([], ""), (["--lines"], told("0 lines before it were taken"))):
             unread = subprocess.run([program, "send", *map(str, at), *more], stdin=folder, capture_output=True, timeout=60)
-            checks.same(f"standard input that can't be read {more}", (unread.returncode, unread.stdout, unread.stderr.decode()), (1, b"", told("input or output failed") + rest))
+            wanted = (1, b"", told("input or output failed") + rest)
+            checks.same(f"standard input that can't be read {more}", (unread.returncode, unread.stdout, unread.stderr.decode()), wanted)
         os.close(folder)
         seen = run(program, "send", broker.port, "/nowhere", "x")
         checks.same("a bad destination", seen, (1, b"", told("no RECEIPT: ERROR: E8 bad destination")))
@@ -554,7 +555,8 @@ def frames(program, checks):
     seen, said = frames_said(program, ["send", "/queue/a", "a:b", "--header", "c:d:e"], connected, receipted, receipted)
     send = b"SEND\ndestination:/queue/a\nreceipt:sent\ncontent-length:3\nc:d\\ce\n\na:b\0"
     checks.same("of one who sends", (seen, said), ((0, b"", ""), [connect, send, leave]))
-    seen, said = frames_said(program, ["send", "/queue/a", "--lines", "--header", "c:d:e"], connected, lambda peer, _: peer.say(receipt(1)), receipted, given=b"one\n")
+    steps = [connected, lambda peer, _: peer.say(receipt(1)), receipted]
+    seen, said = frames_said(program, ["send", "/queue/a", "--lines", "--header", "c:d:e"], *steps, given=b"one\n")
     line = b"SEND\ndestination:/queue/a\nreceipt:1\ncontent-length:3\nc:d\\ce\n\none\0"
     checks.same("of one who sends a line", (seen, said), ((0, b"", ""), [connect, line, leave]))
     seen, said = frames_said(program, ["forget", "c", "n"], connected, receipted, receipted)
@@ -575,7 +577,10 @@ def frames(program, checks):
         steps = [connected, saying(three), *[lambda *_: None for _ in acks], receipted]
         seen, said = frames_said(program, ["listen", *words], *steps)
         checks.same(f"of one who listens by {words}", (seen, said[1:]), ((0, b"one\ntwo\n", ""), [subscribe, *acks, leave]))
-    for what, leaves, text in (("isn't answered", lambda _: None, "no answer within 5 s"), ("finds the end", lambda peer: peer.socket.shutdown(2), "the connection has ended")):
+    for what, leaves, text in (
+        ("isn't answered", lambda _: None, "no answer within 5 s"),
+        ("finds the end", lambda peer: peer.socket.shutdown(2), "the connection has ended"),
+    ):
         seen, _ = frames_said(program, ["listen", "/queue/a", "--count", "1"], connected, saying(message(b"x", 1)), receipted, leaves=leaves)
         checks.same(f"a listener's close {what}", seen, (1, b"x\n", told(f"no close: {text}")))
     for what, payload, text in (

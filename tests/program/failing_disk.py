@@ -383,7 +383,8 @@ def main():
         return 2
     with tempfile.TemporaryDirectory() as name:
         checks = Checks(str(program), pathlib.Path(name).resolve())
-        for part in (formatting, naming, linking, filling, progress, swapping, limiting, what_is_no_file, showing, locking, opening, slow_opening, storing, asleep, losing):
+        parts = (formatting, naming, linking, filling, progress, swapping, limiting, what_is_no_file)
+        for part in (*parts, showing, locking, opening, slow_opening, storing, asleep, losing):
             part(checks)
     return checks.status()
 

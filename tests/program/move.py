@@ -402,7 +402,8 @@ def far_frames(program, checks):
     seen = run(program, "move", here.port, "/topic/a", "/queue/b", "--to", there.port, "--count", 2, "--timeout", 3, *DURABLE)
     here.end()
     there.end()
-    checks.same("the client-id is that of a client here, and not there", ([b"client-id:kiosk\n" in it for it in frames_to(here)[:1]], frames_to(there)), ([True], [CONNECT, send, LEAVE]))
+    checks.check("the client-id is that of a client here", b"client-id:kiosk\n" in frames_to(here)[0], frames_to(here))
+    checks.same("and not there", frames_to(there), [CONNECT, send, LEAVE])
     checks.same("both sessions end in good order though a message is missing", (seen, frames_to(here)[-1]), ((4, "moved 1 messages\n", told(NONE)), LEAVE))
     checks.same("and are closed", (here.heard[-1][0], there.heard[-1][0]), (CLOSE, CLOSE))
 
