@@ -45,7 +45,7 @@ pub fn execute(
     Ok(())
 }
 
-/// The same, before the command is counted.
+/// The same, before the command is counted. An operation other than an Open is carried out if its session is open.
 fn carry_out(
     tables: &mut Tables,
     alloc: Global,
@@ -67,28 +67,6 @@ fn carry_out(
         open(tables, alloc, client_id, answers)?;
         return Ok(());
     }
-    execute_if_open(tables, alloc, rule, session, op, receipt, answers)
-}
-
-/// An operation other than an Open is carried out, if its session is open.
-fn execute_if_open(
-    tables: &mut Tables,
-    alloc: Global,
-    rule: NackRule,
-    session: u64,
-    op: Op,
-    receipt: Option<HeaderText>,
-    answers: &mut Answers,
-) -> Result<(), AllocError>
-    requires form { IsOp op }
-    requires other { is_opening op ≡ false }
-    requires whole { tables.old.broken ≡ false }
-    requires due { tables.old.due ≡ 0 }
-    ensures state { OnOk result (tables.new.state ≡ (led_to rule tables.old.state session op).state) }
-    ensures outs { OnOk result (answers.new ≡ with_outs (outs_of rule tables.old.state session receipt op) answers.old) }
-    ensures whole { OnOk result (tables.new.broken ≡ false) }
-    ensures due { OnOk result (tables.new.due ≡ 0) }
-{
     if !tables.sessions().contains_key(&session) {
         return Ok(());
     }

@@ -8,7 +8,7 @@ use Rattle.area_core.specs.Areas.{commands, records}
 use Rattle.broker_core.specs.States.{State}
 use Rattle.claim_core.specs.Seats.{FlushSeatValue, next_ticket}
 use Rattle.flush_core.specs.Batches.{from_on, state_at}
-use Rattle.flush_core.specs.Flushed.{Flushed, IsFlusher, state_stored}
+use Rattle.flush_core.specs.Flushed.{Flushed, IsFlusher, Latest, state_stored}
 use Rattle.flush_core.specs.Room.{IsTooLong, used_afresh}
 use Rattle.flush_core.proofs.Taken.{at_more, length_from}
 use Rattle.disk_core.specs.declared.disk.Disk.{Ghosts}
@@ -55,13 +55,12 @@ more f g h a b = record {
 
 -- ── what waits ──
 
-still_waits : {D : Type 0} (f g : Flushed D) → g.seat ≡ f.seat → g.opening ≡ f.opening → g.stored ≡ f.stored → g.size ≡ f.size → NoneWaits f → NoneWaits g
-still_waits f g seat opening stored size (inl all) = inl (stored ∙ (all ∙ ap next_ticket (sym seat)))
-still_waits f g seat opening stored size (inr lacks) = inr (record {
-  from = lacks.from;
-  before = omega (arith, lacks.before, stored);
-  long = subst (λ (z : ℕ × State × FlushSeatValue × ℕ). IsTooLong z.0 (used_afresh (state_at z.1 z.2 lacks.from)) (take (z.3 - lacks.from + 1) (from_on z.2 lacks.from)))
-      (sym (λ i. (size i, opening i, seat i, stored i))) lacks.long;
+still_waits : {D : Type 0} (f g : Flushed D) → g.seat ≡ f.seat → g.opening ≡ f.opening → g.stored ≡ f.stored → g.size ≡ f.size → g.last.block ≡ f.last.block → NoneWaits f → NoneWaits g
+still_waits f g seat opening stored size block (inl all) = inl (stored ∙ (all ∙ ap next_ticket (sym seat)))
+still_waits f g seat opening stored size block (inr lacks) = inr (record {
+  before = omega (arith, lacks.before, stored, block);
+  long = subst (λ (z : ℕ × State × FlushSeatValue × ℕ × ℕ). IsTooLong z.0 (used_afresh (state_at z.1 z.2 z.4)) (take (z.3 - z.4 + 1) (from_on z.2 z.4)))
+      (sym (λ i. (size i, opening i, seat i, stored i, block i))) lacks.long;
 })
 
 -- a block that does not fit has the longest part that does
@@ -72,11 +71,13 @@ waits_afresh {D} disk old mid state stores less all some long =
     let count = mid.stored - old.stored in
     let cs = from_on mid.seat old.stored in
     elim (cases_lt count (length cs)) [
-      | inl fewer ↦ inr (record {
-        from = old.stored;
-        before = less;
-        long = subst (λ (z : ℕ × State). IsTooLong z.0 (used_afresh z.1) (take (count + 1) cs)) (sym (λ i. (stores.size i, state i))) (longest.more fewer);
-      })
+      | inl fewer ↦
+          let block : mid.last.block ≡ old.stored = ap (λ (l : Latest). l.block) (stores.afresh long some).last_is in
+          inr (record {
+            before = omega (arith, less, block);
+            long = subst (λ (n : ℕ). IsTooLong mid.size (used_afresh (state_at mid.opening mid.seat n)) (take (mid.stored - n + 1) (from_on mid.seat n))) (sym block)
+                (subst (λ (z : ℕ × State). IsTooLong z.0 (used_afresh z.1) (take (count + 1) cs)) (sym (λ i. (stores.size i, state i))) (longest.more fewer));
+          })
       | inr most ↦ inl (omega (arith, less, all, most, longest.within))
     ]
 
@@ -115,7 +116,7 @@ turned disk old mid cs kept whole t stores =
       executed = λ e b. t.executed;
       caught_up = λ e b. sym published;
       left = λ e b. refl;
-      none_waits = λ e b. still_waits mid (record mid { left = []; last = record mid.last { won = None } }) refl refl refl refl (as_turned disk old mid cs kept t stores);
+      none_waits = λ e b. still_waits mid (record mid { left = []; last = record mid.last { won = None } }) refl refl refl refl refl (as_turned disk old mid cs kept t stores);
     }
 
 falls : {D : Type 0} (old new : Flushed D) → TurnFalls old new → Flushes old new
@@ -147,8 +148,8 @@ passed {D} disk old mid dropped new cs kept whole t stores taken told =
     let At : Flushed _ → Type 0 = λ f. Flushes old f in subst At (sym (told ∙ ap (λ (f : Flushed D). record f { last = record f.last { won = None } }) taken)) (turned disk old mid cs kept whole t stores)
 
 -- neither the seat nor a number has changed
-unmoved : {D : Type 0} (f g : Flushed D) → g.seat ≡ f.seat → g.opening ≡ f.opening → g.broken ≡ f.broken → g.stored ≡ f.stored → g.executed ≡ f.executed → g.left ≡ f.left → g.size ≡ f.size → Flushes f g
-unmoved f g seat opening broken stored executed left size = record {
+unmoved : {D : Type 0} (f g : Flushed D) → g.seat ≡ f.seat → g.opening ≡ f.opening → g.broken ≡ f.broken → g.stored ≡ f.stored → g.executed ≡ f.executed → g.left ≡ f.left → g.size ≡ f.size → g.last.block ≡ f.last.block → Flushes f g
+unmoved f g seat opening broken stored executed left size block = record {
   ring = ap (λ (s : FlushSeatValue). s.ring) seat;
   base = ap (λ (s : FlushSeatValue). s.base) seat;
   seats = ap (λ (s : FlushSeatValue). s.seats) seat;
@@ -159,13 +160,13 @@ unmoved f g seat opening broken stored executed left size = record {
   executed = λ e whole. executed ∙ (e (sym broken ∙ whole) ∙ sym stored);
   caught_up = λ e whole. stored ∙ (e ∙ sym (ap (λ (s : FlushSeatValue). s.published) seat));
   left = λ e whole. left ∙ e;
-  none_waits = λ e whole. still_waits f g seat opening stored size e;
+  none_waits = λ e whole. still_waits f g seat opening stored size block e;
 }
 
 -- what was won is forgotten
 pub forgotten : {D : Type 0} (f g : Flushed D) → g ≡ record f { last = record f.last { won = None } } → Flushes f g
 forgotten {D} f g is =
-    unmoved f g (ap (λ (x : Flushed D). x.seat) is) (ap (λ (x : Flushed D). x.opening) is) (ap (λ (x : Flushed D). x.broken) is) (ap (λ (x : Flushed D). x.stored) is) (ap (λ (x : Flushed D). x.executed) is) (ap (λ (x : Flushed D). x.left) is) (ap (λ (x : Flushed D). x.size) is)
+    unmoved f g (ap (λ (x : Flushed D). x.seat) is) (ap (λ (x : Flushed D). x.opening) is) (ap (λ (x : Flushed D). x.broken) is) (ap (λ (x : Flushed D). x.stored) is) (ap (λ (x : Flushed D). x.executed) is) (ap (λ (x : Flushed D). x.left) is) (ap (λ (x : Flushed D). x.size) is) (ap (λ (x : Flushed D). x.last.block) is)
 
 pub still_light : {D : Type 0} (f g : Flushed D) → g ≡ record f { last = record f.last { won = None } } → IsLight f → IsLight g
 still_light f g is light = subst (λ (x : Flushed _). IsLight x) (sym is) light
@@ -175,9 +176,9 @@ pub may_flush : {D : Type 0} (disk : Ghosts D) (old new : Flushed D) → MayComp
 may_flush {D} disk old new (is_left same) = let At : Flushed D → Type 0 = λ f. Flushes old f in subst At (sym same) (none old)
 may_flush {D} disk old new (is_compacted did) =
     let is = did.compacted_is in
-    unmoved old new (ap (λ (x : Flushed D). x.seat) is) (ap (λ (x : Flushed D). x.opening) is) (ap (λ (x : Flushed D). x.broken) is) (ap (λ (x : Flushed D). x.stored) is) (ap (λ (x : Flushed D). x.executed) is) (ap (λ (x : Flushed D). x.left) is) (ap (λ (x : Flushed D). x.size) is)
+    unmoved old new (ap (λ (x : Flushed D). x.seat) is) (ap (λ (x : Flushed D). x.opening) is) (ap (λ (x : Flushed D). x.broken) is) (ap (λ (x : Flushed D). x.stored) is) (ap (λ (x : Flushed D). x.executed) is) (ap (λ (x : Flushed D). x.left) is) (ap (λ (x : Flushed D). x.size) is) (ap (λ (x : Flushed D). x.last.block) is)
 may_flush {D} disk old new (is_too_long none is) =
-    unmoved old new (ap (λ (x : Flushed D). x.seat) is) (ap (λ (x : Flushed D). x.opening) is) (ap (λ (x : Flushed D). x.broken) is) (ap (λ (x : Flushed D). x.stored) is) (ap (λ (x : Flushed D). x.executed) is) (ap (λ (x : Flushed D). x.left) is) (ap (λ (x : Flushed D). x.size) is)
+    unmoved old new (ap (λ (x : Flushed D). x.seat) is) (ap (λ (x : Flushed D). x.opening) is) (ap (λ (x : Flushed D). x.broken) is) (ap (λ (x : Flushed D). x.stored) is) (ap (λ (x : Flushed D). x.executed) is) (ap (λ (x : Flushed D). x.left) is) (ap (λ (x : Flushed D). x.size) is) (ap (λ (x : Flushed D). x.last.block) is)
 
 -- a step that failed
 fell : {D : Type 0} (old new : Flushed D) → Falls old new → Flushes old new

@@ -6,12 +6,11 @@ use Rattle.flush_core.specs.Batches.{from_on, state_at}
 use Rattle.flush_core.specs.Flushed.{Flushed}
 use Rattle.flush_core.specs.Room.{IsTooLong, used_afresh}
 
--- There was no room for the next command. After a snapshot of the state at some number, the block of the commands from there on up to and
--- with that one is too long for an area.
+-- There was no room for the next command. After a snapshot of the state before the last block, that block would be too long for an area if it
+-- had the next command too.
 pub record LacksRoom {D : Type 0} (f : Flushed D) : Type 0 where
-  pub from : ℕ
-  pub before : from ≤ f.stored
-  pub long : IsTooLong f.size (used_afresh (state_at f.opening f.seat from)) (take (f.stored - from + 1) (from_on f.seat from))
+  pub before : f.last.block ≤ f.stored
+  pub long : IsTooLong f.size (used_afresh (state_at f.opening f.seat f.last.block)) (take (f.stored - f.last.block + 1) (from_on f.seat f.last.block))
 
 -- all that is taken is stored, as far as there was room
 abbrev pub NoneWaits : {D : Type 0} → Flushed D → Type 0

@@ -1,7 +1,7 @@
 //! What the flusher's thread does.
 
 ghost use Rattle.std.specs.Prelude.{◌≡◌, [], IfOk, None, OnErr, OnOk, true, false};
-ghost use Rattle.flush_core.specs.Backlogs.{IsLight};
+ghost use Rattle.flush_core.specs.Backlogs.{IsLight, RepeatsNothing};
 ghost use Rattle.flush_core.specs.Faults.{IsFlushCaused};
 ghost use Rattle.engine_core.specs.Flushes.{Flushes};
 
@@ -51,7 +51,7 @@ pub fn compact_last<D: Disk, B: Bell>(
     requires ring { flusher.old.seat.ring ≡ ring.now }
     requires executed { flusher.old.broken ≡ false → flusher.old.executed ≡ flusher.old.stored }
     ensures flushes { Flushes flusher.old flusher.new }
-    ensures none { IfOk result (λ _. flusher.new.broken ≡ false → flusher.new.last.since ≡ flusher.new.stored) }
+    ensures none { IfOk result (λ _. flusher.new.broken ≡ false → RepeatsNothing flusher.new) }
     ensures stops { OnErr result ((flusher.new.broken ≡ true) × (flusher.new.seat.stopped ≡ true)) }
 {
     match flusher.compact_rest(alloc, ring) {

@@ -15,7 +15,7 @@ use Rattle.broker_core.specs.Steps.{outs_of, state_after}
 use Rattle.claim_core.specs.Seats.{FlushSeatValue, next_ticket, when_stopped, with_mark}
 use Rattle.recover_core.specs.Standing.{StandFor, Stands, StandsForEither}
 use Rattle.flush_core.specs.Batches.{IsBatch, between, from_on, state_at, with_more}
-use Rattle.flush_core.specs.Flushed.{AfterSome, AreUnder, Compaction, Flushed, HoldBetween, IsFlusher, IsHeld, unexecuted}
+use Rattle.flush_core.specs.Flushed.{AfterSome, AreUnder, Latest, Flushed, HoldBetween, IsFlusher, IsHeld, unexecuted}
 use Rattle.flush_core.specs.Outcomes.{Gives, executing, standing, stored_entries}
 use Rattle.flush_core.specs.Sessions.{boxes_after, ended_of}
 use Rattle.outbox_core.specs.Boxes.{SenderValue}
@@ -250,7 +250,7 @@ module _ {D : Type 0} (honest : D → Type 0) (images : D → List ℕ → Type 
   })
 
   -- the journal is compacted
-  pub compacts : (f : Flushed D) (next : D) (size used : ℕ) (last : Compaction) → f.broken ≡ false → (honest next → StandFor (images next) (state_at f.opening f.seat f.stored)) → IsFlusher honest images f
+  pub compacts : (f : Flushed D) (next : D) (size used : ℕ) (last : Latest) → f.broken ≡ false → (honest next → StandFor (images next) (state_at f.opening f.seat f.stored)) → IsFlusher honest images f
       → IsFlusher honest images (record f { disk = next; size = size; used = used; last = last })
   compacts f next size used last whole stand kept =
       let run = kept.running whole in
@@ -268,7 +268,7 @@ module _ {D : Type 0} (honest : D → Type 0) (images : D → List ℕ → Type 
       }
 
   -- what was won is told
-  pub tells : (f : Flushed D) (last : Compaction) → IsFlusher honest images f → IsFlusher honest images (record f { last = last })
+  pub tells : (f : Flushed D) (last : Latest) → IsFlusher honest images f → IsFlusher honest images (record f { last = last })
   tells f last kept =
       record {
         begun = kept.begun;
@@ -284,10 +284,10 @@ module _ {D : Type 0} (honest : D → Type 0) (images : D → List ℕ → Type 
       }
 
   -- what was taken is stored up to a number
-  pub stores : (f : Flushed D) (next : D) (size used n : ℕ) (brought : List (EntryValue SenderValue)) → f.stored ≤ n → n ≤ next_ticket f.seat → f.broken ≡ false
+  pub stores : (f : Flushed D) (next : D) (size used n : ℕ) (last : Latest) (brought : List (EntryValue SenderValue)) → f.stored ≤ n → n ≤ next_ticket f.seat → f.broken ≡ false
       → (honest next → StandFor (images next) (state_at f.opening f.seat n)) → brought ≡ f.brought → IsFlusher honest images f
-      → IsFlusher honest images (record f { disk = next; size = size; used = used; stored = n; brought = brought })
-  stores f next size used n brought rises few whole stand same kept =
+      → IsFlusher honest images (record f { disk = next; size = size; used = used; stored = n; brought = brought; last = last })
+  stores f next size used n last brought rises few whole stand same kept =
       let run = kept.running whole in
       record {
         begun = kept.begun;

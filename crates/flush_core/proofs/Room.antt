@@ -17,7 +17,7 @@ use Rattle.flush_core.specs.declared.faults.FlushFault.{FlushFault}
 use Rattle.flush_core.specs.declared.faults.FlushFault.TheVariants.{Device, Full, Broken, Memory}
 use Rattle.flush_core.specs.Batches.{IsBatch, block_bytes, from_on, state_at}
 use Rattle.flush_core.specs.Calls.{RefusesToStore, RefusesTurn}
-use Rattle.flush_core.specs.Flushed.{Compaction, Flushed, IsFlusher, gathered, state_stored}
+use Rattle.flush_core.specs.Flushed.{Latest, Flushed, IsFlusher, gathered, state_stored}
 use Rattle.claim_core.specs.Seats.{FlushSeatValue, next_ticket}
 use Rattle.flush_core.specs.Outcomes.{Gives, GivesAndFalls, IsOutcome, publishing, storing, taking}
 use Rattle.recover_core.specs.Compactions.{HasNoRoomFor}
@@ -66,7 +66,7 @@ rest_stays {D} old new n Broken was = sym (ap (λ (f : Flushed D). from_on f.sea
 rest_stays old new n (Memory refused) fell = sym (ap (λ s. from_on s n) fell.seat)
 
 -- The disk is as it was where nothing was gathered: storing then changed nothing, and what comes behind it calls no disk.
-module _ {D : Type 0} (f g h : Flushed D) (entries : List (EntryValue SenderValue)) (n : ℕ) (next : D) (size used : ℕ) (last : Compaction) (took : g ≡ taking f entries) (did : h ≡ storing g n next size used last) (nothing : gathered g ≡ [] → h ≡ g) where
+module _ {D : Type 0} (f g h : Flushed D) (entries : List (EntryValue SenderValue)) (n : ℕ) (next : D) (size used : ℕ) (last : Latest) (took : g ≡ taking f entries) (did : h ≡ storing g n next size used last) (nothing : gathered g ≡ [] → h ≡ g) where
   gathered_before : (seat : FlushSeatValue) → from_on h.seat g.stored ≡ from_on seat g.stored → from_on seat f.stored ≡ [] → gathered g ≡ []
   gathered_before seat rest none =
       ap (λ (x : Flushed D). from_on x.seat g.stored) (sym did) ∙ (rest ∙ (ap (λ (x : Flushed D). from_on seat x.stored) took ∙ none))
@@ -93,12 +93,12 @@ module _ {D : Type 0} (f g h : Flushed D) (entries : List (EntryValue SenderValu
       sym (ap (λ (x : Flushed D). next_ticket x.seat) published ∙ (ap (λ (x : Flushed D). next_ticket x.seat) executed.is ∙ ap (λ (x : Flushed D). next_ticket x.seat) did))
 
   pub came_behind : (k l : Flushed D) → Gives h k → l ≡ publishing k l.boxes
-      → (Fits g.size g.used (gathered g) → gathered g ≢ [] → (h.stored ≡ next_ticket g.seat) × (h.used ≡ g.used + 9 + length (records (gathered g))) × (h.last ≡ g.last))
+      → (Fits g.size g.used (gathered g) → gathered g ≢ [] → (h.stored ≡ next_ticket g.seat) × (h.used ≡ g.used + 9 + length (records (gathered g))) × (h.last ≡ record g.last { block = g.stored }))
       → Fits f.size f.used (from_on l.seat f.stored) → from_on l.seat f.stored ≢ []
-      → (l.stored ≡ next_ticket l.seat) × (l.used ≡ f.used + 9 + length (records (from_on l.seat f.stored))) × (l.last ≡ f.last)
+      → (l.stored ≡ next_ticket l.seat) × (l.used ≡ f.used + 9 + length (records (from_on l.seat f.stored))) × (l.last ≡ record f.last { block = f.stored })
   came_behind k l executed published told fits some =
       let same = same_used k l executed published in
-      let all = subst (λ (z : Flushed D × List CommandValue). Fits z.0.size z.0.used z.1 → z.1 ≢ [] → (h.stored ≡ next_ticket g.seat) × (h.used ≡ z.0.used + 9 + length (records z.1)) × (h.last ≡ z.0.last)) (λ i. (took i, taken_stays k l executed published i)) told fits some in
+      let all = subst (λ (z : Flushed D × List CommandValue). Fits z.0.size z.0.used z.1 → z.1 ≢ [] → (h.stored ≡ next_ticket g.seat) × (h.used ≡ z.0.used + 9 + length (records z.1)) × (h.last ≡ record z.0.last { block = z.0.stored })) (λ i. (took i, taken_stays k l executed published i)) told fits some in
       (same_stored k l executed published ∙ (all.0 ∙ same_end k l executed published), same.0 ∙ all.1, same.1 ∙ all.2)
 
   pub came_afresh : (k l : Flushed D) → Gives h k → l ≡ publishing k l.boxes → f.stored ≤ next_ticket f.seat
@@ -110,7 +110,7 @@ module _ {D : Type 0} (f g h : Flushed D) (entries : List (EntryValue SenderValu
       let state : state_at g.opening g.seat g.stored ≡ state_at f.opening f.seat f.stored = ap (λ (x : Flushed D). state_at x.opening x.seat x.stored) took ∙ at_more f.opening f.seat (commands entries) f.stored few in
       let same = same_used k l executed published in
       let all = subst (λ (z : Flushed D × State × List CommandValue). IsTooLong z.0.size z.0.used z.2 → z.2 ≢ [] → StoresAfresh z.0.size z.0.used z.0.stored z.1 z.2 (h.stored - z.0.stored) h.used h.last) (λ i. (took i, state i, taken_stays k l executed published i)) told long some in
-      subst (λ (z : ℕ × ℕ × Compaction). StoresAfresh f.size f.used f.stored (state_at f.opening f.seat f.stored) (from_on l.seat f.stored) (z.0 - f.stored) z.1 z.2)
+      subst (λ (z : ℕ × ℕ × Latest). StoresAfresh f.size f.used f.stored (state_at f.opening f.seat f.stored) (from_on l.seat f.stored) (z.0 - f.stored) z.1 z.2)
       (sym (λ i. (same_stored k l executed published i, same.0 i, same.1 i))) all
 
   -- nothing is won where nothing was gathered

@@ -19,7 +19,7 @@ use Rattle.flush_core.specs.declared.faults.FlushFault.TheVariants.{Broken, Devi
 use Rattle.flush_core.specs.Batches.{state_at}
 use Rattle.flush_core.specs.Calls.{EitherThroughout, FlushBreaks, FlushCompacts, IsStoring, RefusesState, RefusesToStore, RefusesToStoreFirst, StoresFirst, StoresGathered, WinsRoom}
 use Rattle.flush_core.specs.Faults.{IfMemory, IsFlushCaused}
-use Rattle.flush_core.specs.Flushed.{Compaction, Flushed, IsFlusher, gathered, state_stored}
+use Rattle.flush_core.specs.Flushed.{Latest, Flushed, IsFlusher, gathered, state_stored}
 use Rattle.flush_core.specs.Outcomes.{Falls, IsNext, IsCompacted, IsLeft, IsOutcome, storing, using}
 use Rattle.flush_core.specs.Room.{Fits, HasNoRoomForState, HasNoRoomLeft, IsLongest, IsTooLong, LacksRoomForState, StoresAfresh, used_afresh}
 use Rattle.flush_core.proofs.Prefixes.{is_longest, records_cut}
@@ -184,14 +184,14 @@ module _ {D : Type 0} (disk : Ghosts D) (old mid : Flushed D) (made : IsLeft old
       number_so : new.stored ≡ old.stored + count
       number_so = ap (λ (f : Flushed D). f.stored) did.stored ∙ ap (λ (f : Flushed D). f.stored + count) all_but_disk
 
-      won_so : new.last ≡ mid.last
+      won_so : new.last ≡ record mid.last { block = mid.stored }
       won_so = ap (λ (f : Flushed D). f.last) did.stored
 
       stored_so : new ≡ storing old new.stored new.disk new.size new.used new.last
       stored_so =
           let n : new.stored ≡ mid.stored + count = ap (λ (f : Flushed D). f.stored) did.stored in
-          subst (λ (z : ℕ × Compaction). new ≡ storing old z.0 new.disk new.size new.used z.1) (sym (λ i. (n i, won_so i)))
-          (did.stored ∙ ap (λ (f : Flushed D). storing f (mid.stored + count) new.disk new.size new.used mid.last) all_but_disk)
+          subst (λ (z : ℕ × Latest). new ≡ storing old z.0 new.disk new.size new.used z.1) (sym (λ i. (n i, won_so i)))
+          (did.stored ∙ ap (λ (f : Flushed D). storing f (mid.stored + count) new.disk new.size new.used (record mid.last { block = mid.stored })) all_but_disk)
 
       -- the disk stands for the state after as much as is stored
       stands_so : disk.honest mid.disk → StandFor (disk.images new.disk) (state_at old.opening old.seat new.stored)
@@ -205,7 +205,7 @@ module _ {D : Type 0} (disk : Ghosts D) (old mid : Flushed D) (made : IsLeft old
 
       -- the block stands behind what was used
       behind_so : Fits old.size old.used (gathered old)
-          → (new.stored ≡ next_ticket old.seat) × (new.used ≡ old.used + 9 + length (records (gathered old))) × (new.last ≡ old.last)
+          → (new.stored ≡ next_ticket old.seat) × (new.used ≡ old.used + 9 + length (records (gathered old))) × (new.last ≡ record old.last { block = old.stored })
       behind_so fits =
           let all : count ≡ length (gathered old) = count_behind fits in
           let first : take count (gathered mid) ≡ gathered old = (λ i. take (all i) (still_gathered i)) ∙ take_all (length (gathered old)) (gathered old) (omega arith) in
@@ -213,7 +213,7 @@ module _ {D : Type 0} (disk : Ghosts D) (old mid : Flushed D) (made : IsLeft old
           (λ (l : IsLeft old mid). (
             omega (arith, number_so, all, to_end),
             did.used ∙ (λ i. (l.same i).used + 9 + length (records (first i))),
-            won_so ∙ ap (λ (f : Flushed D). f.last) l.same,
+            won_so ∙ ap (λ (f : Flushed D). record f.last { block = f.stored }) l.same,
           ))
           (λ (w : IsCompacted disk old mid). absurd (omega (arith, fits, w.long)))
           made
@@ -231,7 +231,7 @@ module _ {D : Type 0} (disk : Ghosts D) (old mid : Flushed D) (made : IsLeft old
             longest = count_afresh long;
             fits = subst (λ (z : Flushed D × List CommandValue). Fits z.0.size z.0.used (take count z.1)) (λ i. (w.is i, still_gathered i)) did.fits;
             used_is = did.used ∙ (λ i. (w.is i).used + 9 + length (records (take count (still_gathered i))));
-            last_is = won_so ∙ ap (λ (f : Flushed D). f.last) w.is;
+            last_is = won_so ∙ ap (λ (f : Flushed D). record f.last { block = f.stored }) w.is;
           }))
           made
 

@@ -16,7 +16,7 @@ use Rattle.flush_core.specs.declared.faults.FlushFault.TheVariants.{Device, Full
 use Rattle.flush_core.specs.Batches.{between, from_on, state_at, with_more}
 use Rattle.flush_core.specs.Calls.{FlushBreaks, RefusesTurn, TurnBreaks}
 use Rattle.flush_core.specs.Faults.{IsFlushCaused, IsMemory, NeedsNoDisk}
-use Rattle.flush_core.specs.Flushed.{Compaction, Flushed, IsFlusher, unexecuted}
+use Rattle.flush_core.specs.Flushed.{Latest, Flushed, IsFlusher, unexecuted}
 use Rattle.flush_core.specs.Outcomes.{Falls, Gives, GivesAndFalls, IsNext, IsOutcome, IsTurn, IsTurned, IsUnpublished, PublishesNone, TurnFalls, publishing, executing, giving, standing, stored_entries, storing, taking, turned_boxes, turned_outs}
 use Rattle.flush_core.specs.Sessions.{boxes_after, ended_of}
 use Rattle.outbox_core.specs.Giving.{AreGiven, Kept, unboxed, without}
@@ -71,7 +71,7 @@ module _ {D : Type 0} (disk : Ghosts D) where
       (here honest whole)))
 
   -- the disk stands for the state after what is stored, once that is executed and published
-  pub stands_so : (g did left new : Flushed D) (n : ℕ) (next : D) (size used : ℕ) (last : Compaction) → did ≡ storing g n next size used last → Gives did left → left.disk ≡ did.disk → new ≡ publishing left new.boxes
+  pub stands_so : (g did left new : Flushed D) (n : ℕ) (next : D) (size used : ℕ) (last : Latest) → did ≡ storing g n next size used last → Gives did left → left.disk ≡ did.disk → new ≡ publishing left new.boxes
       → StandFor (disk.images did.disk) (state_at g.opening g.seat n) → StandFor (disk.images new.disk) (state_at new.opening new.seat new.stored)
   stands_so g did left new n next size used last did_is left_is same new_is stand =
       let opened : new.opening ≡ g.opening = ap (λ (f : Flushed D). f.opening) new_is ∙ (ap (λ (f : Flushed D). f.opening) left_is.is ∙ ap (λ (f : Flushed D). f.opening) did_is) in
@@ -111,7 +111,7 @@ module _ {D : Type 0} (disk : Ghosts D) where
   }
 
   -- a turn of the four steps
-  pub turned : (old took did left new : Flushed D) (entries : List (EntryValue SenderValue)) (n : ℕ) (next : D) (size used : ℕ) (last : Compaction) → old.executed ≡ old.stored → old.stored ≤ n → n ≤ next_ticket (with_more old.seat (commands entries))
+  pub turned : (old took did left new : Flushed D) (entries : List (EntryValue SenderValue)) (n : ℕ) (next : D) (size used : ℕ) (last : Latest) → old.executed ≡ old.stored → old.stored ≤ n → n ≤ next_ticket (with_more old.seat (commands entries))
       → took ≡ taking old entries → did ≡ storing took n next size used last → Gives did left → new ≡ publishing left new.boxes → AreGiven left.waiting (standing left) new.boxes → IsTurned old new entries
   turned old took did left new entries n next size used last executed rises few took_is did_is left_is new_is given =
       let stored = storing (taking old entries) n next size used last in
@@ -151,7 +151,7 @@ module _ {D : Type 0} (disk : Ghosts D) where
       }
 
 -- a turn whose commands are taken and stored fails where executing them does
-module _ {D : Type 0} (old took did new : Flushed D) (entries : List (EntryValue SenderValue)) (n : ℕ) (next : D) (size used : ℕ) (last : Compaction)
+module _ {D : Type 0} (old took did new : Flushed D) (entries : List (EntryValue SenderValue)) (n : ℕ) (next : D) (size used : ℕ) (last : Latest)
     (whole : old.broken ≡ false) (took_is : took ≡ taking old entries) (did_is : did ≡ storing took n next size used last) where
   did_all : did ≡ storing (taking old entries) n next size used last
   did_all = did_is ∙ ap (λ (f : Flushed D). storing f n next size used last) took_is

@@ -1,5 +1,5 @@
 -- The backlog of a journal: what a start would have to repeat, and how much that may be.
-use Rattle.std.specs.Prelude.{◌≡◌, ◌≤◌, ◌<◌, ◌+◌, ◌*◌, ◌-◌, ◌^◌, ℕ, List, length, max, min, sum_by}
+use Rattle.std.specs.Prelude.{◌≡◌, ◌⊎◌, ◌≤◌, ◌<◌, ◌+◌, ◌*◌, ◌-◌, ◌^◌, ℕ, List, length, max, min, sum_by}
 use Rattle.command_core.specs.Commands.{CommandValue}
 use Rattle.command_core.specs.declared.command.Op.{Op}
 use Rattle.command_core.specs.declared.command.Op.TheVariants.{Commit, Subscribe}
@@ -7,6 +7,7 @@ use Rattle.area_core.specs.Areas.{records}
 use Rattle.broker_core.specs.States.{State, held_bytes, held_messages}
 use Rattle.broker_core.specs.Steps.{outs_of}
 use Rattle.claim_core.specs.Seats.{FlushSeatValue}
+use Rattle.recover_core.specs.Compactions.{HasNoRoomFor}
 use Rattle.flush_core.specs.Batches.{between, state_at}
 use Rattle.flush_core.specs.Flushed.{Flushed, state_stored}
 
@@ -37,13 +38,18 @@ bulk s = held_bytes s + 64 * (held_messages s + length s.sessions + 2 * length s
 abbrev pub most_cost : State → ℕ
 most_cost s = min (max (25 * bulk s) 64000000) 500000000
 
--- what a start would have to repeat: all that is stored since the last compaction
+-- The work that a start would have to repeat: all that is stored since the last compaction. If no snapshot fit when one was due, what is
+-- stored after that.
 abbrev pub backlog : {D : Type 0} → Flushed D → ℕ
-backlog f = cost_of (state_at f.opening f.seat f.last.since) (between f.seat f.last.since f.stored)
+backlog f = cost_of (state_at f.opening f.seat f.last.counted) (between f.seat f.last.counted f.stored)
 
 -- and that is less than it may be
 abbrev pub IsLight : {D : Type 0} → Flushed D → Type 0
 IsLight f = backlog f < most_cost (state_stored f)
+
+-- a start has nothing to repeat, unless no snapshot of the state fits into an area
+abbrev pub RepeatsNothing : {D : Type 0} → Flushed D → Type 0
+RepeatsNothing f = (f.last.since ≡ f.stored) ⊎ HasNoRoomFor f.size (state_stored f)
 
 -- the most that can be counted
 abbrev pub most_counted : ℕ

@@ -74,7 +74,7 @@ pub record FlushCompacts {D : Type 0} (disk : Ghosts D) (old new : Flushed D) : 
 pub data MayCompact {D : Type 0} (disk : Ghosts D) (old new : Flushed D) : Type 0 where
   is_left : new ≡ old → MayCompact disk old new
   is_compacted : FlushCompacts disk old new → MayCompact disk old new
-  is_too_long : HasNoRoomFor old.size (state_stored old) → new ≡ record old { last = record old.last { since = old.stored } } → MayCompact disk old new
+  is_too_long : HasNoRoomFor old.size (state_stored old) → new ≡ record old { last = record old.last { counted = old.stored } } → MayCompact disk old new
 
 -- A start has less to repeat than it may. If it had before, nothing has changed.
 pub record CompactsIfDue {D : Type 0} (disk : Ghosts D) (old new : Flushed D) : Type 0 where
@@ -109,7 +109,7 @@ pub record RefusesFirst {B D T : Type 0} (disk : Ghosts D) (old new : Store D di
 -- The first `count` of the gathered commands are stored, in one block after what was used.
 pub record StoresFirst {D : Type 0} (disk : Ghosts D) (old new : Flushed D) (count : ℕ) : Type 0 where
   pub stands : disk.honest old.disk → StandFor (disk.images new.disk) (state_at old.opening old.seat (old.stored + count))
-  pub stored : new ≡ storing old (old.stored + count) new.disk new.size new.used old.last
+  pub stored : new ≡ storing old (old.stored + count) new.disk new.size new.used (record old.last { block = old.stored })
   pub used : new.used ≡ old.used + 9 + length (records (take count (gathered old)))
   pub fits : Fits old.size old.used (take count (gathered old))
   pub size : new.size ≡ old.size
@@ -141,7 +141,7 @@ StoresThroughout disk old new taken result = disk.honest old.disk → old.broken
 pub record StoresNext {D : Type 0} (disk : Ghosts D) (old new taken : Flushed D) : Type 0 where
   pub stands : disk.honest old.disk → StandFor (disk.images new.disk) (state_at taken.opening taken.seat new.stored)
   pub behind : Fits old.size old.used (to_store old taken) → to_store old taken ≢ []
-      → (new.stored ≡ next_ticket taken.seat) × (new.used ≡ old.used + 9 + length (records (to_store old taken))) × (new.last ≡ old.last)
+      → (new.stored ≡ next_ticket taken.seat) × (new.used ≡ old.used + 9 + length (records (to_store old taken))) × (new.last ≡ record old.last { block = old.stored })
   pub afresh : IsTooLong old.size old.used (to_store old taken) → to_store old taken ≢ []
       → StoresAfresh old.size old.used old.stored (state_stored old) (to_store old taken) (new.stored - old.stored) new.used new.last
   pub size : new.size ≡ old.size

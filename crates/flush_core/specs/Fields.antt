@@ -27,7 +27,7 @@ module _ {D B W : Type 0} {disk : Ghosts D} where
     waiting = a.outlet.waiting.items;
     left = a.outlet.left.items;
     broken = a.broken;
-    last = record { won = a.won; since = a.since };
+    last = record { won = a.won; since = a.since; counted = a.counted_from; block = a.block };
   }
 
   -- What the fields keep. The numbers of commands and of bytes are those that its width has for a block.
@@ -36,4 +36,4 @@ module _ {D B W : Type 0} {disk : Ghosts D} where
       × (a.broken ≡ false → IsHeld a.seat a.stored a.executed (is_broken a.journal) a.batch.items a.done.items a.bytes (length a.outlet.left.items) (length a.outlet.waiting.items) (vec_capacity a.outlet.left))
       × (a.broken ≡ false → IsSpare (length a.outlet.spare.items) (length a.outlet.waiting.items) (vec_capacity a.outlet.spare))
       × (a.broken ≡ false → IsBatch most (block_bytes (size_of a.journal) most_bytes) (commands a.batch.items))
-      × (a.broken ≡ false → IsCounted a.opening.value.state a.seat a.since a.executed a.counted)
+      × (a.broken ≡ false → IsCounted a.opening.value.state a.seat a.counted_from a.executed a.counted)

@@ -16,17 +16,21 @@ use Rattle.recover_core.specs.Standing.{Stands, StandFor}
 use Rattle.recover_core.specs.Stores.{disk_of, size_of, used_of}
 use Rattle.flush_core.specs.Batches.{between, from_on, state_at}
 
--- The last compaction: how many bytes of the area it won, if that was not asked for since; and the first command that is not in its
--- snapshot. If none was made, that is the first command taken. If no snapshot fit when one was due, it is the first one stored after that.
-pub record Compaction : Type 0 where
+-- What was written last. The last compaction won so many bytes of the area, if that was not asked for since. Its snapshot has no command
+-- from `since` on, or the journal none that was taken, if no compaction was made. From `counted` on the commands count as work that a start
+-- would repeat: from `since` on, or, if no snapshot fit when one was due, from the first one stored after that. The last block begins with
+-- the command `block`; without a block that is the first command taken.
+pub record Latest : Type 0 where
   pub won : Option ℕ
   pub since : ℕ
+  pub counted : ℕ
+  pub block : ℕ
 
 -- A flusher. It has its disk, the bytes of an area of the journal and those used; and its seat at the ring, with the commands taken and the
 -- mark. Then the state that the journal stood for when the flusher was made; the first number that is not stored, and the first that the
 -- broker has not executed. Then the entries that are taken and not executed; the broker; and the outboxes of sessions. Then the sessions
 -- that ended and whose last outputs wait for the mark, and those whose last outputs are given. Then the outputs that wait for the mark, and
--- those under it that went to no box; and whether a step failed; and the last compaction.
+-- those under it that went to no box; and whether a step failed; and what was written last.
 pub record Flushed (D : Type 0) : Type 0 where
   pub disk : D
   pub size : ℕ
@@ -43,7 +47,7 @@ pub record Flushed (D : Type 0) : Type 0 where
   pub waiting : List OutValue
   pub left : List OutValue
   pub broken : Bool
-  pub last : Compaction
+  pub last : Latest
 
 -- a flusher that is new, made of these
 abbrev pub new_flusher : {D : Type 0} {disk : Ghosts D} → Store D disk → FlushSeatValue → BrokerValue → Flushed D
@@ -63,7 +67,7 @@ new_flusher store seat broker = record {
   waiting = [];
   left = [];
   broken = false;
-  last = record { won = None; since = seat.base };
+  last = record { won = None; since = seat.base; counted = seat.base; block = seat.base };
 }
 
 -- the state after all that is stored

@@ -14,7 +14,7 @@ use Rattle.claim_core.specs.Seats.{FlushSeatValue, when_stopped, with_mark, next
 use Rattle.flush_core.specs.declared.faults.FlushFault.{FlushFault}
 use Rattle.flush_core.specs.declared.faults.FlushFault.TheVariants.{Device, Full, Broken, Memory}
 use Rattle.flush_core.specs.Batches.{between, with_more, from_on, state_at}
-use Rattle.flush_core.specs.Flushed.{Compaction, Flushed, gathered, unexecuted}
+use Rattle.flush_core.specs.Flushed.{Latest, Flushed, gathered, unexecuted}
 use Rattle.flush_core.specs.Room.{Fits, IsLongest, IsTooLong, used_afresh}
 use Rattle.flush_core.specs.Sessions.{boxes_after, ended_of}
 
@@ -40,7 +40,7 @@ abbrev pub taking : {D : Type 0} → Flushed D → List (EntryValue SenderValue)
 taking f more = record f { seat = with_more f.seat (commands more); brought = f.brought ++ more }
 
 -- what was taken is stored up to that number, on this disk
-abbrev pub storing : {D : Type 0} → Flushed D → ℕ → D → ℕ → ℕ → Compaction → Flushed D
+abbrev pub storing : {D : Type 0} → Flushed D → ℕ → D → ℕ → ℕ → Latest → Flushed D
 storing f n disk size used last = record f { disk = disk; size = size; used = used; stored = n; last = last }
 
 -- What waits to be stored, of all that this seat has taken at the end, is stored up to that number, if any of it is. All of it is stored if
@@ -52,13 +52,13 @@ pub record IsNext {D : Type 0} (f : Flushed D) (seat : FlushSeatValue) (n : ℕ)
   pub afresh : f.stored < n → IsTooLong f.size f.used (from_on seat f.stored)
       → IsLongest f.size (used_afresh (state_at f.opening f.seat f.stored)) (from_on seat f.stored) (n - f.stored)
 
--- on this disk, `used` bytes of an area are used, after that compaction
-abbrev pub using : {D : Type 0} → Flushed D → D → ℕ → Compaction → Flushed D
+-- on this disk, `used` bytes of an area are used, and this was written last
+abbrev pub using : {D : Type 0} → Flushed D → D → ℕ → Latest → Flushed D
 using f disk used last = record f { disk = disk; used = used; last = last }
 
 -- the journal is compacted, on this disk, and `used` bytes of an area are used; nothing is won if more is used than before. All that is stored is in the snapshot
 abbrev pub compacted : {D : Type 0} → Flushed D → D → ℕ → Flushed D
-compacted f disk used = using f disk used (record { won = Some (f.used - used); since = f.stored })
+compacted f disk used = using f disk used (record { won = Some (f.used - used); since = f.stored; counted = f.stored; block = f.last.block })
 
 -- the journal is as it was, since the block of what is gathered fits as it is
 pub record IsLeft {D : Type 0} (old new : Flushed D) : Type 0 where

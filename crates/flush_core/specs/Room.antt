@@ -9,7 +9,7 @@ use Rattle.snapshot_core.specs.Snapshots.{snapshot_of}
 use Rattle.recover_core.specs.Compactions.{HasNoRoomFor}
 use Rattle.recover_core.specs.Opens.{HoldsOnlySnapshot}
 use Rattle.recover_core.specs.Standing.{Leads}
-use Rattle.flush_core.specs.Flushed.{Compaction}
+use Rattle.flush_core.specs.Flushed.{Latest}
 
 -- how many bytes of an area are used if it holds only a snapshot of this state: eight of length, the snapshot, and a gate
 abbrev pub used_afresh : State → ℕ
@@ -33,12 +33,13 @@ pub record IsLongest (size used : ℕ) (cs : List CommandValue) (count : ℕ) : 
   pub more : count < length cs → IsTooLong size used (take (count + 1) cs)
 
 -- What is stored of these commands, from the number `first` on, after a snapshot of this state: the first `count`, and `used` bytes of the
--- area are then used. The snapshot won the bytes that were used before, less those that it uses itself.
-pub record StoresAfresh (size before first : ℕ) (s : State) (cs : List CommandValue) (count used : ℕ) (last : Compaction) : Type 0 where
+-- area are then used. The snapshot won the bytes that were used before, less those that it uses itself. It has all before `first`, and the
+-- block begins there.
+pub record StoresAfresh (size before first : ℕ) (s : State) (cs : List CommandValue) (count used : ℕ) (last : Latest) : Type 0 where
   pub longest : IsLongest size (used_afresh s) cs count
   pub fits : Fits size (used_afresh s) (take count cs)
   pub used_is : used ≡ used_afresh s + 9 + length (records (take count cs))
-  pub last_is : last ≡ record { won = Some (before - used_afresh s); since = first }
+  pub last_is : last ≡ record { won = Some (before - used_afresh s); since = first; counted = first; block = first }
 
 -- The image stands for this state, and its live area is too short for a block of these commands. The block is a gate, eight bytes of
 -- length, the records, and the closed gate after them.

@@ -60,6 +60,7 @@ impl<D: Disk, B: Bell, W: Width> Flusher<D, B, W> {
                 let won = before.saturating_sub(self.journal.used());
                 self.won = Some(won);
                 self.since = self.stored;
+                self.counted_from = self.stored;
                 self.counted = 0;
                 Ok(())
             }

@@ -3,7 +3,7 @@
 ghost use Rattle.std.specs.Prelude.{◌≡◌, ◌≤◌, ◌-◌, OnOk, false, true};
 ghost use Rattle.disk_core.specs.Calls.{Lasts};
 ghost use Rattle.recover_core.specs.Compactions.{HasNoRoomFor};
-ghost use Rattle.flush_core.specs.Backlogs.{IsLight, backlog, most_cost};
+ghost use Rattle.flush_core.specs.Backlogs.{IsLight, RepeatsNothing, backlog, most_cost};
 ghost use Rattle.flush_core.specs.Calls.{CompactsIfDue, FlushBreaks, MayCompact, RefusesState, SameThroughout};
 ghost use Rattle.flush_core.specs.Flushed.{HasExecuted, IsFlusher, state_stored};
 
@@ -44,8 +44,8 @@ impl<D: Disk, B: Bell, W: Width> Flusher<D, B, W> {
         Ok(())
     }
 
-    /// Compacts the journal if a start would have anything to repeat, and otherwise does nothing: for the end of a server. All else is as
-    /// `compact_if_due` has it.
+    /// Compacts the journal if a start would have anything to repeat, and otherwise does nothing: for the end of a server. A start has
+    /// nothing to repeat then, unless no snapshot of the state fits into an area. All else is as `compact_if_due` has it.
     pub fn compact_rest(
         &mut self,
         alloc: Global,
@@ -55,7 +55,7 @@ impl<D: Disk, B: Bell, W: Width> Flusher<D, B, W> {
         requires executed { self.old.broken ≡ false → self.old.executed ≡ self.old.stored }
         ensures any_moment { SameThroughout D.Disk self.old self.new }
         ensures compacts { OnOk result (MayCompact D.Disk self.old self.new) }
-        ensures none { OnOk result (self.new.last.since ≡ self.new.stored) }
+        ensures none { OnOk result (RepeatsNothing self.new) }
         ensures refuses { RefusesState D.Disk self.old self.new result }
         ensures breaks { FlushBreaks D.Disk self.old self.new result }
         ensures lasts { Lasts D.Disk self.old.disk self.new.disk }
@@ -104,9 +104,9 @@ impl<D: Disk, B: Bell, W: Width> Flusher<D, B, W> {
     // What is stored from now on counts as what a start would repeat.
     fn count_afresh(&mut self)
         requires done { HasExecuted self.old }
-        ensures { self.new ≡ record self.old { last = record self.old.last { since = self.old.stored } } }
+        ensures { self.new ≡ record self.old { last = record self.old.last { counted = self.old.stored } } }
     {
-        self.since = self.stored;
+        self.counted_from = self.stored;
         self.counted = 0;
     }
 
@@ -120,7 +120,8 @@ impl<D: Disk, B: Bell, W: Width> Flusher<D, B, W> {
         requires done { HasExecuted self.old }
         ensures any_moment { SameThroughout D.Disk self.old self.new }
         ensures compacts { OnOk result (MayCompact D.Disk self.old self.new) }
-        ensures none { OnOk result (self.new.last.since ≡ self.new.stored) }
+        ensures none { OnOk result (RepeatsNothing self.new) }
+        ensures counted { OnOk result (self.new.last.counted ≡ self.new.stored) }
         ensures refuses { RefusesState D.Disk self.old self.new result }
         ensures breaks { FlushBreaks D.Disk self.old self.new result }
         ensures lasts { Lasts D.Disk self.old.disk self.new.disk }

@@ -46,9 +46,13 @@ pub struct Flusher<D: Disk, B: Bell, W: Width> {
     pub(crate) broken: bool,
     // How many bytes the last compaction won, if that was not asked for since.
     pub(crate) won: Option<u64>,
-    // The first number from which on what a start would repeat is counted, and what it costs to repeat what is executed since.
+    // The first number that is not in the last snapshot.
     pub(crate) since: u64,
+    // The first number from which on what a start would repeat is counted, and what it costs to repeat what is executed since.
+    pub(crate) counted_from: u64,
     pub(crate) counted: u64,
+    // The first number of the last block.
+    pub(crate) block: u64,
     pub(crate) width: PhantomData<W>,
 }
 
@@ -95,7 +99,9 @@ impl<D: Disk, B: Bell, W: Width> Flusher<D, B, W> {
             broken,
             won: None,
             since: next,
+            counted_from: next,
             counted: 0,
+            block: next,
             width: PhantomData,
         }
     }
@@ -188,7 +194,9 @@ impl<D: Disk, B: Bell, W: Width> Flusher<D, B, W> {
             broken,
             won,
             since,
+            counted_from,
             counted,
+            block,
             width,
         } = self;
         Flusher {
@@ -205,7 +213,9 @@ impl<D: Disk, B: Bell, W: Width> Flusher<D, B, W> {
             broken,
             won,
             since,
+            counted_from,
             counted,
+            block,
             width,
         }
     }

@@ -113,6 +113,7 @@ impl<D: Disk, B: Bell, W: Width> Flusher<D, B, W> {
                 let left = rest.len() as u64;
                 self.bytes = bytes_without(self.bytes, &self.batch);
                 self.done = replace(&mut self.batch, rest);
+                self.block = self.stored;
                 self.stored = self.seat.next().saturating_sub(left);
                 Ok(())
             }

@@ -60,7 +60,7 @@ invariant_of-self g c =
     let done : c.replace.result.items ≡ take c.args.count it.batch.items = (λ i. (c.replace.ensures.value i).items) ∙ c.in-Ok.ensures.adds.first_is in
     let rest : c.replace.new.dest.items ≡ drop c.args.count it.batch.items = (λ i. (c.replace.ensures.after i).items) ∙ c.in-Ok.ensures.adds.rest_is in
     let same = stored_brought it.seat it.stored it.executed c.args.count _ it.batch.items it.done.items _ _ _ _ _ _ rest done executed held in (
-      stores g.D.Disk.honest g.D.Disk.images f c.append_first.new.journal.disk _ _ c.saturating_sub-self-inside.result (c.replace.result.items ++ c.replace.new.dest.items) (omega (arith, number)) (omega (arith, number, all, within)) whole
+      stores g.D.Disk.honest g.D.Disk.images f c.append_first.new.journal.disk _ _ c.saturating_sub-self-inside.result (record f.last { block = it.stored }) (c.replace.result.items ++ c.replace.new.dest.items) (omega (arith, number)) (omega (arith, number, all, within)) whole
           (λ h. let was = c.append_first.ensures.lasts.was_honest h in
           subst (λ (s : State). StandFor (g.D.Disk.images c.append_first.new.journal.disk) s)
           (state ∙ ap (λ n. state_at opening it.seat n) (sym number))
@@ -161,8 +161,8 @@ returns-in-Ok-clause-stores g c = record {
       let done : c.replace.result.items ≡ take c.args.count it.batch.items = (λ i. (c.replace.ensures.value i).items) ∙ c.in-Ok.ensures.adds.first_is in
       let rest : c.replace.new.dest.items ≡ drop c.args.count it.batch.items = (λ i. (c.replace.ensures.after i).items) ∙ c.in-Ok.ensures.adds.rest_is in
       let same = stored_brought it.seat it.stored it.executed c.args.count _ it.batch.items it.done.items _ _ _ _ _ _ rest done executed held in
-      (λ i. record f { disk = disk_of c.append_first.new.journal; size = size_of c.append_first.new.journal; used = used_of c.append_first.new.journal; stored = number i; brought = same i })
-      ∙ ap (λ (f : Flushed g.row.D.Denot). storing f (f.stored + c.args.count) (disk_of c.append_first.new.journal) (size_of c.append_first.new.journal) (used_of c.append_first.new.journal) f.last) c.self.view_is;
+      (λ i. record f { disk = disk_of c.append_first.new.journal; size = size_of c.append_first.new.journal; used = used_of c.append_first.new.journal; stored = number i; brought = same i; last = record f.last { block = it.stored } })
+      ∙ ap (λ (f : Flushed g.row.D.Denot). storing f (f.stored + c.args.count) (disk_of c.append_first.new.journal) (size_of c.append_first.new.journal) (used_of c.append_first.new.journal) (record f.last { block = f.stored })) c.self.view_is;
   used = let it = c.self.inside in
       let whole : it.broken ≡ false = ap (λ (f : Flushed g.row.D.Denot). f.broken) c.self.view_is ∙ c.requires.done.0 in
       let is : commands (take c.args.count it.batch.items) ≡ take c.args.count (from_on it.seat it.stored) = sym (take-map (λ (entry : EntryValue SenderValue). entry.command) c.args.count it.batch.items) ∙ ap (λ (l : List CommandValue). take c.args.count l) (c.self.invariant.1 whole).batch_is in

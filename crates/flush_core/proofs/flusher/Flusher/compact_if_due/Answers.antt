@@ -37,7 +37,7 @@ pub returns-then-is_due-clause-any_moment : goal.returns-then-is_due-clause-any_
 returns-then-is_due-clause-any_moment g c = c.compact_what_fits.ensures.any_moment
 
 pub returns-then-is_due-clause-compacts : goal.returns-then-is_due-clause-compacts
-returns-then-is_due-clause-compacts g c = due_so g.D.Disk c.args.self.now c.compact_what_fits.new.self c.compact_what_fits.result c.compact_what_fits.ensures.compacts c.compact_what_fits.ensures.none (c.is_due.ensures.due c.if-is_due.true)
+returns-then-is_due-clause-compacts g c = due_so g.D.Disk c.args.self.now c.compact_what_fits.new.self c.compact_what_fits.result c.compact_what_fits.ensures.compacts c.compact_what_fits.ensures.counted (c.is_due.ensures.due c.if-is_due.true)
 
 pub returns-then-is_due-clause-refuses : goal.returns-then-is_due-clause-refuses
 returns-then-is_due-clause-refuses g c = c.compact_what_fits.ensures.refuses

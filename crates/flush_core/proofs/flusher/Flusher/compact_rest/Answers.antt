@@ -1,4 +1,4 @@
-use Rattle.std.proofs.Common.{◌≡◌, ◌∙◌, false, refl, sym, true}
+use Rattle.std.proofs.Common.{◌≡◌, ◌∙◌, false, inl, refl, sym, true}
 use Rattle.flush_core.specs.Calls.{is_left}
 use Rattle.flush_core.proofs.Calls.{lasts_same}
 use Rattle.flush_core.proofs.MayCompact.{moments_same}
@@ -67,4 +67,4 @@ pub returns-then-repeats_nothing-clause-lasts : goal.returns-then-repeats_nothin
 returns-then-repeats_nothing-clause-lasts g c = lasts_same g.D.Disk c.args.self.now.disk c.args.self.now.disk refl
 
 pub returns-then-repeats_nothing-clause-none : goal.returns-then-repeats_nothing-clause-none
-returns-then-repeats_nothing-clause-none g c = c.repeats_nothing.ensures c.if-repeats_nothing.true
+returns-then-repeats_nothing-clause-none g c = inl (c.repeats_nothing.ensures c.if-repeats_nothing.true)

@@ -1,8 +1,9 @@
-use Rattle.std.proofs.Common.{◌∙◌, ap, sym}
+use Rattle.std.proofs.Common.{◌∙◌, ap, inr, subst, sym}
+use Rattle.recover_core.specs.Compactions.{HasNoRoomFor}
 use Rattle.flush_core.specs.Calls.{is_too_long}
-use Rattle.flush_core.specs.Flushed.{Flushed}
+use Rattle.flush_core.specs.Flushed.{Flushed, state_stored}
 use Rattle.flush_core.proofs.Calls.{lasts_same}
-use Rattle.flush_core.proofs.MayCompact.{may_so, moments_same, none_so}
+use Rattle.flush_core.proofs.MayCompact.{counted_so, may_so, moments_same, none_so}
 use Rattle.flush_core.proofs.flusher.Flusher.compact_what_fits.Goals as goal
 
 pub returns-then-has_room_for_state-clause-any_moment : goal.returns-then-has_room_for_state-clause-any_moment
@@ -23,6 +24,9 @@ returns-then-has_room_for_state-clause-compacts g c = may_so g.D.Disk c.args.sel
 pub returns-then-has_room_for_state-clause-none : goal.returns-then-has_room_for_state-clause-none
 returns-then-has_room_for_state-clause-none g c = none_so g.D.Disk c.args.self.now c.compact_journal.new.self c.compact_journal.result c.compact_journal.ensures.compacts
 
+pub returns-then-has_room_for_state-clause-counted : goal.returns-then-has_room_for_state-clause-counted
+returns-then-has_room_for_state-clause-counted g c = counted_so g.D.Disk c.args.self.now c.compact_journal.new.self c.compact_journal.result c.compact_journal.ensures.compacts
+
 pub returns-clause-any_moment : goal.returns-clause-any_moment
 returns-clause-any_moment g c =
     moments_same g.D.Disk c.args.self.now c.count_afresh.new.self (ap (λ (f : Flushed g.row.D.Denot). f.disk) c.count_afresh.ensures) c.has_room_for_state.ensures.kept (g.met.D.Disk.only_now c.args.self.now.disk)
@@ -31,7 +35,10 @@ pub returns-clause-compacts : goal.returns-clause-compacts
 returns-clause-compacts g c = is_too_long (c.has_room_for_state.ensures.none c.if-has_room_for_state.false) c.count_afresh.ensures
 
 pub returns-clause-none : goal.returns-clause-none
-returns-clause-none g c = ap (λ (f : Flushed g.row.D.Denot). f.last.since) c.count_afresh.ensures ∙ sym (ap (λ (f : Flushed g.row.D.Denot). f.stored) c.count_afresh.ensures)
+returns-clause-none g c = inr (subst (λ (f : Flushed g.row.D.Denot). HasNoRoomFor f.size (state_stored f)) (sym c.count_afresh.ensures) (c.has_room_for_state.ensures.none c.if-has_room_for_state.false))
+
+pub returns-clause-counted : goal.returns-clause-counted
+returns-clause-counted g c = ap (λ (f : Flushed g.row.D.Denot). f.last.counted) c.count_afresh.ensures ∙ sym (ap (λ (f : Flushed g.row.D.Denot). f.stored) c.count_afresh.ensures)
 
 pub returns-clause-refuses : goal.returns-clause-refuses
 returns-clause-refuses g c = record { full = λ is. absurd (cc is); no_room = λ honest is. absurd (cc is) }

@@ -11,7 +11,7 @@ invariant_of-self g c =
     let f = flushed_of it in
     let kept = c.self.invariant.0 in
     let executed : it.executed ≡ it.stored = subst (λ (f : Flushed g.row.D.Denot). f.executed ≡ f.stored) (sym c.self.view_is) c.requires.done.1 in (
-      tells g.D.Disk.honest g.D.Disk.images f (record { won = it.won; since = it.stored }) kept,
+      tells g.D.Disk.honest g.D.Disk.images f (record { won = it.won; since = it.since; counted = it.stored; block = it.block }) kept,
       c.self.invariant.1,
       c.self.invariant.2,
       c.self.invariant.3,

@@ -58,8 +58,8 @@ invariant_of-self g c =
           (held_executed it.seat it.stored it.executed _ it.batch.items it.done.items now.done.items it.bytes _ _ _ _ _ _ c.execute_in_portions.ensures.none room.behind held),
       λ w. record { none = room.none; room_is = room.beside },
       c.self.invariant.3,
-      λ w. counts_marked it.opening.value.state it.seat now.seat now.seat.published it.since it.stored c.count_more-self-inside.result raised.seat
-          (counts_more it.opening.value.state it.seat it.since it.executed it.stored it.counted c.count_more-self-inside.result c.steps_of-steps.result c.bytes_of-bytes.result c.in-Ok.outs c.self.invariant.0.executed
+      λ w. counts_marked it.opening.value.state it.seat now.seat now.seat.published it.counted_from it.stored c.count_more-self-inside.result raised.seat
+          (counts_more it.opening.value.state it.seat it.counted_from it.executed it.stored it.counted c.count_more-self-inside.result c.steps_of-steps.result c.bytes_of-bytes.result c.in-Ok.outs c.self.invariant.0.executed
           (c.steps_of-steps.ensures ∙ (ap (λ es. min (sum_by steps_of (commands es)) most_counted) c.deref.ensures.value ∙ ap (λ (l : List CommandValue). min (sum_by steps_of l) most_counted) held.done_is))
           (c.bytes_of-bytes.ensures ∙ (ap (λ es. min (length (records (commands es))) most_counted) c.deref-2.ensures.value ∙ ap (λ (l : List CommandValue). min (length (records l)) most_counted) held.done_is))
           (did.counted ∙ ap (λ (l : List OutValue). min (length l) most_counted) outs)

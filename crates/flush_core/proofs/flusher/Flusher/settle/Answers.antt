@@ -47,7 +47,7 @@ invariant_of-self g c =
       λ w. held_executed it.seat it.stored it.executed _ it.batch.items it.done.items now.done.items it.bytes _ _ _ _ _ _ did.same.0 did.room.behind held,
       λ w. record { none = did.room.none; room_is = did.room.beside },
       c.self.invariant.3,
-      λ w. counts_more it.opening.value.state it.seat it.since it.executed it.stored it.counted c.count_more-self-inside.result c.steps_of-steps.result c.bytes_of-bytes.result c.saturating_sub-outs.result c.self.invariant.0.executed
+      λ w. counts_more it.opening.value.state it.seat it.counted_from it.executed it.stored it.counted c.count_more-self-inside.result c.steps_of-steps.result c.bytes_of-bytes.result c.saturating_sub-outs.result c.self.invariant.0.executed
           (c.steps_of-steps.ensures ∙ (ap (λ es. min (sum_by steps_of (commands es)) most_counted) c.deref.ensures.value ∙ ap (λ (l : List CommandValue). min (sum_by steps_of l) most_counted) held.done_is))
           (c.bytes_of-bytes.ensures ∙ (ap (λ es. min (length (records (commands es))) most_counted) c.deref-2.ensures.value ∙ ap (λ (l : List CommandValue). min (length (records l)) most_counted) held.done_is))
           (omega (arith, c.saturating_sub-outs.ensures, c.len.ensures, c.len-waited.ensures, it.outlet.waiting.ok.0, c.execute_all.new.self.waiting.ok.0, added, ap (λ (l : List OutValue). length l) outs))
