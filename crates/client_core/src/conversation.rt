@@ -1,6 +1,7 @@
 //! The whole conversation of a ping.
 
 ghost use Rattle.std.specs.Prelude.{◌≡◌, ◌⊎◌, IfErr, OnOk};
+ghost use Rattle.client_core.specs.declared.fault.Step.TheVariants.{Close, Receipt};
 ghost use Rattle.client_core.specs.declared.probe.Probe.TheVariants.{Send};
 ghost use Rattle.client_core.specs.Answers.{said};
 ghost use Rattle.client_core.specs.Talks.{Answers, BreaksOff, Converses, IsOfPeer, IsUnanswered};
@@ -37,6 +38,7 @@ pub fn converse<C: Clock, P: Peer>(
 // Closes, after so long a wait for the receipt.
 fn close<P: Peer>(took: Duration, peer: &mut P) -> Result<Duration, ClientFault>
     ensures told { P.talk peer.new ≡ P.talk peer.old }
+    ensures step { IfErr result (λ fault. fault.step ≡ Close) }
     ensures cause { IfErr result (λ fault. IsOfPeer fault.cause) }
 {
     match peer.close() {
@@ -69,7 +71,8 @@ fn ask_for_receipt<C: Clock, P: Peer>(
 
 // The fault if the clock can't be read.
 fn no_clock() -> ClientFault
-    ensures { IsOfPeer result.cause }
+    ensures step { result.step ≡ Receipt }
+    ensures cause { IsOfPeer result.cause }
 {
     ClientFault {
         step: Step::Receipt,

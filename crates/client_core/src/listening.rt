@@ -3,6 +3,8 @@
 ghost use Rattle.std.specs.Prelude.{◌≡◌, ◌++◌, ◌∷◌, [], List, ℕ, IfOk, None, OnOk};
 ghost use Rattle.frame_core.specs.declared.frame.Frame.{Frame};
 ghost use Rattle.frame_core.specs.Written.{written};
+ghost use Rattle.client_core.specs.declared.fault.Cause.TheVariants.{Quiet};
+ghost use Rattle.client_core.specs.declared.fault.Step.TheVariants.{Message};
 ghost use Rattle.client_core.specs.Deeds.{AreDone, IsDone, acts_of};
 ghost use Rattle.client_core.specs.Listening.{AllAreShown, AreLeft, EndsIn, Listens, ListensIn};
 ghost use Rattle.client_core.specs.Requests.{subscribe_frame};
@@ -72,7 +74,9 @@ fn hear_all<L: Listener>(
 }
 
 // The fault if no message has come for as long as the plan allows.
-fn quiet() -> ClientFault {
+fn quiet() -> ClientFault
+    ensures { result ≡ record { step = Message; cause = Quiet } }
+{
     ClientFault {
         step: Step::Message,
         cause: Cause::Quiet,

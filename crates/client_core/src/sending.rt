@@ -2,6 +2,7 @@
 
 ghost use Rattle.std.specs.Prelude.{◌≡◌, ◌⊎◌, IfErr, OnOk};
 ghost use Rattle.frame_core.specs.Written.{written};
+ghost use Rattle.client_core.specs.declared.fault.Step.TheVariants.{Close};
 ghost use Rattle.client_core.specs.declared.probe.Probe.TheVariants.{Connect, Disconnect, Send};
 ghost use Rattle.client_core.specs.Answers.{said, step_of};
 ghost use Rattle.client_core.specs.Requests.{connect_frame, forget_frame, send_frame};
@@ -75,6 +76,7 @@ pub fn leave<P: Peer>(alloc: Global, peer: &mut P) -> Result<(), ClientFault>
 /// Closes.
 pub fn close<P: Peer>(peer: &mut P) -> Result<(), ClientFault>
     ensures told { P.talk peer.new ≡ P.talk peer.old }
+    ensures step { IfErr result (λ fault. fault.step ≡ Close) }
     ensures cause { IfErr result (λ fault. IsOfPeer fault.cause) }
 {
     match peer.close() {
