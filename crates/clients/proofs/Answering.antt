@@ -96,7 +96,7 @@ awaits next.Go last client a l = a
 awaits next.Read last client a l = a
 awaits next.Write last client a l = a
 awaits (next.Room mark) last client a l = (a.0, subst (λ x. Leaves x client.waiting) a.1 l)
-awaits (next.Output mark) last client a l = a
+awaits (next.Mark mark) last client a l = a
 awaits next.Memory last client a l = a
 awaits next.Close last client a l = a
 awaits (next.Over ended) last client a l = a
@@ -108,7 +108,7 @@ pub pressing_so : {B : Type 0} (n : Next) (last : Outcome) (client : Client B) �
 pressing_so next.Go last client on p = on
 pressing_so next.Memory last client on p = on
 pressing_so (next.Room mark) last client on p = (on, p)
-pressing_so (next.Output mark) last client on p = absurd p
+pressing_so (next.Mark mark) last client on p = absurd p
 pressing_so next.Read last client on p = absurd p
 pressing_so next.Write last client on p = absurd p
 pressing_so next.Close last client on p = absurd p
@@ -119,7 +119,7 @@ runs_pressing n last client runs p = pressing_so n last client (runs_yet client.
 
 pub rests_so : {B : Type 0} (n : Next) (last : Outcome) (client : Client B) → client.stage ≡ Running → IsSatisfied client → IsRest n client → AwaitsBy n last client
 rests_so next.Read last client runs s r = (runs, s)
-rests_so (next.Output mark) last client runs s r = (runs, (s.0, s.1), r)
+rests_so (next.Mark mark) last client runs s r = (runs, (s.0, s.1), r)
 rests_so (next.Room mark) last client runs s r = absurd r
 rests_so next.Go last client runs s r = absurd r
 rests_so next.Memory last client runs s r = absurd r

@@ -52,7 +52,7 @@ Awaits next.Go client = GoesOnYet client.stage
 Awaits next.Read client = (client.stage ≡ Running) × IsSatisfied client
 Awaits next.Write client = client.stage ≡ Running
 Awaits (next.Room mark) client = GoesOnYet client.stage × IsSome client.waiting
-Awaits (next.Output mark) client = (client.stage ≡ Running) × IsSatisfied client × WaitsFor mark client.kept
+Awaits (next.Mark mark) client = (client.stage ≡ Running) × IsSatisfied client × WaitsFor mark client.kept
 Awaits next.Memory client = GoesOnYet client.stage
 Awaits next.Close client = (ended : Ended) × (client.stage ≡ Parting ended)
 Awaits (next.Over ended) client = client.stage ≡ Over ended
@@ -101,7 +101,7 @@ AwaitsBy next.Go last client = GoesOnYet client.stage
 AwaitsBy next.Read last client = (client.stage ≡ Running) × IsSatisfied client
 AwaitsBy next.Write last client = client.stage ≡ Running
 AwaitsBy (next.Room mark) last client = GoesOnYet client.stage × (last ≡ steps.Room mark)
-AwaitsBy (next.Output mark) last client = (client.stage ≡ Running) × IsSatisfied client × WaitsFor mark client.kept
+AwaitsBy (next.Mark mark) last client = (client.stage ≡ Running) × IsSatisfied client × WaitsFor mark client.kept
 AwaitsBy next.Memory last client = GoesOnYet client.stage
 AwaitsBy next.Close last client = (ended : Ended) × (client.stage ≡ Parting ended)
 AwaitsBy (next.Over ended) last client = client.stage ≡ Over ended
@@ -111,7 +111,7 @@ abbrev pub IsPressing : Next → Outcome → Type 0
 IsPressing next.Go last = Unit {0}
 IsPressing next.Memory last = Unit {0}
 IsPressing (next.Room mark) last = last ≡ steps.Room mark
-IsPressing (next.Output mark) last = ⊥
+IsPressing (next.Mark mark) last = ⊥
 IsPressing next.Read last = ⊥
 IsPressing next.Write last = ⊥
 IsPressing next.Close last = ⊥
@@ -120,7 +120,7 @@ IsPressing (next.Over ended) last = ⊥
 -- what a connection that has nothing to do waits for
 abbrev pub IsRest : {B : Type 0} → Next → Client B → Type 0
 IsRest next.Read client = Unit {0}
-IsRest (next.Output mark) client = WaitsFor mark client.kept
+IsRest (next.Mark mark) client = WaitsFor mark client.kept
 IsRest (next.Room mark) client = ⊥
 IsRest next.Go client = ⊥
 IsRest next.Memory client = ⊥

@@ -5,27 +5,27 @@ use Rattle.clients.specs.declared.deadlines.TheConstants.{LONGEST_PART, LONGEST_
 use Rattle.clients.specs.declared.deadlines.Due.{Due}
 use Rattle.clients.specs.declared.deadlines.Due.TheVariants.{GivenUp, Write, Ping, In}
 use Rattle.clients.specs.declared.deadlines.Deadlines.{Deadlines}
-use Rattle.clients.specs.declared.deadlines.Progress.{Progress}
-use Rattle.clients.specs.declared.deadlines.Progress.TheVariants.{Greeting, Unopened, Open}
+use Rattle.clients.specs.declared.deadlines.Opening.{Opening}
+use Rattle.clients.specs.declared.deadlines.Opening.TheVariants.{Greeting, Unopened, Open}
 
 -- so long have passed since then
 abbrev pub Passed : ℕ → ℕ → ℕ → Type 0
 Passed span since now = since + span ≤ now
 
 -- it came to a full server, is no ping that has its WebSocket, and is there for too long
-abbrev pub Overstays : Progress → Deadlines → ℕ → Type 0
+abbrev pub Overstays : Opening → Deadlines → ℕ → Type 0
 Overstays Greeting p now = (p.is_guest ≡ true) × Passed LONGEST_GUEST p.connected now
 Overstays Unopened p now = ⊥
 Overstays Open p now = ⊥
 
 -- it says nothing between two parts of its handshake
-abbrev pub SaysNoPart : Progress → Deadlines → ℕ → Type 0
+abbrev pub SaysNoPart : Opening → Deadlines → ℕ → Type 0
 SaysNoPart Greeting p now = Passed LONGEST_PART p.heard now
 SaysNoPart Unopened p now = ⊥
 SaysNoPart Open p now = ⊥
 
 -- it is connected and opens no session, though it is read
-abbrev pub OpensNothing : Progress → Deadlines → ℕ → Type 0
+abbrev pub OpensNothing : Opening → Deadlines → ℕ → Type 0
 OpensNothing Greeting p now = (p.is_unread ≡ false) × Passed LONGEST_GREETING p.connected now
 OpensNothing Unopened p now = (p.is_unread ≡ false) × Passed LONGEST_GREETING p.connected now
 OpensNothing Open p now = ⊥
@@ -41,7 +41,7 @@ NeverCloses None now = ⊥
 NeverCloses (Some since) now = Passed LONGEST_CLOSE since now
 
 -- Its silence counts: it has its WebSocket, so that it answers pings, nothing waits to be written, no close is waited for, and it is read.
-abbrev pub counts : Progress → Option ℕ → Option ℕ → (is_unread : Bool) → Bool
+abbrev pub counts : Opening → Option ℕ → Option ℕ → (is_unread : Bool) → Bool
 counts Greeting held_up parting is_unread = false
 counts Unopened None None is_unread = not is_unread
 counts Open None None is_unread = not is_unread
@@ -64,11 +64,11 @@ abbrev pub IsQuiet : Deadlines → ℕ → Type 0
 IsQuiet p now = Passed (wait_of p) (silent_since p) now × Passed (wait_of p) p.freed now
 
 -- it was sent all pings, and has answered none
-abbrev pub IsSilent : Progress → Deadlines → ℕ → Type 0
+abbrev pub IsSilent : Opening → Deadlines → ℕ → Type 0
 IsSilent progress p now = (counts progress p.held_up p.parting p.is_unread ≡ true) × (PINGS ≤ p.pings) × IsQuiet p now
 
 -- It is to be given up.
-abbrev pub IsGivenUp : Progress → Deadlines → ℕ → Type 0
+abbrev pub IsGivenUp : Opening → Deadlines → ℕ → Type 0
 IsGivenUp progress p now = Overstays progress p now ⊎ SaysNoPart progress p now ⊎ OpensNothing progress p now ⊎ TakesNothing p.held_up p ⊎ NeverCloses p.parting now ⊎ IsSilent progress p now
 
 -- Something has waited for it, and its socket took nothing, for so long: that is to be offered once more.
@@ -77,11 +77,11 @@ IsWriteDue None p now = ⊥
 IsWriteDue (Some since) p now = Passed LONGEST_WRITE since now × Passed LONGEST_WRITE p.took now
 
 -- it has been silent, and not all pings were sent
-abbrev pub IsPingDue : Progress → Deadlines → ℕ → Type 0
+abbrev pub IsPingDue : Opening → Deadlines → ℕ → Type 0
 IsPingDue progress p now = (counts progress p.held_up p.parting p.is_unread ≡ true) × (p.pings < PINGS) × IsQuiet p now
 
 -- something is to be done
-abbrev pub IsSomethingDue : Progress → Deadlines → ℕ → Type 0
+abbrev pub IsSomethingDue : Opening → Deadlines → ℕ → Type 0
 IsSomethingDue progress p now = IsGivenUp progress p now ⊎ IsWriteDue p.held_up p now ⊎ IsPingDue progress p now
 
 -- From now on that is not so for so long, and then it is. If no clock can tell that moment, it need not be.
@@ -92,7 +92,7 @@ pub record Until (Holds : ℕ → Type 0) (now left : ℕ) : Type 0 where
 
 -- What is due of a client. It is given up exactly if it is to be. Or else what waits is offered, or a ping is sent, exactly if that is
 -- to be. Or else nothing is due, and for so long nothing will be.
-abbrev pub IsDue : Progress → Deadlines → ℕ → Due → Type 0
+abbrev pub IsDue : Opening → Deadlines → ℕ → Due → Type 0
 IsDue progress p now GivenUp = IsGivenUp progress p now
 IsDue progress p now Write = IsWriteDue p.held_up p now × (IsGivenUp progress p now → ⊥)
 IsDue progress p now Ping = IsPingDue progress p now × (IsGivenUp progress p now → ⊥) × (IsWriteDue p.held_up p now → ⊥)

@@ -3,13 +3,13 @@ use Rattle.std.specs.Prelude.{◌≡◌, ◌≢◌, ◌||◌, ◌+◌, ◌-◌, 
 use Rattle.std.specs.Option.{is_some}
 use Rattle.clients.specs.declared.turned.Turned.{Turned}
 use Rattle.clients.specs.declared.turned.Next.{Next}
-use Rattle.clients.specs.declared.turned.Next.TheVariants.{Read, Write, Output, Close, Memory}
+use Rattle.clients.specs.declared.turned.Next.TheVariants.{Read, Write, Mark, Close, Memory}
 use Rattle.clients.specs.Deadlines.{IsDue, freed_by, heard_by, held_up_by, parting_by, pinged_by, taken_by, unread_by}
 use Rattle.clients.specs.declared.deadlines.Due.{Due}
 use Rattle.clients.specs.declared.deadlines.Due.TheVariants as dues
 use Rattle.clients.specs.declared.deadlines.Deadlines.{Deadlines}
-use Rattle.clients.specs.declared.deadlines.Progress.{Progress}
-use Rattle.clients.specs.declared.deadlines.Progress.TheVariants.{Open}
+use Rattle.clients.specs.declared.deadlines.Opening.{Opening}
+use Rattle.clients.specs.declared.deadlines.Opening.TheVariants.{Open}
 use Rattle.clients.specs.declared.supply.Reported.{Reported}
 use Rattle.clients.specs.declared.supply.Reported.TheVariants.{Bytes, End}
 use Rattle.clients.specs.declared.clients.ClientState.{ClientState}
@@ -126,7 +126,7 @@ parts_now (Some client) = not (is_some client.deadlines.parting)
 -- portion. Or it has closed it, before which nothing was heard.
 abbrev pub has_more : Bool → Next → Option Scheduled → Bool
 has_more has_rest Read client = has_rest
-has_more has_rest (Output mark) client = has_rest
+has_more has_rest (Mark mark) client = has_rest
 has_more has_rest Close client = has_rest || parts_now client
 has_more has_rest _ client = false
 
@@ -179,7 +179,7 @@ moment_of dues.Ping now = later now 1
 moment_of (dues.In millis) now = later now millis
 
 -- This is due of a client. Each ping counts, and the client is looked at next when something is due then.
-pub record ComesDue (n : ℕ) (progress : Progress) (now : ℕ) (due : Due) (old new : Clients) (client : Scheduled) : Type 0 where
+pub record ComesDue (n : ℕ) (progress : Opening) (now : ℕ) (due : Due) (old new : Clients) (client : Scheduled) : Type 0 where
   pub is : IsDue progress client.deadlines now due
   pub done : Updates old.all new.all n (Some (record client { deadlines = done_by due now client.deadlines }))
   pub then : Due

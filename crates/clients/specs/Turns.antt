@@ -4,7 +4,7 @@ use Rattle.clients.specs.Lines.{WaitingValue, is_over, joined, may_join, waiting
 use Rattle.clients.specs.declared.lines.Lines.{Lines}
 use Rattle.clients.specs.declared.turned.Turned.{Turned}
 use Rattle.clients.specs.declared.turned.Next.{Next}
-use Rattle.clients.specs.declared.turned.Next.TheVariants.{Go, Room, Output, Close}
+use Rattle.clients.specs.declared.turned.Next.TheVariants.{Go, Room, Mark, Close}
 
 -- that client stands in line for a turn, unless it goes on by itself: then it keeps its place there
 abbrev pub woken : ℕ → Lines → Lines
@@ -45,7 +45,7 @@ abbrev pub settled_by : Next → Bool → Bool → ℕ → Lines → Lines
 settled_by Go heard in_front n l = going_on n l
 settled_by Close heard in_front n l = cond heard (going_on n l) l
 settled_by (Room mark) heard in_front n l = record l { room = refused in_front n mark l.room }
-settled_by (Output mark) heard in_front n l = record l { outputs = waiting n mark l.outputs }
+settled_by (Mark mark) heard in_front n l = record l { outputs = waiting n mark l.outputs }
 settled_by _ heard in_front n l = l
 
 -- the lines after a turn of that client

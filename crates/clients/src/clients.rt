@@ -1,10 +1,9 @@
 //! The clients of a desk.
 
-ghost use Rattle.std.specs.Prelude.{◌≡◌, ◌<◌, ◌+◌, ◌≤◌, ◌||◌, ◌∷◌, [], None, false, IfOk, IfSome, IsNone, MatchOption, Some, OnOk, OnErr, length, option_map, slice_set};
+ghost use Rattle.std.specs.Prelude.{◌≡◌, ◌<◌, ◌≤◌, ◌∷◌, [], None, false, IfOk, IfSome, IsNone, MatchOption, Some, OnOk, OnErr, option_map, slice_set};
 ghost use Rattle.std.specs.Option.{option_copied};
 ghost use Rattle.clients.specs.declared.limits.TheConstants.{CLIENTS};
 ghost use Rattle.clients.specs.declared.timers.TheConstants.{NEVER};
-ghost use Rattle.clients.specs.Lines.{is_over};
 ghost use Rattle.clients.specs.Schedules.{begun, is_greeted, is_seated};
 ghost use Rattle.clients.specs.Deadlines.{fresh};
 ghost use Rattle.clients.specs.Timers.{IsDue, IsNotDue, looked_through};
@@ -85,7 +84,8 @@ pub struct Clients {
     pub(crate) all: Slab<Scheduled>,
     // No client has had a number that is not under this.
     pub(crate) reach: usize,
-    pub(crate) lines: Lines,
+    /// Where they stand in line.
+    pub lines: Lines,
     pub(crate) timers: Timers,
     // When clients to which memory was refused are to try again.
     pub(crate) retry: u64,
@@ -94,7 +94,7 @@ pub struct Clients {
 impl Clients {
     ghost use Rattle.clients.specs.Schedules.{Admits, Begins, IsEmpty, Removes, client_at, state_at};
     ghost use Rattle.slab.specs.Slab.{Updates};
-    ghost use Rattle.clients.specs.Turns.{after_let_in, gone_on, let_in, woken};
+    ghost use Rattle.clients.specs.Turns.{after_let_in, gone_on, let_in};
 
     /// None yet.
     pub fn new(alloc: Global) -> Result<Clients, AllocError>
@@ -136,7 +136,7 @@ impl Clients {
         let number = self.all.insert(client)?;
         self.reach = self.reach.max(number.saturating_add(1));
         self.timers.set(number, now);
-        self.wake(number);
+        self.lines.wake(number);
         Ok(())
     }
 
@@ -171,41 +171,6 @@ impl Clients {
         ensures none { IsNone result → IsNotDue now self.old.timers.all × (self.new ≡ record self.old { timers = looked_through now self.old.timers }) }
     {
         self.timers.take_due(now)
-    }
-
-    /// Has a client stand in line for a turn, behind all others. A client that stands there, or that goes on by itself, keeps its place.
-    pub fn wake(&mut self, number: usize)
-        ensures { self.new ≡ record self.old { lines = woken number self.old.lines } }
-    {
-        self.lines.wake(number);
-    }
-
-    /// How many stand in line for a turn.
-    pub fn count_ready(&self) -> usize
-        ensures { result ≡ length self.now.lines.ready }
-    {
-        self.lines.count_ready()
-    }
-
-    /// How many go on by themselves.
-    pub fn count_again(&self) -> usize
-        ensures { result ≡ length self.now.lines.again }
-    {
-        self.lines.count_again()
-    }
-
-    /// How many wait for the mark: for room, or for their next output to come under it.
-    pub fn count_waiting(&self) -> usize
-        ensures { result ≡ length self.now.lines.room.line + length self.now.lines.outputs.line }
-    {
-        self.lines.count_waiting()
-    }
-
-    /// Whether a client is let in at this mark.
-    pub fn is_over(&self, mark: u64) -> bool
-        ensures { result ≡ (is_over mark self.now.lines.room || is_over mark self.now.lines.outputs) }
-    {
-        self.lines.is_over(mark)
     }
 
     /// The next client that has a turn, and where it is. It stands in line no more.

@@ -34,9 +34,9 @@ const LONGEST_WRITE: u64 = 60_000;
 /// For how many milliseconds a client's close is waited for, once it was sent that its connection is being closed.
 const LONGEST_CLOSE: u64 = 10_000;
 
-/// How far a client has come.
+/// How far a client has come in opening its session.
 #[derive(Clone, Copy)]
-pub enum Progress {
+pub enum Opening {
     /// Its handshake is under way.
     Greeting,
     /// It has its WebSocket, and no session.
@@ -180,7 +180,7 @@ impl Deadlines {
     }
 
     /// What is due of a client that has come so far.
-    pub fn due(&self, progress: Progress, now: u64) -> Due
+    pub fn due(&self, progress: Opening, now: u64) -> Due
         ensures { IsDue progress self.now now result }
     {
         let given_up = self.given_up_in(progress, now);
@@ -198,7 +198,7 @@ impl Deadlines {
     }
 
     // For how much longer it is waited for.
-    fn given_up_in(&self, progress: Progress, now: u64) -> u64
+    fn given_up_in(&self, progress: Opening, now: u64) -> u64
         ensures { Until (IsGivenUp progress self.now) now result }
     {
         let stay = self.stay_in(progress, now);
@@ -210,29 +210,29 @@ impl Deadlines {
         stay.min(part.min(session.min(take.min(close.min(silence)))))
     }
 
-    fn stay_in(&self, progress: Progress, now: u64) -> u64
+    fn stay_in(&self, progress: Opening, now: u64) -> u64
         ensures { Until (Overstays progress self.now) now result }
     {
         match progress {
-            Progress::Greeting if self.is_guest => left_of(LONGEST_GUEST, self.connected, now),
+            Opening::Greeting if self.is_guest => left_of(LONGEST_GUEST, self.connected, now),
             _ => u64::MAX,
         }
     }
 
-    fn part_in(&self, progress: Progress, now: u64) -> u64
+    fn part_in(&self, progress: Opening, now: u64) -> u64
         ensures { Until (SaysNoPart progress self.now) now result }
     {
         match progress {
-            Progress::Greeting => left_of(LONGEST_PART, self.heard, now),
-            Progress::Unopened | Progress::Open => u64::MAX,
+            Opening::Greeting => left_of(LONGEST_PART, self.heard, now),
+            Opening::Unopened | Opening::Open => u64::MAX,
         }
     }
 
-    fn session_in(&self, progress: Progress, now: u64) -> u64
+    fn session_in(&self, progress: Opening, now: u64) -> u64
         ensures { Until (OpensNothing progress self.now) now result }
     {
         match progress {
-            Progress::Greeting | Progress::Unopened if !self.is_unread => left_of(
+            Opening::Greeting | Opening::Unopened if !self.is_unread => left_of(
                 LONGEST_GREETING,
                 self.connected,
                 now,
@@ -260,7 +260,7 @@ impl Deadlines {
         }
     }
 
-    fn silence_in(&self, progress: Progress, now: u64) -> u64
+    fn silence_in(&self, progress: Opening, now: u64) -> u64
         ensures { Until (IsSilent progress self.now) now result }
     {
         if self.counts(progress) && self.pings >= PINGS {
@@ -281,7 +281,7 @@ impl Deadlines {
     }
 
     // After how long it is to be sent a ping.
-    fn ping_in(&self, progress: Progress, now: u64) -> u64
+    fn ping_in(&self, progress: Opening, now: u64) -> u64
         ensures { Until (IsPingDue progress self.now) now result }
     {
         if self.counts(progress) && self.pings < PINGS {
@@ -292,11 +292,11 @@ impl Deadlines {
     }
 
     // Whether its silence counts.
-    fn counts(&self, progress: Progress) -> bool
+    fn counts(&self, progress: Opening) -> bool
         ensures { result ≡ counts progress self.now.held_up self.now.parting self.now.is_unread }
     {
         match (progress, self.held_up, self.parting) {
-            (Progress::Unopened | Progress::Open, None, None) => !self.is_unread,
+            (Opening::Unopened | Opening::Open, None, None) => !self.is_unread,
             _ => false,
         }
     }

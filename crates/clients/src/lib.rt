@@ -42,13 +42,14 @@ mod weights;
 
 pub use client::Client;
 pub use clients::{ClientState, Clients, Scheduled};
-pub use deadlines::{Due, Progress};
+pub use deadlines::{Due, Opening};
 pub use desk::Desk;
 pub use ended::Ended;
 pub use footprint::{Cut, SESSION_BYTES};
 pub use kept::{Kept, Relayed};
 pub use laws::a_connection_at_a_desk_lives_one_life;
 pub use limits::CLIENTS;
+pub use lines::Lines;
 pub use outlook::Outlook;
 pub use place::{NotAdmitted, Seated};
 pub use read_budget::{Flow, Framed, ReadBudget};

@@ -18,7 +18,7 @@ pub struct Lines {
     pub(crate) again: ClientLine,
     // Clients that found the window full, in the order in which they were refused.
     pub(crate) room: Waiting,
-    // Clients whose next output waits for the mark.
+    // Clients that wait for the mark alone: their next output does, or commands of others go before theirs.
     pub(crate) outputs: Waiting,
     // The client that was let in to room, while its turn lasts.
     pub(crate) let_in: Option<usize>,
@@ -42,35 +42,35 @@ impl Lines {
     }
 
     /// How many stand in line for a turn.
-    pub(crate) fn count_ready(&self) -> usize
+    pub fn count_ready(&self) -> usize
         ensures { result ≡ length self.now.ready }
     {
         self.ready.len()
     }
 
     /// How many go on by themselves.
-    pub(crate) fn count_again(&self) -> usize
+    pub fn count_again(&self) -> usize
         ensures { result ≡ length self.now.again }
     {
         self.again.len()
     }
 
-    /// How many wait for the mark.
-    pub(crate) fn count_waiting(&self) -> usize
+    /// How many wait for the mark: for room, or for their next output to come under it.
+    pub fn count_waiting(&self) -> usize
         ensures { result ≡ length self.now.room.line + length self.now.outputs.line }
     {
         self.room.len() + self.outputs.len()
     }
 
     /// Whether a client is let in at this mark.
-    pub(crate) fn is_over(&self, mark: u64) -> bool
+    pub fn is_over(&self, mark: u64) -> bool
         ensures { result ≡ (is_over mark self.now.room || is_over mark self.now.outputs) }
     {
         self.room.is_over(mark) || self.outputs.is_over(mark)
     }
 
-    /// That client stands in line for a turn. One that goes on by itself keeps its place.
-    pub(crate) fn wake(&mut self, client: usize)
+    /// Has a client stand in line for a turn, after all others. A client that stands there, or that goes on by itself, keeps its place.
+    pub fn wake(&mut self, client: usize)
         ensures { self.new ≡ woken client self.old }
     {
         if self.again.takes(client) {
@@ -131,7 +131,7 @@ impl Lines {
                 self.room.join_first(client, mark);
             }
             Next::Room(mark) => self.room.join(client, mark),
-            Next::Output(mark) => self.outputs.join(client, mark),
+            Next::Mark(mark) => self.outputs.join(client, mark),
             Next::Read | Next::Write | Next::Close | Next::Memory | Next::Over(_) => {}
         }
     }

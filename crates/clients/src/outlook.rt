@@ -48,13 +48,13 @@ impl Clients {
     pub fn is_ready(&self) -> bool
         ensures { result ≡ is_ready self.now }
     {
-        self.count_ready() > 0 || self.count_again() > 0
+        self.lines.count_ready() > 0 || self.lines.count_again() > 0
     }
 
     /// Whether a client waits for the mark.
     pub fn awaits_mark(&self) -> bool
         ensures { result ≡ awaits_mark self.now }
     {
-        self.count_waiting() > 0
+        self.lines.count_waiting() > 0
     }
 }

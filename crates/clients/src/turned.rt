@@ -23,8 +23,8 @@ pub enum Next {
     Write,
     /// A mark over this one: its next command has no room yet.
     Room(u64),
-    /// A mark over this one, which is the number of its next output.
-    Output(u64),
+    /// A mark over this one: the number of its next output, or the mark when its turns began, if commands of others go before its next.
+    Mark(u64),
     /// Memory, which was refused.
     Memory,
     /// Its peer's close. If something was heard, there may be more to hear at once.

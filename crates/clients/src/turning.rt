@@ -211,7 +211,7 @@ impl<B: Bell> Client<B> {
         ensures { IsRest result self.now }
     {
         match self.kept.awaits() {
-            Some(number) => Next::Output(number),
+            Some(number) => Next::Mark(number),
             None => Next::Read,
         }
     }

@@ -5,7 +5,7 @@ ghost use Rattle.clients.specs.declared.timers.TheConstants.{NEVER};
 ghost use Rattle.clients.specs.Schedules.{ComesDue, IsWaitedFor, LooksBy, OthersStay, Parts, client_at, has_more, heard_greeting, is_seated, is_short, moment_of, parts_now, state_at, waited_by, woken_short};
 
 use crate::clients::{ClientState, Clients, Scheduled};
-use crate::deadlines::{Due, Progress};
+use crate::deadlines::{Due, Opening};
 use crate::limits::SHORTAGE;
 use crate::read_budget::{Flow, ReadBudget};
 use crate::supply::Reported;
@@ -42,7 +42,7 @@ impl Clients {
         ensures rest { self.new ≡ record self.old { all = self.new.all; lines = woken number self.old.lines } }
         ensures seated { result ≡ is_seated (state_at number self.old) }
     {
-        self.wake(number);
+        self.lines.wake(number);
         match self.all.get_mut(number) {
             Some(client) => {
                 client.note_report(reported, now);
@@ -63,7 +63,7 @@ impl Clients {
         self.retry = NEVER;
         for number in 0..self.reach {
             if self.is_short(number) {
-                self.wake(number);
+                self.lines.wake(number);
             }
         }
         Retried { at: now }
@@ -104,7 +104,7 @@ impl Clients {
         ensures { result ≡ has_more has_rest next (client_at number self.now) }
     {
         match next {
-            Next::Read | Next::Output(_) => has_rest,
+            Next::Read | Next::Mark(_) => has_rest,
             Next::Close => has_rest || self.parts_now(number),
             _ => false,
         }
@@ -156,7 +156,7 @@ impl Clients {
 
     /// What is due of a client whose moment has come and which has come so far, and where it is. Each ping counts as sent, and its next
     /// moment is set, unless it is to be given up.
-    pub fn come_due(&mut self, number: usize, progress: Progress, now: u64) -> Due
+    pub fn come_due(&mut self, number: usize, progress: Opening, now: u64) -> Due
         ensures none { MatchOption (client_at number self.old) ((result ≡ Due.In NEVER) × (self.new ≡ self.old)) (λ _. Unit {0}) }
         ensures due { MatchOption (client_at number self.old) (Unit {0}) (ComesDue number progress now result self.old self.new) }
     {
@@ -200,14 +200,14 @@ impl Scheduled {
             _ if is_unread => self.deadlines.unread(),
             _ => self.deadlines.freed(now),
         }
-        match self.deadlines.due(Progress::Open, now) {
+        match self.deadlines.due(Opening::Open, now) {
             Due::In(millis) => now.saturating_add(millis),
             Due::Write | Due::Ping | Due::GivenUp => now,
         }
     }
 
     // What is due of it. A ping counts as sent.
-    fn come_due(&mut self, progress: Progress, now: u64) -> Due
+    fn come_due(&mut self, progress: Opening, now: u64) -> Due
         ensures due { IsDue progress self.old.deadlines now result }
         ensures done { self.new ≡ record self.old { deadlines = done_by result now self.old.deadlines } }
     {

@@ -87,7 +87,7 @@ fn wait<G: Gate>(gate: &G, worker: u32, turned: Turned) {
         gate.appended(worker);
     }
     match turned.next {
-        Next::Room(mark) | Next::Output(mark) => gate.wait_for_mark(worker, mark),
+        Next::Room(mark) | Next::Mark(mark) => gate.wait_for_mark(worker, mark),
         Next::Memory => gate.wait_for_memory(worker),
         _ => {}
     }

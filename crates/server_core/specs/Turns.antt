@@ -2,9 +2,9 @@
 use Rattle.std.specs.Prelude.{◌&&◌, ◌||◌, Bool, true, false}
 use Rattle.clients.specs.declared.turned.Turned.{Turned}
 use Rattle.clients.specs.declared.turned.Next.{Next}
-use Rattle.clients.specs.declared.turned.Next.TheVariants.{Go, Read, Write, Room, Output, Memory, Close, Over}
-use Rattle.clients.specs.declared.deadlines.Progress.{Progress}
-use Rattle.clients.specs.declared.deadlines.Progress.TheVariants.{Greeting, Unopened, Open}
+use Rattle.clients.specs.declared.turned.Next.TheVariants.{Go, Read, Write, Room, Mark, Memory, Close, Over}
+use Rattle.clients.specs.declared.deadlines.Opening.{Opening}
+use Rattle.clients.specs.declared.deadlines.Opening.TheVariants.{Greeting, Unopened, Open}
 use Rattle.event_log.specs.declared.kind.Kind.{Kind}
 use Rattle.event_log.specs.declared.kind.Kind.TheVariants as kinds
 
@@ -12,7 +12,7 @@ use Rattle.event_log.specs.declared.kind.Kind.TheVariants as kinds
 abbrev pub waits : Next → Bool
 waits Read = true
 waits (Room mark) = true
-waits (Output mark) = true
+waits (Mark mark) = true
 waits Memory = true
 waits Go = false
 waits Write = false
@@ -25,7 +25,7 @@ goes Go = true
 goes Read = false
 goes Write = false
 goes (Room mark) = false
-goes (Output mark) = false
+goes (Mark mark) = false
 goes Memory = false
 goes Close = false
 goes (Over ended) = false
@@ -39,7 +39,7 @@ abbrev pub together : Turned → Turned → Turned
 together turns last = record { appended = turns.appended || last.appended; heard = turns.heard || last.heard; next = last.next }
 
 -- why a client is given up that has come so far
-abbrev pub why_given_up : Progress → (takes_nothing : Bool) → Kind
+abbrev pub why_given_up : Opening → (takes_nothing : Bool) → Kind
 why_given_up Open true = kinds.TakesNothing
 why_given_up Open false = kinds.Silent
 why_given_up Greeting takes_nothing = kinds.Unopened

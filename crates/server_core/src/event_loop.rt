@@ -241,7 +241,7 @@ fn is_anybody_let_in<R: Wait + Clock + Drop>(services: &[Service<'_, R>], mark: 
     ensures { result ≡ is_anybody_let_in mark services.now }
 {
     for service in services {
-        if service.clients.is_over(mark) {
+        if service.clients.lines.is_over(mark) {
             return true;
         }
     }

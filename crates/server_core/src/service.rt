@@ -179,7 +179,7 @@ impl<'a, R: Wait + Clock + Drop> Service<'a, R> {
     pub(crate) fn let_in(&mut self)
         ensures shared { self.new.shared ≡ self.old.shared }
     {
-        for _client in 0..self.clients.count_waiting() {
+        for _client in 0..self.clients.lines.count_waiting() {
             let mark = self.desk.look(&self.shared.ring);
             let mark = mark.max(self.shared.wakeups.mark());
             match self.clients.let_in(mark) {
@@ -206,7 +206,7 @@ impl<'a, R: Wait + Clock + Drop> Service<'a, R> {
 fn wake_called(clients: &mut Clients, mut called: Called) {
     for _call in 0..BITS {
         match called.next() {
-            Some(number) => clients.wake(number),
+            Some(number) => clients.lines.wake(number),
             None => return,
         }
     }

@@ -83,7 +83,7 @@ impl<R: Wait + Clock + Drop> Service<'_, R> {
         ensures swept { result ≡ Begin was_rung now }
     {
         self.now = now;
-        self.going_on = self.clients.count_again();
+        self.going_on = self.clients.lines.count_again();
         if was_rung {
             self.take_calls(registry);
         }
@@ -98,7 +98,7 @@ impl<R: Wait + Clock + Drop> Service<'_, R> {
         ensures shared { self.new.shared ≡ self.old.shared }
         ensures swept { result ≡ Pass }
     {
-        for _client in 0..self.clients.count_ready() {
+        for _client in 0..self.clients.lines.count_ready() {
             if let Some((number, standing)) = self.clients.next() {
                 self.give_turn(number, standing);
                 self.give_way();
@@ -140,7 +140,7 @@ impl<R: Wait + Clock + Drop> Service<'_, R> {
     {
         self.parting = true;
         for number in 0..self.clients.reach() {
-            self.clients.wake(number);
+            self.clients.lines.wake(number);
         }
         self.mailbox.ring();
         Swept { last: Sweep::Part }

@@ -5,7 +5,7 @@ ghost use Rattle.server_core.specs.Turns.{why_given_up};
 
 use crate::keeping::{is_greeted, is_seated};
 use crate::service::{ClientDesk, Service};
-use clients::{Due, Progress};
+use clients::{Due, Opening};
 use event_log::Kind;
 use std::sync::Wait;
 use std::time::Clock;
@@ -39,19 +39,19 @@ impl<R: Wait + Clock + Drop> Service<'_, R> {
         ensures shared { self.new.shared ≡ self.old.shared }
     {
         let progress = if self.desk.is_open(number) {
-            Progress::Open
+            Opening::Open
         } else {
-            Progress::Unopened
+            Opening::Unopened
         };
         match self.clients.come_due(number, progress, self.now) {
             Due::Ping => self.desk.ping(number),
             // Its turn writes what waits.
-            Due::Write => self.clients.wake(number),
+            Due::Write => self.clients.lines.wake(number),
             Due::GivenUp => {
                 let kind = why_given_up(progress, takes_nothing(&self.desk, number));
                 self.shared.wakeups.log().count(kind);
                 self.desk.lose(number);
-                self.clients.wake(number);
+                self.clients.lines.wake(number);
             }
             Due::In(_) => {}
         }
@@ -61,7 +61,7 @@ impl<R: Wait + Clock + Drop> Service<'_, R> {
     fn come_due_unseated(&mut self, number: usize)
         ensures shared { self.new.shared ≡ self.old.shared }
     {
-        let due = self.clients.come_due(number, Progress::Greeting, self.now);
+        let due = self.clients.come_due(number, Opening::Greeting, self.now);
         if matches!(due, Due::GivenUp) {
             if is_greeted(&self.clients, number) {
                 self.shared.wakeups.log().count(Kind::Unopened);
@@ -80,12 +80,12 @@ fn takes_nothing(desk: &ClientDesk, number: usize) -> bool {
 }
 
 // Why a client that has come so far is given up, by whether it takes nothing of what waits for it.
-fn why_given_up(progress: Progress, takes_nothing: bool) -> Kind
+fn why_given_up(progress: Opening, takes_nothing: bool) -> Kind
     ensures { result ≡ why_given_up progress takes_nothing }
 {
     match progress {
-        Progress::Open if takes_nothing => Kind::TakesNothing,
-        Progress::Open => Kind::Silent,
-        Progress::Greeting | Progress::Unopened => Kind::Unopened,
+        Opening::Open if takes_nothing => Kind::TakesNothing,
+        Opening::Open => Kind::Silent,
+        Opening::Greeting | Opening::Unopened => Kind::Unopened,
     }
 }

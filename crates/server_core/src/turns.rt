@@ -63,7 +63,7 @@ impl<R: Wait + Clock + Drop> Service<'_, R> {
         // One that has nothing more to do at once is sent the close.
         if self.parting && waits(turned.next) {
             self.desk.give_up(number);
-            self.clients.wake(number);
+            self.clients.lines.wake(number);
         }
     }
 }
@@ -74,7 +74,7 @@ fn waits(next: Next) -> bool
 {
     match next {
         Next::Go | Next::Write | Next::Close | Next::Over(_) => false,
-        Next::Read | Next::Room(_) | Next::Output(_) | Next::Memory => true,
+        Next::Read | Next::Room(_) | Next::Mark(_) | Next::Memory => true,
     }
 }
 

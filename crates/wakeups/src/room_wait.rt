@@ -10,7 +10,7 @@ pub(crate) fn since(next: Next, waits: bool, mark: u64) -> Next
     ensures { result ≡ since waits mark next }
 {
     match next {
-        Next::Room(over) if waits => Next::Output(over.min(mark)),
+        Next::Room(over) if waits => Next::Mark(over.min(mark)),
         Next::Room(over) => Next::Room(over.min(mark)),
         other => other,
     }
