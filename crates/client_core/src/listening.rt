@@ -64,6 +64,7 @@ fn hear_all<L: Listener>(
         Ok(()) => leave_after(alloc, reader, peer),
         Err(Cause::Quiet) => {
             leave_after(alloc, reader, peer)?;
+            close(peer)?;
             Err(quiet())
         }
         Err(cause) => Err(ClientFault {
