@@ -386,7 +386,7 @@ def timeouts(program, checks):
             checks.same("each message begins it anew", (listener.wait(10), listener.stdout.read()), (4, b"0\n1\n2\n3\n"))
     steps = [connected, lambda *_: None, receipted]
     seen, said = frames_said(program, ["listen", "/queue/a", "--timeout", "1"], *steps)
-    checks.same("it says DISCONNECT", (seen, said[2:3]), ((4, b"", told(NONE)), [b"DISCONNECT\nreceipt:left\n\n\0"]))
+    checks.same("it says DISCONNECT, and closes", (seen, said[2:]), ((4, b"", told(NONE)), [b"DISCONNECT\nreceipt:left\n\n\0"]))
 
 
 def answering(*steps):
