@@ -16,9 +16,12 @@ Python 3 alone; the gate does not run it.
 - If a write or a sync of `stompd serve` fails while it opens its journal, it ends with `J3 device failed`, says why, and does not
   say that it listens. If the disk is full, it says that.
 - While it opens its journal it says each second for how long.
+- If the header changes between the reading and the first sync, nothing is written back.
+- If no thread starts that a start needs, or a read of standard input fails, the server ends. A client whose socket can't be watched is closed, and takes no place.
+- A compaction that a slow disk makes slow is logged with the time that it took.
 - If one of a block's fails, the server ends so, and the block's command gets no receipt; the commands before it are in
   the journal.
-- If its file is removed, replaced or cut while it runs, the server ends so at the next command.
+- If its file is removed, replaced, cut or overwritten while it runs, the server ends so at the next command, or before it opens the gate of this one.
 - If a block's sync fails after half a second, in which a client has asked for more than its window lets in, that client
   hears 1001: its worker, which sleeps until the mark rises, is woken.
 
@@ -32,13 +35,14 @@ import re
 import resource
 import shutil
 import signal
+import socket
 import subprocess
 import sys
 import tempfile
 import time
 
 from lib.scenario import BUILT, BriefChecks, built_program, child_of, free_port, words_of
-from lib.stomp_client import Client
+from lib.stomp_client import Client, Refused, WebSocket
 
 # Areas of 4,096 bytes.
 SMALLEST = "8224"
@@ -71,7 +75,7 @@ class Checks(BriefChecks):
 
 def last_line(errors):
     """What a server told last: before that it has told its start."""
-    return errors.decode().splitlines(keepends=True)[-1]
+    return (errors.decode().splitlines(keepends=True) or [""])[-1]
 
 
 def run(words):
@@ -246,6 +250,8 @@ def locking(checks):
     checks.same(what, run(checks.words("flock", 1, "serve", path, str(free_port()))), (1, "", CANNOT_OPEN.replace("FILE", path)))
     checks.was_injected(what)
     checks.same(f"{what}: the file is as it was", pathlib.Path(path).read_bytes() == before, True)
+    words = ["strace", "-f", "-o", checks.path("trace"), "-P", path, "-e", "trace=openat", "-e", "inject=openat:error=ENOMEM", checks.program]
+    checks.same("serve without memory to open it", run([*words, "serve", path, str(free_port())]), (1, "", "stompd: no memory\n"))
 
 
 def opening(checks):
@@ -276,12 +282,118 @@ def slow_opening(checks):
     checks.same("a slow opening is told", told, [f"stompd: opening the journal, {seconds} s so far" for seconds in (1, 2)])
 
 
+def changed_header(checks):
+    """Somebody writes into the header of a journal that is being opened, once it was read: that is found before any of it is written back."""
+    path, trace = make(checks, "changed-header"), pathlib.Path(checks.path("trace"))
+    trace.unlink(missing_ok=True)
+    words = ["strace", "-f", "-o", trace, "-P", path, "-e", "trace=pread64,pwrite64", "-e", "inject=pread64:delay_enter=2000000:when=2"]
+    server = subprocess.Popen([*words, checks.program, "serve", path, str(free_port())], stdin=subprocess.DEVNULL, stdout=subprocess.PIPE, stderr=subprocess.PIPE)
+    deadline = time.monotonic() + 30
+    # The first read is that of the header.
+    while not (trace.exists() and ", 32, 0) = 32" in trace.read_text()) and time.monotonic() < deadline:
+        time.sleep(0.01)
+    with open(path, "r+b") as file:
+        file.seek(31)
+        file.write(b"x")
+    changed = pathlib.Path(path).read_bytes()
+    try:
+        output, errors = server.communicate(timeout=10)
+    except subprocess.TimeoutExpired:
+        os.kill(child_of(server.pid), signal.SIGKILL)
+        output, errors = server.communicate()
+    checks.same("a header that changes during a start", (server.returncode, output.decode(), last_line(errors)), (1, "", "stompd: J3 device failed: the file was overwritten\n"))
+    checks.same("a header that changes during a start: the file", pathlib.Path(path).read_bytes() == changed, True)
+    checks.same("a header that changes during a start: writes", trace.read_text().count("pwrite64("), 0)
+
+
+def threads(checks):
+    """A start needs a thread for its standard input, one that says how long it takes, one for each worker, one that accepts, and one for the log."""
+    for number in range(1, 7):
+        what, path = f"serve without thread {number}", make(checks, f"thread-{number}")
+        words = ["strace", "-f", "-o", checks.path("trace"), "-e", "trace=clone3", "-e", f"inject=clone3:error=EAGAIN:when={number}", checks.program]
+        words += ["serve", path, str(free_port()), "--threads", "2", "--until-eof"]
+        # Its input goes on.
+        server = subprocess.Popen(words, stdin=subprocess.PIPE, stdout=subprocess.PIPE, stderr=subprocess.PIPE)
+        try:
+            status = server.wait(timeout=20)
+        except subprocess.TimeoutExpired:
+            os.kill(child_of(server.pid), signal.SIGKILL)
+            status = server.wait()
+        output, errors = server.communicate()
+        checks.same(what, (status, output.decode(), last_line(errors)), (1, "", "stompd: cannot start a thread\n"))
+        checks.was_injected(what)
+
+
+def failing_input(checks):
+    """A read of standard input that a signal breaks off is made again. One that fails is the end of it."""
+    for error, ends in (("EINTR", False), ("EIO", True)):
+        what, path, fifo, port = f"a read of standard input with {error}", make(checks, f"input-{error}"), checks.path(f"fifo-{error}"), free_port()
+        os.mkfifo(fifo)
+        with open(fifo, "r+b", buffering=0) as given:
+            words = ["strace", "-f", "-o", checks.path("trace"), "-P", fifo, "-e", "trace=read", "-e", f"inject=read:error={error}:when=1"]
+            server = subprocess.Popen([*words, checks.program, "serve", path, str(port), "--until-eof"], stdin=given, stdout=subprocess.PIPE, stderr=subprocess.PIPE)
+            checks.same(f"{what}: it listens", server.stdout.readline().decode(), f"listening {port}\n")
+            try:
+                status = server.wait(timeout=10 if ends else 1)
+            except subprocess.TimeoutExpired:
+                status = None
+                os.kill(child_of(server.pid), signal.SIGKILL)
+            errors = server.communicate()[1].decode()
+        checks.same(what, (status, " ending: asked to\n" in errors), (0, True) if ends else (None, False))
+        checks.was_injected(what)
+
+
+def unwatched(checks):
+    """The system doesn't watch the socket of a client: it is closed, and takes no place of the few that a server with few descriptors has."""
+    path, port, places = make(checks, "unwatched"), free_port(), 2
+    limit = lambda: resource.setrlimit(resource.RLIMIT_NOFILE, (160 + places, 160 + places))
+    fault = "inject=epoll_ctl:error=ENOSPC:when=2"
+    words = ["strace", "-f", "-o", checks.path("trace"), "-e", "trace=epoll_ctl", "-e", fault, checks.program, "serve", path, str(port), "--threads", "1"]
+    server = subprocess.Popen(words, stdout=subprocess.PIPE, stderr=subprocess.PIPE, preexec_fn=limit)
+    try:
+        checks.same("with few descriptors: it listens", server.stdout.readline().decode(), f"listening {port}\n")
+        first = Client(port).connect()
+        with socket.create_connection(("127.0.0.1", port), timeout=10) as closed:
+            checks.same("a client that can't be watched is closed", closed.recv(1), b"")
+        checks.was_injected("a client that can't be watched")
+        answers = []
+        for _ in range(2):
+            try:
+                answers.append(WebSocket(port))
+            except Refused as refused:
+                answers.append(refused.status)
+        checks.same("the next one has its place, and one more has none", [getattr(it, "head", it)[:12] for it in answers], ["HTTP/1.1 101", "503"])
+        first.close()
+    finally:
+        os.kill(child_of(server.pid), signal.SIGKILL)
+        server.communicate()
+
+
+def slow_compaction(checks):
+    """Each sync takes 60 ms, and a compaction makes two. All of them take no longer than this."""
+    path, port, began = make(checks, "slowly-compacted"), free_port(), time.monotonic()
+    words = ["strace", "-f", "-o", checks.path("trace"), "-P", path, "-e", "trace=fdatasync", "-e", "inject=fdatasync:delay_enter=60000"]
+    with serving([*words, checks.program, "serve", path, str(port)], port) as server:
+        client = Client(port).connect()
+        for _ in range(10):
+            client.publish("/topic/none", "x" * 1_000)
+        took = 1_000 * (time.monotonic() - began)
+        client.close()
+        os.kill(child_of(server.pid), signal.SIGKILL)
+        errors = server.communicate(timeout=60)[1].decode()
+    slowly = [int(it) for it in re.findall(r" compacted slowly: \d+ bytes won in (\d+) ms\n", errors)]
+    checks.same("slow compactions are told as slow", bool(slowly) and " compacted: " not in errors, True)
+    checks.same(f"with the time that they took, {slowly} ms of {took:.0f}", all(it >= 120 for it in slowly) and sum(slowly) <= took, True)
+
+
 def frames_to_the_end(client):
     """The commands of the frames up to the end of the connection."""
     try:
         return [frame.command for frame in client.to_the_end()[0]]
     except ConnectionError:
         return []
+    except TimeoutError:
+        return ["no end"]
 
 
 @contextlib.contextmanager
@@ -351,6 +463,45 @@ def cut(path):
     os.truncate(path, PAGE)
 
 
+def overwritten_block(checks):
+    """A block is overwritten by what stood there before, while its sync goes on: its gate isn't opened, and its command has no receipt."""
+    what, path, port = "a block that is overwritten", make(checks, "overwritten-block"), free_port()
+    words = ["strace", "-f", "-o", checks.path("trace"), "-P", path, "-e", "trace=fdatasync", "-e", "inject=fdatasync:delay_enter=2000000:when=6"]
+    with serving([*words, checks.program, "serve", path, str(port)], port) as server:
+        client = Client(port).connect()
+        before = pathlib.Path(path).read_bytes()
+        client.send("SEND", [("destination", "/queue/kept"), ("receipt", "r")], "x")
+        deadline = time.monotonic() + 30
+        while pathlib.Path(path).read_bytes() == before and time.monotonic() < deadline:
+            time.sleep(0.01)
+        with open(path, "r+b") as file:
+            file.write(before)
+        checks.same(f"{what}: what the client hears", frames_to_the_end(client), [])
+        client.close()
+        output, errors = server.communicate(timeout=60)
+        checks.same(what, (server.returncode, output.decode(), last_line(errors)), (1, "", "stompd: J3 device failed: the file was overwritten\n"))
+    checks.same(f"{what}: the file", pathlib.Path(path).read_bytes() == before, True)
+
+
+def removed_at_one_time(checks):
+    """The file is removed, and its folder has the same time of its last change as before. It is one after the last write, so that it says nothing."""
+    what, folder = "a file that is removed, and no time says so", pathlib.Path(checks.path("of-one-time"))
+    folder.mkdir()
+    path, port, then = make(checks, "of-one-time/journal"), free_port(), time.time() + 1_000
+    os.utime(folder, (then, then))
+    with serving([checks.program, "serve", path, str(port)], port) as server:
+        client = Client(port).connect()
+        for number in range(10):
+            client.publish("/topic/nobody", f"{number}")
+        os.remove(path)
+        os.utime(folder, (then, then))
+        client.send("SEND", [("destination", "/queue/kept"), ("receipt", "r")], "x")
+        checks.same(f"{what}: what the client hears", frames_to_the_end(client), [])
+        client.close()
+        output, errors = server.communicate(timeout=60)
+        checks.same(what, (server.returncode, output.decode(), last_line(errors)), (1, "", "stompd: J3 device failed: the file was removed\n"))
+
+
 def losing(checks):
     """The file is removed, replaced by another or cut while the server runs: what is sent then has no receipt, and the server ends."""
     losses = [(os.remove, None, "removed"), (os.remove, os.symlink, "removed"), (replaced, None, "replaced")]
@@ -383,8 +534,9 @@ def main():
         return 2
     with tempfile.TemporaryDirectory() as name:
         checks = Checks(str(program), pathlib.Path(name).resolve())
-        parts = (formatting, naming, linking, filling, progress, swapping, limiting, what_is_no_file)
-        for part in (*parts, showing, locking, opening, slow_opening, storing, asleep, losing):
+        made = (formatting, naming, linking, filling, progress, swapping, limiting, what_is_no_file, showing, locking)
+        started = (opening, slow_opening, changed_header, threads, failing_input, unwatched)
+        for part in (*made, *started, slow_compaction, storing, overwritten_block, removed_at_one_time, asleep, losing):
             part(checks)
     return checks.status()
 

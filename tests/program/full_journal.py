@@ -24,6 +24,8 @@ LOGGED = (b" started: ", b" compacted: ", b" compacted slowly: ", b" journal sma
 FULL = b"stompd: J4 journal full\n"
 # An opened journal of this size is ready at once; a busy machine gets a minute.
 PATIENCE = 60
+# In so many seconds the threads of a start and of the last server are gone.
+SETTLED = 3
 
 # After a server that ran for so long, in seconds, the next pause is the shortest again.
 LONG = 66
@@ -77,6 +79,15 @@ class Full:
     def listens(self):
         return next_line(self.process.stdout) == f"listening {self.port}\n".encode()
 
+    def count_all(self, awaited=None):
+        """How many threads and descriptors it has, once it has as many as awaited, or after some seconds: its own are gone soon after it listens."""
+        folder, end = f"/proc/{self.process.pid}", time.monotonic() + SETTLED
+        while True:
+            counts = len(os.listdir(f"{folder}/task")), len(os.listdir(f"{folder}/fd"))
+            if counts == awaited or time.monotonic() > end:
+                return counts
+            time.sleep(0.1)
+
     def __enter__(self):
         return self
 
@@ -91,6 +102,7 @@ def one_at_a_time(program, checks):
     """a client that waits for each receipt, and one that says nothing"""
     with tempfile.TemporaryDirectory(prefix="stompd-") as folder, Full(program, folder) as server:
         checks.check("it serves", server.listens())
+        there = server.count_all()
         sender, idle = Client(server.port).connect(), Client(server.port).connect()
         receipted, code = send_until_closed(sender)
         # It may have made room before, and logs that first.
@@ -104,6 +116,7 @@ def one_at_a_time(program, checks):
         checks.same("who is silent is closed with 1001", idle.to_the_end(), ([], 1001))
         checks.tell(f"{len(receipted)} messages of some 1,000 bytes were receipted, in an area of 65,536 bytes")
         checks.check("it listens again, at the same port", server.listens())
+        checks.same("with as many threads and descriptors as before", server.count_all(there), there)
         checks.check("after that second", time.monotonic() - paused >= 0.9, time.monotonic() - paused)
         reader = Client(server.port).connect()
         found = [frame.body for frame in reader.subscribe("r", "/queue/full")]
@@ -118,6 +131,7 @@ def one_at_a_time(program, checks):
         server.process.stdin.close()
         checks.same("the end of its input breaks the pause off, with status 0", server.process.wait(timeout=PATIENCE), 0)
         checks.check("and at once", time.monotonic() - ended < 1, time.monotonic() - ended)
+        checks.same("and it isn't opened again", server.process.stdout.read(), b"")
 
 
 def all_at_once(program, checks):

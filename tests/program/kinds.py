@@ -303,6 +303,7 @@ def small_journal(program, checks):
         found = [int(it) for it in re.findall(form, server.text)]
         checks.check("over three quarters are, after the compaction", found and all(SMALL_AREA * 3 // 4 <= it <= SMALL_AREA for it in found), server.text)
         checks.check("and the server goes on", sender.publish("/topic/none", "x") == [])
+        checks.check("each compaction tells that once", len(found) <= len(re.findall(r" compacted(?: slowly)?: ", server.text)), server.text)
         took = [int(it) for it in re.findall(r" compacted(?: slowly)?: \d+ bytes won in (\d+) ms", server.text)]
         checks.check("each compaction has a line, and all together took no longer than this", took and sum(took) <= 1_000 * (time.monotonic() - began), took)
 

@@ -262,6 +262,8 @@ def header_before_a_compaction(program, folder, checks):
     with open(server.journal, "r+b") as file:
         file.seek(31)
         file.write(b"x")
+    with open(server.journal, "rb") as file:
+        header = file.read(32)
     body = "y" * 4_000
     try:
         client = Client(server.broker.port, timeout=30).connect()
@@ -271,6 +273,8 @@ def header_before_a_compaction(program, folder, checks):
         pass
     status, line, _ = server.end()
     checks.same("a header that was changed: status and last line", (status, line), (1, f"stompd: J3 device failed: {OVERWRITTEN}"))
+    with open(server.journal, "rb") as file:
+        checks.same("a header that was changed: it is left so", file.read(32), header)
     server.close()
 
 

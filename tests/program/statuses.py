@@ -219,6 +219,23 @@ def old_journal(folder):
     return path
 
 
+def too_full(checks, folder):
+    """A journal of the first version whose one block nearly fills its area: each of the messages takes two bytes more in a snapshot."""
+    path = folder / "too-full"
+    operations = [open_operation(None), *138 * [send_operation("/queue/q", [], "x")]]
+    path.write_bytes(journal(4_096, area([b"".join(record(0, it) for it in operations)]), b""))
+    for further in ([], ["--json"]):
+        done = subprocess.run([checks.program, "serve", path, str(free_port()), *further], stdin=subprocess.DEVNULL, capture_output=True, text=True, timeout=60)
+        # A slow machine may say how long it takes.
+        lines = [it for it in done.stderr.splitlines() if "opening" not in it]
+        checks.same(f"no start fits into it {further}: status, output and lines", (done.returncode, done.stdout, len(lines)), (1, NOTHING, 2))
+        if further:
+            checks.same("that is told as an object, and then the fault", [json.loads(it)["kind"] for it in lines], ["too_full", "fault"])
+        else:
+            checks.check("that is told, and what helps", lines[0].startswith("stompd: what the journal holds ") and "docs/RUNNING.md" in lines[0], lines)
+            checks.same("and then the fault", lines[-1], "stompd: J4 journal full")
+
+
 def soon(checks, folder):
     """What ends by a fault ends at once: nobody waits for its line to be read."""
     took = []
@@ -361,6 +378,7 @@ def main():
         places(checks, folder)
         shows(checks, folder)
         serves(checks, folder)
+        too_full(checks, folder)
         soon(checks, folder)
         words(checks, folder)
     return checks.status()

@@ -28,6 +28,8 @@ from lib.wire import handshake
 LINE = re.compile(r"stompd: (\d{4}-\d\d-\d\dT\d\d:\d\d:\d\dZ) (.*)\n")
 JOURNAL_BYTES = 67_108_896
 FEW, ELSEWHERE = 300, 20
+# In seconds, for what is told within two. Nothing else is told meanwhile: the line of a minute comes far later.
+ALONE = 10
 
 
 class Server:
@@ -38,7 +40,8 @@ class Server:
         journal = pathlib.Path(self.folder.name) / "journal"
         subprocess.run([program, "format", "--sparse", journal, str(journal_bytes)], check=True)
         self.port, self.lines = scenario.free_port(), []
-        limit = (lambda: resource.setrlimit(resource.RLIMIT_NOFILE, (descriptors, descriptors))) if descriptors else None
+        # The one that counts, under the one that it may be raised to.
+        limit = (lambda: resource.setrlimit(resource.RLIMIT_NOFILE, (descriptors, resource.getrlimit(resource.RLIMIT_NOFILE)[1]))) if descriptors else None
         words = [program, "serve", journal, str(self.port), *more]
         self.process = subprocess.Popen(words, stdout=subprocess.PIPE, stderr=subprocess.PIPE, text=True, preexec_fn=limit)
         assert self.process.stdout.readline() == f"listening {self.port}\n"
@@ -249,6 +252,35 @@ def errors(program, checks):
             checks.check(f"{code}: at most once a second", 2 <= len(lines) <= 6, lines)
 
 
+def topics(program, checks):
+    """that nearly all is held, by subscriptions of a topic"""
+    with serving(program) as server:
+        reader = Client(server.port, timeout=30).connect()
+        reader.subscribe("t", "/topic/t", "client")
+        Client(server.port, timeout=30).connect().publish_all("/topic/t", 3_700 * ["x"])
+        near = server.told("nearly full", 5)
+        form = r"nearly full: (\d+) of 4096 messages held, (\d+) of 16777216 bytes, 0 of them in topics \(E12 is near\)"
+        found = re.fullmatch(form, near[0]) if len(near) == 1 else None
+        # A message's size is the bytes of its destination and its body.
+        checks.check("that is told, with the place as `stompd held` has it, and with their bytes", found and int(found[2]) == len("/topic/tx") * int(found[1]), near)
+
+
+def alone(program, checks):
+    """an ERROR and a refusal to a server that does nothing else: neither waits for the line of each minute"""
+    with serving(program) as server:
+        for what, form, provoke in (("an ERROR", "sent 1 ERRORs (E7)", too_soon), ("a refusal", "refused 1 requests for no WebSocket (426)", None)):
+            # Its last line is written, and its thread sleeps.
+            time.sleep(2.5)
+            if provoke:
+                client = Client(server.port)
+                provoke(client)
+                client.to_the_end()
+                client.close()
+            else:
+                refused(server.port, b"GET / HTTP/1.1\r\nHost: x\r\n\r\n")
+            checks.same(f"{what} alone is told", server.told(form, ALONE), [form])
+
+
 def slow(program, checks):
     """a subscriber that stops reading, and whose outbox is full"""
     with serving(program) as server:
@@ -317,7 +349,7 @@ def small_journal(program, checks):
 def main():
     program = scenario.words_of(__doc__).parse_args().program
     checks = scenario.Checks()
-    for part in (starts, threads, counts, names, around_the_limit, errors, slow, descriptors, lawful, small_journal):
+    for part in (starts, threads, counts, names, around_the_limit, topics, errors, alone, slow, descriptors, lawful, small_journal):
         try:
             part(program, checks)
         except Exception as error:
