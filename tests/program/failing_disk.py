@@ -83,6 +83,18 @@ def run(words):
     return done.returncode, done.stdout.decode(), done.stderr.decode()
 
 
+def run_or_kill(words):
+    """The same of a server under strace, whose input goes on. If it doesn't end by itself it is killed after some seconds."""
+    server = subprocess.Popen(words, stdin=subprocess.PIPE, stdout=subprocess.PIPE, stderr=subprocess.PIPE)
+    try:
+        server.wait(timeout=20)
+    except subprocess.TimeoutExpired:
+        os.kill(child_of(server.pid), signal.SIGKILL)
+        server.wait()
+    output, errors = server.communicate()
+    return server.returncode, output.decode(), errors.decode()
+
+
 def formatting(checks):
     """A new file is locked and sized under another name; its zeros are written, unless it is to be sparse; then header, front and name are written,
     each synced. It is linked to its own name, which is synced with the folder."""
@@ -244,6 +256,19 @@ def showing(checks):
         checks.was_injected(what)
 
 
+def held_streams(checks):
+    """Without `/dev/null` in the places of standard streams nothing else is opened."""
+    path = make(checks, "held-streams")
+    before = pathlib.Path(path).read_bytes()
+    for number in (1, 2, 3):
+        words = ["strace", "-f", "-o", checks.path("trace"), "-P", "/dev/null", "-e", "trace=openat", "-e", f"inject=openat:error=EACCES:when={number}"]
+        for further in (("show", path), ("serve", path, str(free_port()))):
+            what = f"{further[0]} without /dev/null {number}"
+            checks.same(what, run([*words, checks.program, *further]), (1, "", "stompd: cannot open: /dev/null: permission denied\n"))
+            checks.was_injected(what)
+    checks.same("without /dev/null: the file is as it was", pathlib.Path(path).read_bytes() == before, True)
+
+
 def locking(checks):
     what, path = "serve without its lock", make(checks, "not-locked")
     before = pathlib.Path(path).read_bytes()
@@ -268,6 +293,29 @@ def opening(checks):
         words = ["strace", "-f", "-o", checks.path("trace"), "-e", "trace=fdatasync", "-e", fault, checks.program]
         checks.same(what, run([*words, "serve", path, str(free_port())]), (1, "", f"stompd: J3 device failed: {text}\n"))
         checks.was_injected(what)
+
+
+def reading(checks):
+    """Each read of a start fails in turn: it says why, and what was stored is there afterwards."""
+    path, port = make(checks, "read"), free_port()
+    with serving([checks.program, "serve", path, str(port)], port) as server:
+        Client(port).connect().publish("/queue/kept", "x")
+        server.kill()
+    before = pathlib.Path(path).read_bytes()
+    words = ["strace", "-f", "-o", checks.path("trace"), "-P", path, "-e", "trace=pread64,fdatasync"]
+    with serving([*words, checks.program, "serve", path, str(port)], port):
+        # Its third sync is the last of the start.
+        count = "".join(pathlib.Path(checks.path("trace")).read_text().split("fdatasync(")[:3]).count("pread64(")
+    checks.same("a start reads the file", count > 5, True)
+    for number in range(1, count + 1):
+        what = f"a start without read {number} of {count}"
+        pathlib.Path(path).write_bytes(before)
+        status, output, errors = run_or_kill([*words, "-e", f"inject=pread64:error=EIO:when={number}", checks.program, "serve", path, str(port)])
+        # The first one is made while the file is opened.
+        checks.same(what, (status, output, errors), (1, "", CANNOT_OPEN.replace("FILE", path) if number == 1 else INPUT_OUTPUT))
+        checks.was_injected(what)
+        status, shown, _ = run([checks.program, "show", path])
+        checks.same(f"{what}: what is held", (status, shown.splitlines()[4:]), (0, ["held 1"]))
 
 
 def slow_opening(checks):
@@ -312,15 +360,8 @@ def threads(checks):
         what, path = f"serve without thread {number}", make(checks, f"thread-{number}")
         words = ["strace", "-f", "-o", checks.path("trace"), "-e", "trace=clone3", "-e", f"inject=clone3:error=EAGAIN:when={number}", checks.program]
         words += ["serve", path, str(free_port()), "--threads", "2", "--until-eof"]
-        # Its input goes on.
-        server = subprocess.Popen(words, stdin=subprocess.PIPE, stdout=subprocess.PIPE, stderr=subprocess.PIPE)
-        try:
-            status = server.wait(timeout=20)
-        except subprocess.TimeoutExpired:
-            os.kill(child_of(server.pid), signal.SIGKILL)
-            status = server.wait()
-        output, errors = server.communicate()
-        checks.same(what, (status, output.decode(), last_line(errors)), (1, "", "stompd: cannot start a thread\n"))
+        status, output, errors = run_or_kill(words)
+        checks.same(what, (status, output, last_line(errors.encode())), (1, "", "stompd: cannot start a thread\n"))
         checks.was_injected(what)
 
 
@@ -341,6 +382,19 @@ def failing_input(checks):
             errors = server.communicate()[1].decode()
         checks.same(what, (status, " ending: asked to\n" in errors), (0, True) if ends else (None, False))
         checks.was_injected(what)
+
+
+def slow_log(checks):
+    """Each piece of a line of the log takes 40 ms. A server without clients that is asked to end doesn't end before its last line is whole."""
+    path, log = make(checks, "slow-log"), pathlib.Path(checks.path("log"))
+    words = ["strace", "-f", "-o", checks.path("trace"), "-P", log, "-e", "trace=write", "-e", "inject=write:delay_enter=40000"]
+    with open(log, "wb") as errors:
+        server = subprocess.Popen([*words, checks.program, "serve", path, str(free_port()), "--until-eof"], stdin=subprocess.PIPE, stdout=subprocess.PIPE, stderr=errors)
+    deadline = time.monotonic() + 30
+    while not log.read_bytes().endswith(b" are wanted (J4 is possible)\n") and time.monotonic() < deadline:
+        time.sleep(0.01)
+    server.communicate(timeout=60)
+    checks.same("a slow log: its status and its last line", (server.returncode, log.read_text().endswith(" ending: asked to\n")), (0, True))
 
 
 def unwatched(checks):
@@ -534,8 +588,8 @@ def main():
         return 2
     with tempfile.TemporaryDirectory() as name:
         checks = Checks(str(program), pathlib.Path(name).resolve())
-        made = (formatting, naming, linking, filling, progress, swapping, limiting, what_is_no_file, showing, locking)
-        started = (opening, slow_opening, changed_header, threads, failing_input, unwatched)
+        made = (formatting, naming, linking, filling, progress, swapping, limiting, what_is_no_file, showing, held_streams, locking)
+        started = (opening, reading, slow_opening, changed_header, threads, failing_input, slow_log, unwatched)
         for part in (*made, *started, slow_compaction, storing, overwritten_block, removed_at_one_time, asleep, losing):
             part(checks)
     return checks.status()

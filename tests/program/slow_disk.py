@@ -1,6 +1,6 @@
 #!/usr/bin/env python3
 """A disk on which nothing is synced for a while. First more waits for it than a block of the journal takes: once it goes on, all of it is stored at once, block
-after block. Then a sync takes 100 seconds, longer than a silent client is kept: no client is disconnected for that, whose commands wait for the disk.
+after block. In the end its journal is removed while dear commands wait: all clients hear that. Then a sync takes 100 seconds, longer than a silent client is kept: no client is disconnected for that, whose commands wait for the disk.
 Needs Python 3 and a C compiler.
 
     python3 tests/program/slow_disk.py [PROGRAM] [--few]
@@ -16,12 +16,17 @@ import threading
 import time
 
 from lib import scenario
+from lib.crowding import TOPIC, transaction
 from lib.stomp_client import Client, Closed
 
 # A desk has sixteen commands under way at most.
 SENDS, HELD = 100, 100
 # So many clients send so many bodies of so many bytes: six blocks (docs/PROTOCOL.md, "Limits"). All receipts come within so many seconds.
 MANY, EACH, LARGE, AT_ONCE = 24, 4, 60_000, 0.75
+# A topic with so many subscriptions, of so many clients. COMMITs of so many SENDs to it come from so many clients: most of them wait until others are published.
+LISTENERS, SUBSCRIPTIONS, MEMBERS, SENDERS = 16, 16, 16, 12
+# A server that has failed ends within so many seconds.
+LONGEST = 5
 SOURCE = scenario.TOP / "bench" / "slow_sync.c"
 
 
@@ -79,6 +84,28 @@ def backlog(broker, checks):
         client.close()
 
 
+def lost_in_line(broker, checks):
+    """The journal is removed while nothing is synced and dear commands wait for one another: each of their clients hears 1001, and the server ends."""
+    listeners = [Client(broker.port).connect() for _ in range(LISTENERS)]
+    for client in listeners:
+        for number in range(SUBSCRIPTIONS):
+            client.subscribe(f"{number}", TOPIC)
+    senders = [Client(broker.port).connect() for _ in range(SENDERS)]
+    # The broker counts how many listen.
+    senders[0].publish(TOPIC, "x")
+    broker.held.touch()
+    for client in senders:
+        client.write(transaction(MEMBERS))
+    time.sleep(1)
+    os.remove(broker.journal)
+    start = time.monotonic()
+    broker.held.unlink()
+    checks.same("each client whose command waits hears 1001", [client.to_the_end()[1] for client in senders], SENDERS * [1001])
+    status = broker.process.wait(timeout=4 * LONGEST)
+    checks.same("the server ends with status 1", status, 1)
+    checks.check(f"within {LONGEST} s", time.monotonic() - start <= LONGEST, time.monotonic() - start)
+
+
 def try_it(broker, checks):
     busy = [Busy(broker.port) for _ in range(2)]
     broker.held.touch()
@@ -102,6 +129,8 @@ def main():
         backlog(broker, checks)
         if not given.few:
             try_it(broker, checks)
+    with scenario.serving(given.program, kind=HeldBroker) as broker:
+        lost_in_line(broker, checks)
     return checks.status()
 
 

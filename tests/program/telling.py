@@ -28,6 +28,8 @@ from lib.wire import handshake
 LINE = re.compile(r"stompd: (\d{4}-\d\d-\d\dT\d\d:\d\d:\d\dZ) (.*)\n")
 JOURNAL_BYTES = 67_108_896
 FEW, ELSEWHERE = 300, 20
+# So many leave before their handshake is done, in each of three ways.
+LEAVING = 5
 # In seconds, for what is told within two. Nothing else is told meanwhile: the line of a minute comes far later.
 ALONE = 10
 
@@ -300,6 +302,10 @@ def descriptors(program, checks):
         told = server.told("started")
         allowed = int(re.search(r"(\d+) clients allowed", told[0])[1]) if told else 0
         checks.check(f"with {FEW} descriptors it allows fewer clients", 0 < allowed < FEW, told)
+        # Who leaves in the midst of its handshake leaves its place.
+        for request in LEAVING * (b"", handshake(server.port)[:40], handshake(server.port)):
+            with socket.create_connection(("127.0.0.1", server.port), timeout=5) as one:
+                one.sendall(request)
         clients = [Client(server.port).connect() for _ in range(allowed)]
         try:
             WebSocket(server.port)
