@@ -20,13 +20,15 @@ import threading
 import time
 
 from lib import scenario
-from lib.stomp_client import Client, Refused, WebSocket
-from lib.wire import handshake
+from lib.stomp_client import Client, Closed, Refused, WebSocket
+from lib.wire import PING, PONG, handshake
 
 ORIGIN = "https://rooms.example"
 LEAST_BUDGET, FEW = 16_777_216, 300
 # A client that opens no session, and one that takes nothing, is given up after so many seconds; one that doesn't answer a close, after ten.
 GIVEN_UP, UNANSWERED = 60, 10
+# Who is silent for so long is pinged.
+PINGED = 20
 # One that has sent half of its handshake may say nothing for so long.
 HALF = 20
 # None is given up a second before that; and each was told within so many after it.
@@ -229,16 +231,39 @@ SLOW = (
 )
 
 
+class Quiet(threading.Thread):
+    """A client that only answers pings: after how many seconds of silence each of them came, and whether it was disconnected."""
+
+    def __init__(self, port):
+        super().__init__(daemon=True)
+        self.client, self.pings, self.has_ended = Client(port, timeout=4 * GIVEN_UP).connect(), [], False
+        self.start()
+
+    def run(self):
+        last = time.monotonic()
+        try:
+            while True:
+                _, kind, payload = self.client.take_frame()
+                if kind == PING:
+                    self.pings.append(time.monotonic() - last)
+                    self.client.send_message(PONG, payload)
+                    last = time.monotonic()
+        except (Closed, OSError):
+            self.has_ended = True
+
+
 def given_up(program, checks):
-    """clients that don't answer a close, open no session, or take nothing: none before its time, and each soon after"""
+    """clients that don't answer a close, open no session, or take nothing: none before its time, and each soon after; and one that only answers pings"""
     with told(program) as server:
-        slow = Slow(server.port)
+        quiet, slow = Quiet(server.port), Slow(server.port)
         for (form, _, least, _), first in zip(SLOW, slow.first):
             time.sleep(max(0, first + least - EARLY - time.monotonic()))
             checks.same(f"{form}: none before its time", server.count(form), 0)
         for (form, count, _, most), last in zip(SLOW, slow.last):
             checks.same(f"{form}: told, and how many", server.await_count(form, count, max(0, last + most + LATE - time.monotonic())), count)
         checks.same("and nobody else is given up", server.count(r"gave up (\d+)"), sum(count for _, count, _, _ in SLOW))
+        checks.check("one that only answers pings is there", not quiet.has_ended)
+        checks.check("and has one after each 20 s", len(quiet.pings) >= 2 and all(PINGED - EARLY <= it <= PINGED + LATE for it in quiet.pings), quiet.pings)
 
 
 def half_asked(program, checks):

@@ -1,11 +1,12 @@
 #!/usr/bin/env python3
 """A disk on which nothing is synced for a while. First more waits for it than a block of the journal takes: once it goes on, all of it is stored at once, block
-after block. In the end its journal is removed while dear commands wait: all clients hear that. Then a sync takes 100 seconds, longer than a silent client is kept: no client is disconnected for that, whose commands wait for the disk.
+after block. Then a sync takes 100 seconds, longer than a silent client is kept: no client is disconnected for that, whose commands wait for the disk.
+On another such disk the journal is removed while dear commands wait for one another: all clients hear of the end.
 Needs Python 3 and a C compiler.
 
     python3 tests/program/slow_disk.py [PROGRAM] [--few]
 
-With --few only the first is tried, in seconds. While a command waits for room in the ring, nothing is read from its client, so its answers to pings are not heard. That isn't its silence.
+With --few the sync of 100 seconds is left out. While a command waits for room in the ring, nothing is read from its client, so its answers to pings are not heard. That isn't its silence.
 """
 
 import os
