@@ -358,7 +358,7 @@ def threads(checks):
     """A start needs a thread for its standard input, one that says how long it takes, one for each worker, one that accepts, and one for the log."""
     for number in range(1, 7):
         what, path = f"serve without thread {number}", make(checks, f"thread-{number}")
-        words = ["strace", "-f", "-o", checks.path("trace"), "-e", "trace=clone3", "-e", f"inject=clone3:error=EAGAIN:when={number}", checks.program]
+        words = ["strace", "-f", "-o", checks.path("trace"), "-e", "trace=clone,clone3", "-e", f"inject=clone,clone3:error=EAGAIN:when={number}", checks.program]
         words += ["serve", path, str(free_port()), "--threads", "2", "--until-eof"]
         status, output, errors = run_or_kill(words)
         checks.same(what, (status, output, last_line(errors.encode())), (1, "", "stompd: cannot start a thread\n"))
@@ -431,10 +431,10 @@ def slow_compaction(checks):
         client = Client(port).connect()
         for _ in range(10):
             client.publish("/topic/none", "x" * 1_000)
-        took = 1_000 * (time.monotonic() - began)
         client.close()
         os.kill(child_of(server.pid), signal.SIGKILL)
         errors = server.communicate(timeout=60)[1].decode()
+        took = 1_000 * (time.monotonic() - began)
     slowly = [int(it) for it in re.findall(r" compacted slowly: \d+ bytes won in (\d+) ms\n", errors)]
     checks.same("slow compactions are told as slow", bool(slowly) and " compacted: " not in errors, True)
     checks.same(f"with the time that they took, {slowly} ms of {took:.0f}", all(it >= 120 for it in slowly) and sum(slowly) <= took, True)
