@@ -4,9 +4,9 @@ after block. Then a sync takes 100 seconds, longer than a silent client is kept:
 On another such disk the journal is removed while dear commands wait for one another: all clients hear of the end.
 Needs Python 3 and a C compiler.
 
-    python3 tests/program/slow_disk.py [PROGRAM] [--few]
+    python3 tests/program/slow_disk.py [PROGRAM] [--few | --held]
 
-With --few the sync of 100 seconds is left out. While a command waits for room in the ring, nothing is read from its client, so its answers to pings are not heard. That isn't its silence.
+With --few the sync of 100 seconds is left out; with --held all else is. While a command waits for room in the ring, nothing is read from its client, so its answers to pings are not heard. That isn't its silence.
 """
 
 import os
@@ -125,13 +125,16 @@ def try_it(broker, checks):
 def main():
     words = scenario.words_of(__doc__)
     words.add_argument("--few", action="store_true", help="without the sync of 100 s")
+    words.add_argument("--held", action="store_true", help="that sync alone")
     given, checks = words.parse_args(), scenario.Checks()
     with scenario.serving(given.program, kind=HeldBroker) as broker:
-        backlog(broker, checks)
+        if not given.held:
+            backlog(broker, checks)
         if not given.few:
             try_it(broker, checks)
-    with scenario.serving(given.program, kind=HeldBroker) as broker:
-        lost_in_line(broker, checks)
+    if not given.held:
+        with scenario.serving(given.program, kind=HeldBroker) as broker:
+            lost_in_line(broker, checks)
     return checks.status()
 
 
