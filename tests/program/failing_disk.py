@@ -17,7 +17,8 @@ Python 3 alone; the gate does not run it.
   say that it listens. If the disk is full, it says that.
 - While it opens its journal it says each second for how long.
 - If the header changes between the reading and the first sync, nothing is written back.
-- If no thread starts that a start needs, or a read of standard input fails, the server ends. A client whose socket can't be watched is closed, and takes no place.
+- If no thread starts that a start needs, or a read of standard input fails, the server ends. A client whose socket can't be watched is closed, and takes
+  no place.
 - A compaction that a slow disk makes slow is logged with the time that it took.
 - If one of a block's fails, the server ends so, and the block's command gets no receipt; the commands before it are in
   the journal.
@@ -50,6 +51,7 @@ PAGE = 4_096
 DEVICE_FAILED = "stompd: J3 device failed\n"
 # Of a server it says why.
 INPUT_OUTPUT = "stompd: J3 device failed: input/output error\n"
+OVERWRITTEN = "stompd: J3 device failed: the file was overwritten\n"
 CANNOT_OPEN = "stompd: cannot open: FILE: the system refuses it\n"
 NO_LINKS = "stompd: cannot open: FILE: there are no hard links here; make it elsewhere, and move it\n"
 FOREIGN = "stompd: cannot open: FILE.new: it is there, and no unfinished journal; rename or remove it\n"
@@ -335,7 +337,8 @@ def changed_header(checks):
     path, trace = make(checks, "changed-header"), pathlib.Path(checks.path("trace"))
     trace.unlink(missing_ok=True)
     words = ["strace", "-f", "-o", trace, "-P", path, "-e", "trace=pread64,pwrite64", "-e", "inject=pread64:delay_enter=2000000:when=2"]
-    server = subprocess.Popen([*words, checks.program, "serve", path, str(free_port())], stdin=subprocess.DEVNULL, stdout=subprocess.PIPE, stderr=subprocess.PIPE)
+    words += [checks.program, "serve", path, str(free_port())]
+    server = subprocess.Popen(words, stdin=subprocess.DEVNULL, stdout=subprocess.PIPE, stderr=subprocess.PIPE)
     deadline = time.monotonic() + 30
     # The first read is that of the header.
     while not (trace.exists() and ", 32, 0) = 32" in trace.read_text()) and time.monotonic() < deadline:
@@ -349,7 +352,8 @@ def changed_header(checks):
     except subprocess.TimeoutExpired:
         os.kill(child_of(server.pid), signal.SIGKILL)
         output, errors = server.communicate()
-    checks.same("a header that changes during a start", (server.returncode, output.decode(), last_line(errors)), (1, "", "stompd: J3 device failed: the file was overwritten\n"))
+    seen = server.returncode, output.decode(), last_line(errors)
+    checks.same("a header that changes during a start", seen, (1, "", OVERWRITTEN))
     checks.same("a header that changes during a start: the file", pathlib.Path(path).read_bytes() == changed, True)
     checks.same("a header that changes during a start: writes", trace.read_text().count("pwrite64("), 0)
 
@@ -358,8 +362,8 @@ def threads(checks):
     """A start needs a thread for its standard input, one that says how long it takes, one for each worker, one that accepts, and one for the log."""
     for number in range(1, 7):
         what, path = f"serve without thread {number}", make(checks, f"thread-{number}")
-        words = ["strace", "-f", "-o", checks.path("trace"), "-e", "trace=clone,clone3", "-e", f"inject=clone,clone3:error=EAGAIN:when={number}", checks.program]
-        words += ["serve", path, str(free_port()), "--threads", "2", "--until-eof"]
+        words = ["strace", "-f", "-o", checks.path("trace"), "-e", "trace=clone,clone3", "-e", f"inject=clone,clone3:error=EAGAIN:when={number}"]
+        words += [checks.program, "serve", path, str(free_port()), "--threads", "2", "--until-eof"]
         status, output, errors = run_or_kill(words)
         checks.same(what, (status, output, last_line(errors.encode())), (1, "", "stompd: cannot start a thread\n"))
         checks.was_injected(what)
@@ -368,11 +372,13 @@ def threads(checks):
 def failing_input(checks):
     """A read of standard input that a signal breaks off is made again. One that fails is the end of it."""
     for error, ends in (("EINTR", False), ("EIO", True)):
-        what, path, fifo, port = f"a read of standard input with {error}", make(checks, f"input-{error}"), checks.path(f"fifo-{error}"), free_port()
+        what, port = f"a read of standard input with {error}", free_port()
+        path, fifo = make(checks, f"input-{error}"), checks.path(f"fifo-{error}")
         os.mkfifo(fifo)
         with open(fifo, "r+b", buffering=0) as given:
             words = ["strace", "-f", "-o", checks.path("trace"), "-P", fifo, "-e", "trace=read", "-e", f"inject=read:error={error}:when=1"]
-            server = subprocess.Popen([*words, checks.program, "serve", path, str(port), "--until-eof"], stdin=given, stdout=subprocess.PIPE, stderr=subprocess.PIPE)
+            words += [checks.program, "serve", path, str(port), "--until-eof"]
+            server = subprocess.Popen(words, stdin=given, stdout=subprocess.PIPE, stderr=subprocess.PIPE)
             checks.same(f"{what}: it listens", server.stdout.readline().decode(), f"listening {port}\n")
             try:
                 status = server.wait(timeout=10 if ends else 1)
@@ -388,8 +394,9 @@ def slow_log(checks):
     """Each piece of a line of the log takes 40 ms. A server without clients that is asked to end doesn't end before its last line is whole."""
     path, log = make(checks, "slow-log"), pathlib.Path(checks.path("log"))
     words = ["strace", "-f", "-o", checks.path("trace"), "-P", log, "-e", "trace=write", "-e", "inject=write:delay_enter=40000"]
+    words += [checks.program, "serve", path, str(free_port()), "--until-eof"]
     with open(log, "wb") as errors:
-        server = subprocess.Popen([*words, checks.program, "serve", path, str(free_port()), "--until-eof"], stdin=subprocess.PIPE, stdout=subprocess.PIPE, stderr=errors)
+        server = subprocess.Popen(words, stdin=subprocess.PIPE, stdout=subprocess.PIPE, stderr=errors)
     deadline = time.monotonic() + 30
     while not log.read_bytes().endswith(b" are wanted (J4 is possible)\n") and time.monotonic() < deadline:
         time.sleep(0.01)
@@ -533,7 +540,7 @@ def overwritten_block(checks):
         checks.same(f"{what}: what the client hears", frames_to_the_end(client), [])
         client.close()
         output, errors = server.communicate(timeout=60)
-        checks.same(what, (server.returncode, output.decode(), last_line(errors)), (1, "", "stompd: J3 device failed: the file was overwritten\n"))
+        checks.same(what, (server.returncode, output.decode(), last_line(errors)), (1, "", OVERWRITTEN))
     checks.same(f"{what}: the file", pathlib.Path(path).read_bytes() == before, True)
 
 
@@ -588,9 +595,10 @@ def main():
         return 2
     with tempfile.TemporaryDirectory() as name:
         checks = Checks(str(program), pathlib.Path(name).resolve())
-        made = (formatting, naming, linking, filling, progress, swapping, limiting, what_is_no_file, showing, held_streams, locking)
-        started = (opening, reading, slow_opening, changed_header, threads, failing_input, slow_log, unwatched)
-        for part in (*made, *started, slow_compaction, storing, overwritten_block, removed_at_one_time, asleep, losing):
+        disks = (formatting, naming, linking, filling, progress, swapping, limiting, what_is_no_file, showing, held_streams, locking, opening)
+        starts = (reading, slow_opening, changed_header, threads, failing_input, slow_log, unwatched, slow_compaction, storing)
+        losses = (overwritten_block, removed_at_one_time, asleep, losing)
+        for part in disks + starts + losses:
             part(checks)
     return checks.status()
 

@@ -6,7 +6,8 @@ Needs Python 3 and a C compiler.
 
     python3 tests/program/slow_disk.py [PROGRAM] [--few | --held]
 
-With --few the sync of 100 seconds is left out; with --held all else is. While a command waits for room in the ring, nothing is read from its client, so its answers to pings are not heard. That isn't its silence.
+With --few the sync of 100 seconds is left out; with --held all else is.
+While a command waits for room in the ring, nothing is read from its client, so its answers to pings are not heard. That isn't its silence.
 """
 
 import os
@@ -24,7 +25,7 @@ from lib.stomp_client import Client, Closed
 SENDS, HELD = 100, 100
 # So many clients send so many bodies of so many bytes: six blocks (docs/PROTOCOL.md, "Limits"). All receipts come within so many seconds.
 MANY, EACH, LARGE, AT_ONCE = 24, 4, 60_000, 0.75
-# A topic with so many subscriptions, of so many clients. COMMITs of so many SENDs to it come from so many clients: most of them wait until others are published.
+# A topic with so many subscriptions, of so many clients. COMMITs of so many SENDs to it come from so many clients. Most of them wait for others.
 LISTENERS, SUBSCRIPTIONS, MEMBERS, SENDERS = 16, 16, 16, 12
 # A server that has failed ends within so many seconds.
 LONGEST = 5

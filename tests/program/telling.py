@@ -264,7 +264,8 @@ def topics(program, checks):
         form = r"nearly full: (\d+) of 4096 messages held, (\d+) of 16777216 bytes, 0 of them in topics \(E12 is near\)"
         found = re.fullmatch(form, near[0]) if len(near) == 1 else None
         # A message's size is the bytes of its destination and its body.
-        checks.check("that is told, with the place as `stompd held` has it, and with their bytes", found and int(found[2]) == len("/topic/tx") * int(found[1]), near)
+        is_right = found and int(found[2]) == len("/topic/tx") * int(found[1])
+        checks.check("that is told, with the place as `stompd held` has it, and with their bytes", is_right, near)
 
 
 def alone(program, checks):
