@@ -1,8 +1,9 @@
 #!/usr/bin/env python3
 """What clients hold counts for as long as they hold it, and whoever holds most is the one that is given up: a server whose clients may hold 16 MiB
 together, the least that there is. First three clients sit at each desk. One of them, at three desks in turn, holds most, and three neighbours at
-another desk hold more than that together: only the first is given up, and at once, though its worker sleeps. Then each of the ways in which a client may hold something is taken over and
-over, to many times the budget and given back each time: nobody is given up.
+another desk hold more than that together: only the first is given up, and at once, though its worker sleeps. Then more heads come than have room, none of
+which ends. Then each of the ways in which a client may hold something is taken over and over, to many times the budget and given back each time: nobody is
+given up.
 
     python3 tests/program/holders.py [PROGRAM]
 
@@ -11,6 +12,7 @@ PROGRAM is the built program; without it, bin/stompd. It takes about a minute, a
 
 import contextlib
 import os
+import re
 import socket
 import sys
 import time
@@ -39,6 +41,8 @@ QUIET = 0.3
 # was passed, so many steps are sure to be under it, and so many to pass it. A worker that has nothing to do sleeps for so many seconds, and whoever holds
 # most is given up within the others.
 STEP, STEPS, UNDER, OVER_IT, SLEEP, AT_ONCE = 16, 300, 6, 12, 2.2, 0.5
+# So many heads are more than the budget. Those over it are let go within so many seconds; a client may be in the midst of its head for 20.
+MANY_HEADS, LET_GO = BUDGET // HEAD + 100, 6
 # How many heads over the limit stay open at once: with 16,000 bytes each they have more than the budget.
 REFUSED = 1_200
 
@@ -141,6 +145,41 @@ def most_of_a_sleeping_worker(broker, checks):
     checks.check("and then at once", most.client.hears_within(AT_ONCE) and most.client.has_message())
     for one in clients:
         one.client.close()
+
+
+def is_let_go(one):
+    """Whether a socket that doesn't wait, and to which nothing is said, has ended."""
+    try:
+        return one.recv(1) == b""
+    except BlockingIOError:
+        return False
+    except ConnectionResetError:
+        return True
+
+
+def heads_over_the_budget(broker, checks):
+    """of heads that have no end, which are more than the budget, those that are over it are let go"""
+    front = handshake(0)[:-2] + b"X-Long: "
+    head = front + b"x" * (HEAD - len(front))
+    left = [socket.create_connection(("127.0.0.1", broker.port), timeout=20) for _ in range(MANY_HEADS)]
+    for one in left:
+        with contextlib.suppress(ConnectionError):
+            one.sendall(head)
+        one.setblocking(False)
+    sockets, end = list(left), time.monotonic() + LET_GO
+    while len(left) > BUDGET // HEAD and time.monotonic() < end:
+        time.sleep(0.1)
+        left = [one for one in left if not is_let_go(one)]
+    checks.check(f"of {MANY_HEADS} at most {BUDGET // HEAD} are left", 0 < len(left) <= BUDGET // HEAD, len(left))
+    # Counts are told once a second.
+    time.sleep(2)
+    left = [one for one in left if not is_let_go(one)]
+    os.set_blocking(broker.process.stderr.fileno(), False)
+    log = (broker.process.stderr.read() or b"").decode()
+    told = sum(map(int, re.findall(r"gave up (\d+) clients that took the most memory", log)))
+    checks.same("the others are told", told, MANY_HEADS - len(left))
+    for one in sockets:
+        one.close()
 
 
 def what_is_taken(broker, checks):
@@ -252,7 +291,7 @@ def main():
     scenario.take_descriptors()
     scenario.keep_journals_in_memory()
     checks, start = scenario.Checks(), time.monotonic()
-    for one in (most_of_all, most_of_a_sleeping_worker):
+    for one in (most_of_all, most_of_a_sleeping_worker, heads_over_the_budget):
         with scenario.serving(program, kind=with_least_budget) as broker:
             scenario.try_one(one, broker, checks)
     # One broker for all, so that what an earlier one left counted is found by the next.
