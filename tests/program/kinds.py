@@ -3,15 +3,17 @@
 
     python3 tests/program/kinds.py [PROGRAM]
 
-PROGRAM is the built program; without it, bin/stompd. It takes one minute or two, in which it mostly waits, and needs Python 3 alone. Those that telling.py
-provokes are left out: clients without the subprotocol, those whose outbox is full, and those whose names have no room.
+PROGRAM is the built program; without it, bin/stompd. It takes one minute or two, in which it mostly waits, and needs Python 3, and `cc` for a disk that stands
+still. Those that telling.py provokes are left out: clients without the subprotocol, those whose outbox is full, and those whose names have no room.
 """
 
 import contextlib
 import fcntl
 import os
+import pathlib
 import re
 import resource
+import shutil
 import socket
 import subprocess
 import sys
@@ -31,6 +33,11 @@ GIVEN_UP, UNANSWERED = 60, 10
 PINGED = 20
 # One that has sent half of its handshake may say nothing for so long.
 HALF = 20
+# A client that says nothing for so many seconds is sent a ping, up to so many.
+QUIET, PINGS = 20, 3
+# A silent client is given up after so many seconds. While a command of it waits for room, its silence doesn't count. It has more
+# commands than may be under way.
+SILENT, WAITING = 80, 40
 # None is given up a second before that; and each was told within so many after it.
 EARLY, LATE = 1, 6
 # So many bytes of a subscriber's messages are more than sockets keep, and less than an outbox does.
@@ -44,14 +51,14 @@ UNTOLD = 64
 class Told:
     """A server, and what it tells on standard error."""
 
-    def __init__(self, program, more=(), limit=None, size=67_108_896):
+    def __init__(self, program, more=(), limit=None, size=67_108_896, env=None):
         self.folder = tempfile.TemporaryDirectory(prefix="kinds-")
         journal = f"{self.folder.name}/journal"
         subprocess.run([program, "format", "--sparse", journal, str(size)], check=True)
         self.port, self.text = scenario.free_port(), ""
         ours = (lambda: resource.setrlimit(resource.RLIMIT_NOFILE, (limit, limit))) if limit else None
         self.reads, writes = os.pipe()
-        self.process = subprocess.Popen([program, "serve", journal, str(self.port), *more], stdout=subprocess.PIPE, stderr=writes, preexec_fn=ours)
+        self.process = subprocess.Popen([program, "serve", journal, str(self.port), *more], stdout=subprocess.PIPE, stderr=writes, preexec_fn=ours, env=env)
         # The server has it, and the test that fills it.
         self.writes = writes
         self.lock, self.reader = threading.Lock(), None
@@ -138,7 +145,13 @@ def full(program, checks):
     """a server that is full"""
     with told(program, limit=FEW) as server:
         server.await_count(r"(\d+) clients allowed", 1, 3)
-        clients = [Client(server.port).connect() for _ in range(server.count(r"(\d+) clients allowed"))]
+        allowed = server.count(r"(\d+) clients allowed")
+        # As many leave in the midst of their handshakes, and keep nobody out.
+        for one in [socket.create_connection(("127.0.0.1", server.port), timeout=5) for _ in range(allowed)]:
+            one.sendall(handshake(server.port)[:40])
+            one.close()
+        time.sleep(2)
+        clients = [Client(server.port).connect() for _ in range(allowed)]
         for _ in range(3):
             with contextlib.suppress(Refused):
                 WebSocket(server.port)
@@ -211,6 +224,9 @@ class Slow:
 
     def opens_nothing(self, port):
         self.unopened = [WebSocket(port) for _ in range(2)]
+        # One that was refused and stays is let go, and isn't one of these.
+        self.refused = socket.create_connection(("127.0.0.1", port), timeout=5)
+        self.refused.sendall(b"GET / HTTP/1.1\r\nHost: a\r\n\r\n")
 
     def takes_nothing(self, port):
         self.readers = [Client(port, receive_bytes=4_096).connect() for _ in range(3)]
@@ -276,6 +292,41 @@ def half_asked(program, checks):
         checks.same("and then told", server.await_count(form, 1, EARLY + LATE), 1)
 
 
+def pinged(program, checks):
+    """a client that says nothing: it is sent three pings, and then is given up"""
+    form = r"gave up (\d+) clients that answered no ping or close"
+    with told(program) as server:
+        silent = Client(server.port).connect()
+        for number in range(1, PINGS + 1):
+            checks.check(f"ping {number} is not sent before its time", not silent.hears_within(QUIET - EARLY))
+            checks.check(f"and then is sent: {number}", silent.hears_within(EARLY + LATE) and silent.take_frame()[1] == PING)
+        time.sleep(QUIET - EARLY)
+        checks.same("its answers are waited for", server.count(form), 0)
+        checks.same("and then it is given up", server.await_count(form, 1, EARLY + LATE), 1)
+
+
+def waits_for_room(program, checks):
+    """a client whose commands wait for a disk that stands still"""
+    if shutil.which("cc") is None:
+        checks.tell(f"{waits_for_room.__doc__}: not tried, since there is no cc")
+        return
+    with tempfile.TemporaryDirectory(prefix="kinds-") as folder:
+        built, held = f"{folder}/slow_sync.so", pathlib.Path(folder) / "held"
+        source = pathlib.Path(__file__).resolve().parents[2] / "bench" / "slow_sync.c"
+        subprocess.run(["cc", "-O2", "-shared", "-fPIC", "-o", built, source], check=True)
+        with told(program, env={**os.environ, "LD_PRELOAD": built, "SYNCS_HELD": str(held)}) as server:
+            client = Client(server.port, timeout=20).connect()
+            held.touch()
+            for number in range(WAITING):
+                client.send("SEND", [("destination", "/topic/none"), ("receipt", f"{number}")], "x")
+            time.sleep(SILENT + LATE)
+            checks.same("who waits for room is not given up for its silence", server.count(r"gave up (\d+)"), 0)
+            held.unlink()
+            for number in range(WAITING):
+                client.receipt(f"{number}")
+            checks.check("and has all receipts in the end", client.publish("/topic/none", "x") == [])
+
+
 def left_out(program, checks):
     """lines that nobody reads: those over 64 are counted, and what was left out is told once somebody reads again"""
     # A small journal is compacted often, and each time has a line.
@@ -337,7 +388,7 @@ def main():
     program = scenario.words_of(__doc__).parse_args().program
     scenario.take_descriptors()
     checks = scenario.Checks()
-    slow = [threading.Thread(target=tried, args=(part, program, checks)) for part in (given_up, half_asked)]
+    slow = [threading.Thread(target=tried, args=(part, program, checks)) for part in (given_up, half_asked, pinged, waits_for_room)]
     for one in slow:
         one.start()
     for part in (refused_requests, full, no_descriptors, most_memory, left_out, small_journal):
