@@ -12,10 +12,10 @@ CONNECTED = b"CONNECTED\nversion:1.2\n\n\0"
 
 
 class Peer:
-    """One that listens, and does with its first client what it is given."""
+    """One that listens, at 127.0.0.1 unless it is given another host, and does with its first client what it is given."""
 
-    def __init__(self, act):
-        self.listener = socket.create_server(("127.0.0.1", 0))
+    def __init__(self, act, host="127.0.0.1"):
+        self.listener = socket.create_server((host, 0), family=socket.AF_INET6 if ":" in host else socket.AF_INET)
         self.port, self.act, self.heard, self.fault = self.listener.getsockname()[1], act, [], None
         self.thread = threading.Thread(target=self.serve)
         self.thread.start()

@@ -16,6 +16,7 @@ import re
 import resource
 import signal
 import socket
+import struct
 import subprocess
 import sys
 import threading
@@ -113,6 +114,15 @@ def ending(peer, _):
     peer.socket.shutdown(socket.SHUT_RDWR)
 
 
+def resetting(peer, _):
+    """Ends with a reset, as a system does whose program has left something unread."""
+    peer.socket.setsockopt(socket.SOL_SOCKET, socket.SO_LINGER, struct.pack("ii", 1, 0))
+    # The last of those who have it.
+    peer.stream.close()
+    peer.socket.close()
+    raise ConnectionResetError
+
+
 def nothing(*_):
     pass
 
@@ -175,6 +185,8 @@ BAD = {
     "says what is no STOMP": (answering(saying(b"hello, who is there?\n\n\0")), NO_CONNECTED + NO_STOMP),
     "says what is no WebSocket": (answering(lambda peer, _: peer.socket.sendall(b"\xff\xff\xff\xff")), NO_CONNECTED + NO_WEBSOCKET),
     "closes": (answering(closing(1008)), NO_CONNECTED + "closed with 1008"),
+    # Which counts as 1005 (RFC 6455, section 7.1.5).
+    "closes with no code": (answering(lambda peer, _: peer.say(b"", CLOSE)), NO_CONNECTED + "closed with 1005"),
     "ends after the CONNECT": (answering(ending), NO_CONNECTED + ENDED),
     "answers two at once": (answering(saying(CONNECTED + b"RECEIPT\nreceipt-id:sent\n\n\0")), NO_CONNECTED + "RECEIPT came"),
     "does not answer the SEND": (answering(connected, nothing), NO_RECEIPT + LATE),
@@ -183,6 +195,7 @@ BAD = {
     "says a MESSAGE": (answering(connected, saying(b"MESSAGE\nsubscription:s\nmessage-id:1\ndestination:/topic/t\n\nhi\0")), NO_RECEIPT + "MESSAGE came"),
     "says an ERROR to the SEND": (answering(connected, saying(ERROR)), NO_RECEIPT + "ERROR: E12 no room%0Afor the 100%25 message"),
     "ends after the SEND": (answering(connected, ending), NO_RECEIPT + ENDED),
+    "resets after the SEND": (answering(connected, resetting), NO_RECEIPT + ENDED),
     "does not answer the DISCONNECT": (answering(connected, receipted, nothing), NO_FAREWELL + LATE),
     "closes in place of the last RECEIPT": (answering(connected, receipted, closing(1001)), NO_FAREWELL + "closed with 1001"),
     "does not close": (answering(connected, receipted, receipted), NO_CLOSE + LATE),
@@ -242,6 +255,30 @@ def what_is_said(program, checks):
     checks.same("it says CONNECT, SEND, DISCONNECT, and closes with 1000", (commands, frames[3]), ([b"CONNECT", b"SEND", b"DISCONNECT"], (CLOSE, b"\x03\xe8")))
     checks.same("its CONNECT asks for STOMP 1.2", frames[0][1], CONNECT_TEXT)
     checks.check("its SEND goes where nobody hears it", b"\ndestination:/topic/stompd-ping\n" in frames[1][1], frames[1])
+
+
+def can_listen_at(host):
+    try:
+        socket.create_server((host, 0), family=socket.AF_INET6).close()
+        return True
+    except OSError:
+        return False
+
+
+def hosts(program, checks):
+    """A URL may have an address of IPv6, in brackets (RFC 3986, section 3.2.2), and a name of which only one address is listened at."""
+    places = [("::1", "[::1]"), *((host, "localhost") for host in sorted({it[4][0] for it in socket.getaddrinfo("localhost", None)}))]
+    for host, name in places:
+        if ":" in host and not can_listen_at(host):
+            checks.tell(f"a peer at {host}: not tried, since this system has no IPv6")
+            continue
+        peer = Peer(converse, host)
+        seen, _ = ping(program, f"ws://{name}:{peer.port}/")
+        if not is_answered(seen):
+            # It waits for its first client.
+            socket.create_connection((host, peer.port)).close()
+        peer.end()
+        checks.check(f"a peer that listens at {host} alone, as {name}", is_answered(seen), seen)
 
 
 def ports(program, checks):
@@ -353,7 +390,7 @@ def other_servers(program, checks):
 def main():
     program = built_program(words_of(__doc__, BUILT).parse_args())
     checks, start = Checks(), time.monotonic()
-    for trial in (ports, running, full, other_servers, what_is_said, peers):
+    for trial in (ports, hosts, running, full, other_servers, what_is_said, peers):
         trial(program, checks)
     print(f"ping: {checks.failed} failed, {time.monotonic() - start:.0f} s")
     return checks.status()
