@@ -140,6 +140,22 @@ def formats(checks, folder):
         checks.check(f"{size} bytes have two areas of 49,984", len(data) == size and data[8:16] == struct.pack(">Q", 49_984), data[:16])
 
 
+def unfinished(checks, folder):
+    """A file under the name under which a journal is made: one that is locked, or that somebody may need, stays."""
+    draft = folder / "draft.new"
+    with draft.open("wb") as lock:
+        fcntl.flock(lock, fcntl.LOCK_EX)
+        checks.run(["format", str(folder / "draft"), str(SMALLEST)], 1, NOTHING, unopened(draft, "it is locked, since another stompd makes the file"))
+    foreign = unopened(draft, "it is there, and no unfinished journal; rename or remove it")
+    for data in (b"mine", b"STOMPJ02", bytes(7) + b"x"):
+        draft.write_bytes(data)
+        checks.run(["format", str(folder / "draft"), str(SMALLEST)], 1, NOTHING, foreign)
+        checks.same(f"{data}: it stays", draft.read_bytes(), data)
+    draft.write_bytes(bytes(8) + b"x")
+    checks.run(["format", str(folder / "draft"), str(SMALLEST)], 0, NOTHING, NOTHING)
+    checks.check("what a killed run left is made anew", not draft.exists() and (folder / "draft").read_bytes() == (folder / "zeros").read_bytes())
+
+
 def places(checks, folder):
     """A bare name is one of the current folder; a file has all of its room, if it isn't sparse; and the system's limit on files is kept."""
     checks.run(["format", "bare", str(LIMITED)], 0, NOTHING, NOTHING, cwd=folder)
@@ -201,11 +217,16 @@ def shows(checks, folder):
         checks.check(f"{command} --json prints an object", json.loads(done.stdout) == wanted, done.stdout)
         checks.run([command, str(folder / "journal"), "--json"], 0, done.stdout, NOTHING)
     checks.run(["show", "--", "--json"], 1, NOTHING, missing("--json"))
+    # Nobody writes the FIFO: who opened it for reading would wait.
+    specials = (str(folder / "fifo"), os.devnull)
+    os.mkfifo(specials[0])
     for command in (["show"], ["held"], *([it, "--json"] for it in OBJECTS)):
         with open("/dev/full", "wb") as full:
             checks.run([*command, str(folder / "journal")], 1, NOTHING, told("input or output failed"), sink=full)
         checks.run([*command, str(folder / "missing")], 1, NOTHING, missing(folder / "missing"))
-        checks.run([*command, str(folder)], 1, NOTHING, SOME)
+        checks.run([*command, str(folder)], 1, NOTHING, unopened(folder, "it is a directory"))
+        for special in specials:
+            checks.run([*command, special], 1, NOTHING, unopened(special, "it is no file"))
         for path, data, text in broken(folder):
             checks.run([*command, str(path)], 1, NOTHING, text)
             checks.check(f"{path.name} is left as it was", path.read_bytes() == data)
@@ -264,6 +285,8 @@ def serves(checks, folder):
     for further in ([none, "--port", port], [none, f"--port={port}"]):
         checks.run(["serve", *further], 2, NOTHING, bad("--port", "there is no such option: the port stands by itself, as in stompd serve FILE 8080"))
     checks.run(["serve", str(folder), port], 1, NOTHING, unopened(folder, "it is a directory"))
+    for special in (str(folder / "fifo"), os.devnull):
+        checks.run(["serve", special, port], 1, NOTHING, unopened(special, "it is no file"))
     for path, data, text in broken(folder):
         checks.run(["serve", str(path), port], 1, NOTHING, text)
         checks.check(f"{path.name} is left as it was", path.read_bytes() == data)
@@ -329,6 +352,7 @@ def new_journals(checks, folder, port):
             serving.wait()
         checks.run(["held", str(path)], 0, EMPTY, NOTHING)
     checks.check("it has the bytes that were asked for first", made.stat().st_size == 9 * 1_024, made.stat().st_size)
+    checks.check("and all of its room", made.stat().st_blocks * 512 >= 9 * 1_024, made.stat().st_blocks)
     checks.check("only its owner may read it", made.stat().st_mode & 0o777 == 0o600, oct(made.stat().st_mode))
     checks.check("a journal that is there keeps its size", zeros.stat().st_size == SMALLEST)
     zeros.write_bytes(before)
@@ -375,6 +399,7 @@ def main():
         folder = pathlib.Path(name)
         scripts(checks)
         formats(checks, folder)
+        unfinished(checks, folder)
         places(checks, folder)
         shows(checks, folder)
         serves(checks, folder)
