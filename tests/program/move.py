@@ -360,6 +360,9 @@ def frames(program, checks):
     peer = Peer(answering(connected, saying(two), receipted, receipted, receipted))
     said_to(program, peer, "--count", 2)
     checks.same("and last a close (RFC 6455, section 5.5.1)", peer.heard[-1], (CLOSE, (1000).to_bytes(2, "big")))
+    peer = Peer(answering(connected, saying(two), receipted, receipted, receipted))
+    seen, said = said_to(program, peer, "--count", 3, "--timeout", 1)
+    checks.same("of one for which too few come", (seen, said), ((4, "moved 2 messages\n", told(NONE)), wanted))
     for what, answer, text in (
         ("the end", ending, "no RECEIPT: the connection has ended" + NOT_COUNTED),
         ("the RECEIPT of another frame", saying(b"RECEIPT\nreceipt-id:2\n\n\0"), "no RECEIPT: RECEIPT came" + NOT_COUNTED),
@@ -526,6 +529,11 @@ def broken_pipe(program, checks):
         errors = process.communicate(timeout=30)[1].decode()
         checks.same("it ends", (process.returncode, errors), (1, told("input or output failed")))
         checks.same("three lines were read", lines.decode().split("\n"), [*bodies[:3], ""])
+        # What it had in hand is the next one's once the server has heard of its end.
+        for _ in range(100):
+            if "subscription" not in subprocess.run([program, "sessions", broker.journal], capture_output=True, text=True, check=True).stdout:
+                break
+            time.sleep(0.1)
         checks.same("and all others are there", run(program, "listen", broker.port, "/queue/a", "--settle", "--timeout", 1)[:2], (4, "".join(it + "\n" for it in bodies[3:])))
 
 
