@@ -111,6 +111,14 @@ def counts(program, broker, *places):
 WHOLE = [message_of(it) for it in range(COUNT)]
 
 
+def await_returned(program, broker):
+    """Returns once the server has heard of the end of all who subscribed: until then what they had in hand is nobody else's, and later messages come first."""
+    for _ in range(100):
+        if "subscription" not in subprocess.run([program, "sessions", broker.journal], capture_output=True, text=True, check=True).stdout:
+            return
+        time.sleep(0.1)
+
+
 def moves(program, checks):
     """Headers and bodies stay, in their order: from a queue to a queue, to a topic's durable name, and back from there."""
     with serving(program) as broker:
@@ -168,6 +176,7 @@ def to_another(program, checks):
         checks.same("and no more", (counts(program, broker, "/queue/a"), counts(program, other, "/queue/a")), ((COUNT - 10,), (10,)))
         seen = run(program, "move", broker.port, "/queue/a", "/nowhere", "--to", other.port)
         checks.same("where the other refuses", seen, (1, "moved 0 messages\n", told("no RECEIPT: ERROR: E8 bad destination" + STAYS)))
+        await_returned(program, broker)
         checks.same("all", run(program, "move", broker.port, "/queue/a", "/queue/a", "--to", f"ws://127.0.0.1:{other.port}/"), (0, f"moved {COUNT - 10} messages\n", ""))
         checks.same("here is nothing", counts(program, broker, "/queue/a"), (0,))
         checks.same("all as they were", all_in(other, "/queue/a", COUNT), WHOLE)
@@ -259,6 +268,7 @@ def killed_mover(program, checks):
             process = subprocess.Popen([program, "move", str(relay.port), here, there], stdin=subprocess.DEVNULL, stdout=subprocess.PIPE, stderr=subprocess.PIPE)
             printed = process.communicate(timeout=30)
             relay.thread.join()
+            await_returned(program, broker)
             checks.same(f"{what}: it ends", (process.returncode, printed), (-(signal.SIGTERM, signal.SIGKILL)[place % 2], (b"", b"")))
             came = number if is_late else number - 1
             checks.same(f"{what}: each is at one place", counts(program, broker, here, there), (COUNT - came, came))
@@ -531,11 +541,7 @@ def broken_pipe(program, checks):
         errors = process.communicate(timeout=30)[1].decode()
         checks.same("it ends", (process.returncode, errors), (1, told("input or output failed")))
         checks.same("three lines were read", lines.decode().split("\n"), [*bodies[:3], ""])
-        # What it had in hand is the next one's once the server has heard of its end.
-        for _ in range(100):
-            if "subscription" not in subprocess.run([program, "sessions", broker.journal], capture_output=True, text=True, check=True).stdout:
-                break
-            time.sleep(0.1)
+        await_returned(program, broker)
         checks.same("and all others are there", run(program, "listen", broker.port, "/queue/a", "--settle", "--timeout", 1)[:2], (4, "".join(it + "\n" for it in bodies[3:])))
 
 
