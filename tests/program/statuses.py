@@ -151,6 +151,11 @@ def unfinished(checks, folder):
         draft.write_bytes(data)
         checks.run(["format", str(folder / "draft"), str(SMALLEST)], 1, NOTHING, foreign)
         checks.same(f"{data}: it stays", draft.read_bytes(), data)
+    draft.unlink()
+    for make, remove in ((draft.mkdir, draft.rmdir), (lambda: draft.symlink_to(folder / "zeros"), draft.unlink)):
+        make()
+        checks.run(["format", str(folder / "draft"), str(SMALLEST)], 1, NOTHING, foreign)
+        remove()
     draft.write_bytes(bytes(8) + b"x")
     checks.run(["format", str(folder / "draft"), str(SMALLEST)], 0, NOTHING, NOTHING)
     checks.check("what a killed run left is made anew", not draft.exists() and (folder / "draft").read_bytes() == (folder / "zeros").read_bytes())
@@ -353,6 +358,9 @@ def new_journals(checks, folder, port):
         checks.run(["held", str(path)], 0, EMPTY, NOTHING)
     checks.check("it has the bytes that were asked for first", made.stat().st_size == 9 * 1_024, made.stat().st_size)
     checks.check("and all of its room", made.stat().st_blocks * 512 >= 9 * 1_024, made.stat().st_blocks)
+    copy = folder / "a copy"
+    checks.run(["copy", str(made), str(copy), str(LIMITED)], 0, NOTHING, NOTHING)
+    checks.check("so has a copy", copy.stat().st_blocks * 512 >= LIMITED, copy.stat().st_blocks)
     checks.check("only its owner may read it", made.stat().st_mode & 0o777 == 0o600, oct(made.stat().st_mode))
     checks.check("a journal that is there keeps its size", zeros.stat().st_size == SMALLEST)
     zeros.write_bytes(before)
