@@ -16,7 +16,7 @@ import sys
 import tempfile
 import time
 
-from lib.fake_peer import CONNECTED, Peer, receipt_of
+from lib.fake_peer import CONNECTED, Peer, close, receipt_of
 from lib.scenario import BUILT, Checks, built_program, words_of
 
 # How long a step may take (docs/CLI.md, "Pings"), in seconds.
@@ -114,6 +114,8 @@ def silence(program, checks):
         peer.hear()
         if b"DISCONNECT" in peer.hear()[1]:
             peer.say(b"RECEIPT\nreceipt-id:left\n\n\0")
+            peer.hear()
+            close(peer)
             peer.wait()
 
     for more, least, most, wanted in (
