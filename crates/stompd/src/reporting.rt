@@ -96,7 +96,12 @@ fn write_seconds<R: Wait + Clock, E: Write>(
         if is_over.load(Ordering::SeqCst) {
             return;
         }
-        if add_notice(rt, alloc, form, Notice::Opening { seconds }, errors).is_err() {
+        let mut text = Vec::new(alloc);
+        let added = add_notice(rt, alloc, form, Notice::Opening { seconds }, &mut text);
+        // A line is one write, so that no other thread's line comes between.
+        let written = errors.write_all(text.as_slice());
+        drop(text);
+        if added.is_err() || written.is_err() {
             return;
         }
     }

@@ -8,7 +8,7 @@ use event_log::{Form, Notice, Reopening, is_too_full};
 use server_core::{FileAt, Reception, ServeEnd, ServeFault, Server, Unopened};
 use std::alloc::{AllocError, Global};
 use std::fs::{File, Files};
-use std::io::{Lock, Stderr, Stdin, Stdout};
+use std::io::{LineWriter, Lock, Stderr, Stdin, Stdout};
 use std::net::{Ipv4Addr, Net, SocketAddr, SocketAddrV4, TcpListener, TcpStream};
 use std::sync::atomic::Ordering;
 use std::sync::{Arc, Wait};
@@ -279,7 +279,11 @@ where
     /// it to end from now on.
     fn start(&self, server: &mut Server<R>, input: &Arc<Input>) -> Result<(), ServeFault> {
         server.start_workers(self.rt, self.alloc)?;
-        server.start_log_thread(self.rt, self.alloc, self.asked.form, self.streams.errors)?;
+        // A line is one write, so that no other thread's line comes between.
+        let Ok(lines) = LineWriter::new(self.alloc, self.streams.errors) else {
+            return Err(ServeFault::Memory);
+        };
+        server.start_log_thread(self.rt, self.alloc, self.asked.form, lines)?;
         input.attach(self.rt, server.ender()?);
         Ok(())
     }
