@@ -335,9 +335,9 @@ def frames_are_right(engine, checks):
         run("globalThis.done = outcome(it.send('/topic/room', 'last'))")
         checks.same("and nothing of these was sent", link.accept_next().body, b"last")
         link.drop()
-        run("await done; await soon(() => !it.session); const text = new TextEncoder().encode('ab'); it.send('/topic/room', text); text[0] = 0")
+        run("await done; await soon(() => !it.session); const text = new Uint8Array([97, 98]); it.send('/topic/room', text); it.send('/topic/room', text.buffer); text[0] = 0")
         link = fake.take()
-        checks.same("bytes that wait stay what they were", [link.accept_next().body for _ in range(2)], [b"", b"ab"])
+        checks.same("bytes that wait stay what they were", [link.accept_next().body for _ in range(3)], [b"", b"ab", b"ab"])
     words = run("try { open({ WebSocket: undefined }); } catch (error) { return error.message; }")
     checks.check("a Node without WebSocket is told what to do", "--experimental-websocket" in (words or ""), words)
 

@@ -21,7 +21,10 @@ class Peer:
         self.thread.start()
 
     def serve(self):
+        self.stream = self.socket = self.listener
         try:
+            # Its client connects at once, or is not the one that it should be.
+            self.listener.settimeout(60)
             self.socket, _ = self.listener.accept()
             self.socket.settimeout(30)
             self.stream, self.buffer = self.socket.makefile("rb"), bytearray()

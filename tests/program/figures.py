@@ -117,7 +117,8 @@ def idle(program, checks):
         checks.same("an idle server says twice in two minutes how it does", len(told), 2)
         for number, (when, it) in enumerate(told, 1):
             checks.check(f"idle minute {number}: in time", number * MINUTE - 1 < when < number * MINUTE + LATE, when)
-            checks.same(f"idle minute {number}: its figures", (it["connections"], it["messages"], it["errors"], it["dead_letters"]), (0, 5, 0, 0))
+            seen = it["connections"], it["memory_bytes"], it["messages"], it["errors"], it["dead_letters"]
+            checks.same(f"idle minute {number}: its figures", seen, (0, 0, 5, 0, 0))
         checks.check("what was logged meanwhile", any(it["kind"] == "refused" for _, it in found), found)
 
 

@@ -26,6 +26,8 @@ from lib.stomp_client import Client
 from lib.wire import BINARY, CLOSE, PING, message_bytes, take_frame
 
 COUNT = 100
+# More than a byte counts.
+MANY = 300
 # After how many seconds of waiting for a message it connects to the other server anew, which pings meanwhile and is not answered.
 STALE = 10
 # For how many seconds no message may come in a trial.
@@ -132,6 +134,9 @@ def moves(program, checks):
         checks.same("and out of its durable name", run(program, "move", broker.port, "/topic/t", "/queue/c", *DURABLE, "--timeout", 1), (0, f"moved {COUNT} messages\n", ""))
         checks.same("no other place has any", held(program, broker), {"queue /queue/c": COUNT, "durable client-id:kiosk activemq.subscriptionName:news": 0})
         checks.same("all as they were", all_in(broker, "/queue/c", COUNT), WHOLE)
+        fill(broker, "/queue/m", MANY)
+        checks.same("many", run(program, "move", broker.port, "/queue/m", "/queue/n", "--count", MANY), (0, f"moved {MANY} messages\n", ""))
+        checks.same("are all there", counts(program, broker, "/queue/m", "/queue/n"), (0, MANY))
         fill(broker, "/queue/d", 3)
         checks.same("so many", run(program, "move", broker.port, "/queue/d", "/queue/e", "--count", 2), (0, "moved 2 messages\n", ""))
         checks.same("and the third stays", counts(program, broker, "/queue/d", "/queue/e"), (1, 2))
