@@ -404,6 +404,14 @@ def slow_log(checks):
     checks.same("a slow log: its status and its last line", (server.returncode, log.read_text().endswith(" ending: asked to\n")), (0, True))
 
 
+def answer_at(port):
+    """A connection to that port, or the status by which it is refused."""
+    try:
+        return WebSocket(port)
+    except Refused as refused:
+        return refused.status
+
+
 def unwatched(checks):
     """The system doesn't watch the socket of a client: it is closed, and takes no place of the few that a server with few descriptors has."""
     path, port, places = make(checks, "unwatched"), free_port(), 2
@@ -417,12 +425,12 @@ def unwatched(checks):
         with socket.create_connection(("127.0.0.1", port), timeout=10) as closed:
             checks.same("a client that can't be watched is closed", closed.recv(1), b"")
         checks.was_injected("a client that can't be watched")
-        answers = []
-        for _ in range(2):
-            try:
-                answers.append(WebSocket(port))
-            except Refused as refused:
-                answers.append(refused.status)
+        # Its socket is closed a moment before its place is free.
+        answers, deadline = [answer_at(port)], time.monotonic() + 10
+        while answers == ["503"] and time.monotonic() < deadline:
+            time.sleep(0.05)
+            answers = [answer_at(port)]
+        answers.append(answer_at(port))
         checks.same("the next one has its place, and one more has none", [getattr(it, "head", it)[:12] for it in answers], ["HTTP/1.1 101", "503"])
         first.close()
     finally:
