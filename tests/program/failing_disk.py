@@ -391,7 +391,7 @@ def failing_input(checks):
 
 
 def slow_log(checks):
-    """Each piece of a line of the log takes 40 ms. A server without clients that is asked to end doesn't end before its last line is whole."""
+    """Each write of the log takes 40 ms. A server without clients that is asked to end doesn't end before its last line, and each line is one write."""
     path, log = make(checks, "slow-log"), pathlib.Path(checks.path("log"))
     words = ["strace", "-f", "-o", checks.path("trace"), "-P", log, "-e", "trace=write", "-e", "inject=write:delay_enter=40000"]
     words += [checks.program, "serve", path, str(free_port()), "--until-eof"]
@@ -402,6 +402,7 @@ def slow_log(checks):
         time.sleep(0.01)
     server.communicate(timeout=60)
     checks.same("a slow log: its status and its last line", (server.returncode, log.read_text().endswith(" ending: asked to\n")), (0, True))
+    checks.same("a slow log: writes, and lines", pathlib.Path(checks.path("trace")).read_text().count("write("), log.read_text().count("\n"))
 
 
 def answer_at(port):

@@ -29,8 +29,6 @@ ORIGIN = "https://rooms.example"
 LEAST_BUDGET, FEW = 16_777_216, 300
 # A client that opens no session, and one that takes nothing, is given up after so many seconds; one that doesn't answer a close, after ten.
 GIVEN_UP, UNANSWERED = 60, 10
-# Who is silent for so long is pinged.
-PINGED = 20
 # One that has sent half of its handshake may say nothing for so long.
 HALF = 20
 # A client that says nothing for so many seconds is sent a ping, up to so many.
@@ -279,7 +277,7 @@ def given_up(program, checks):
             checks.same(f"{form}: told, and how many", server.await_count(form, count, max(0, last + most + LATE - time.monotonic())), count)
         checks.same("and nobody else is given up", server.count(r"gave up (\d+)"), sum(count for _, count, _, _ in SLOW))
         checks.check("one that only answers pings is there", not quiet.has_ended)
-        checks.check("and has one after each 20 s", len(quiet.pings) >= 2 and all(PINGED - EARLY <= it <= PINGED + LATE for it in quiet.pings), quiet.pings)
+        checks.check("and has one after each 20 s", len(quiet.pings) >= 2 and all(QUIET - EARLY <= it <= QUIET + LATE for it in quiet.pings), quiet.pings)
 
 
 def half_asked(program, checks):
