@@ -4,6 +4,7 @@ A function's contract is refused a wrong body by what the contract says. So a mu
 it edits changed, or if a definition of specs/ changed that the function names, directly or through other definitions.
 """
 
+import collections
 import pathlib
 import re
 import subprocess
@@ -28,16 +29,25 @@ def crates_below():
     return below
 
 
-def pairs_of(edit):
-    """What an edit replaces: the file, the text, and what comes in its place."""
-    path, old = "", ""
-    for line in edit.read_text(encoding="utf-8").split("\n"):
+Mutant = collections.namedtuple("Mutant", "crate name pairs")
+Mutant.__doc__ = "A wrong edit of a crate. Each pair is the file, the text that it loses, and the text in its place."
+
+
+def mutants_in(crate, text):
+    """The mutants of mutants/CRATE.edits: a file holds for all below it, until the next."""
+    found, path, old = [], "", ""
+    for line in text.splitlines():
         if line.startswith("file: "):
             path = line[6:].strip()
+        elif line.startswith("["):
+            found.append(Mutant(crate, line.strip("[]"), []))
         elif line.startswith("old: "):
             old = line[5:]
         elif line.startswith("new:"):
-            yield path, old, line[4:].removeprefix(" ")
+            found[-1].pairs.append((path, old, line[4:].removeprefix(" ")))
+        elif line:
+            sys.exit(f"mutants/{crate}.edits has the line: {line}")
+    return found
 
 
 def git(*words):
@@ -121,26 +131,28 @@ def stale_meanings(commit, paths):
     return stale
 
 
-def concerns(edit, commit, paths, stale):
-    """Whether the change may concern a mutant: itself, the function that it edits, or a definition that this one names."""
-    if pathlib.PurePath(edit.relative_to(TOP)) in paths:
-        return True
-    for path, old, _ in pairs_of(edit):
-        file = pathlib.PurePath("crates", edit.parent.name, path)
+def concerns(mutant, commit, paths, stale):
+    """Whether the change may concern a mutant: the function that it edits, or a definition that this one names."""
+    for path, old, _ in mutant.pairs:
+        file = pathlib.PurePath("crates", mutant.crate, path)
         item = around(now(file), old)
         if meant_by(item, meanings(now(file))) & stale or (file in paths and around(was(commit, file), old) != item):
             return True
     return False
 
 
-def stale_mutants(commit, edits, is_wide):
+def stale_mutants(commit, mutants, is_wide):
     paths = set(changed_paths(commit))
+    edited = []
+    for crate in sorted({it.stem for it in paths if it.parts[0] == "mutants"}):
+        before = mutants_in(crate, was(commit, f"mutants/{crate}.edits"))
+        edited += [it for it in mutants if it.crate == crate and it not in before]
     if is_wide:
         crates = {it.parts[1] for it in paths if it.parts[0] == "crates" and len(it.parts) > 3 and it.parts[2] in PARTS}
         below, reached = crates_below(), 0
         while reached != len(crates):
             reached = len(crates)
             crates |= {name for name, names in below.items() if crates & set(names)}
-        return [it for it in edits if it.parent.name in crates or pathlib.PurePath(it.relative_to(TOP)) in paths]
+        return [it for it in mutants if it.crate in crates or it in edited]
     stale = stale_meanings(commit, paths)
-    return [it for it in edits if concerns(it, commit, paths, stale)]
+    return [it for it in mutants if it in edited or concerns(it, commit, paths, stale)]

@@ -1,14 +1,16 @@
 #!/usr/bin/env python3
-"""Tries the mutants that stand beside the gate, those in mutants/CRATE, each of which the prover must refuse. They have the form of the must-fail
-edits that the gate tries; docs/GATE.md says which stand where. Needs `rt` and Python 3; the gate only looks whether they apply.
+"""Tries the mutants that stand beside the gate, those in mutants/CRATE.edits, each of which the prover must refuse; docs/GATE.md says which stand
+where. Needs `rt` and Python 3; the gate only looks whether they apply.
+
+A mutant is a section `[NAME]` with lines `old: ..` and `new: ..`, a pair for each line that it edits, below the line `file: ..` of its source file.
 
     python3 tools/mutants.py [--applies] [CRATE | CRATE/MUTANT ..]
     python3 tools/mutants.py [--applies | --list] --changed COMMIT [--above]
 
-Without names, it tries those of all crates; a mutant's name is that of its file, with or without `.edit`. With --changed it tries those of which the
-mutant itself, the function that it edits, or a definition that this function's contract speaks of, directly or through others, differs from that
-commit's; with --above also those of all crates that changed, and of the crates above them. --list only prints them. With --applies it proves
-nothing, and says in a second or two which can't be applied: the text that each takes away has to stand in its file once.
+Without names, it tries those of all crates. With --changed it tries those of which the mutant itself, the function that it edits, or a definition that
+this function's contract speaks of, directly or through others, differs from that commit's; with --above also those of all crates that changed, and of
+the crates above them. --list only prints them. With --applies it proves nothing, and says in a second or two which can't be applied: the text that
+each takes away has to stand in its file once.
 
 For each it prints the goal that refused it, or a warning if only a proof file that names what the mutant took away was refused: that says little of
 the contract. A copy of the crates is made, over what the checkout has built, so the checkout stays as it is. A crate that was checked on this
@@ -16,6 +18,7 @@ machine takes half a minute for each mutant, and another its whole proof first. 
 """
 
 import argparse
+import collections
 import os
 import pathlib
 import shlex
@@ -32,27 +35,26 @@ FURTHER = TOP / "mutants"
 RT = shlex.split(os.environ.get("RT", str(TOP / "bin" / "rt")))
 
 
-def further():
-    return sorted(it.name for it in FURTHER.iterdir() if it.is_dir())
+def every_mutant():
+    return [it for file in sorted(FURTHER.glob("*.edits")) for it in changes.mutants_in(file.stem, file.read_text(encoding="utf-8"))]
 
 
-def edits_of(name):
-    return sorted((FURTHER / name).glob("*.edit"))
+def is_named(mutant, word):
+    crate, _, name = word.partition("/")
+    return mutant.crate == crate and name in ("", mutant.name)
 
 
-def named_by(word):
-    """The mutants that a word of the command line names; none if it names nothing."""
-    crate, _, mutant = word.removeprefix("mutants/").partition("/")
-    if crate not in further():
-        return []
-    return [it for it in edits_of(crate) if not mutant or it.name.removesuffix(".edit") == mutant.removesuffix(".edit")]
+def named_twice(mutants):
+    """The mutants that have the name of another of their crate, which would hide one of the two."""
+    counts = collections.Counter((it.crate, it.name) for it in mutants)
+    return [f"{crate}/{name}" for (crate, name), count in counts.items() if count > 1]
 
 
-def why_not_applied(edit):
-    """Says why the edit cannot be applied to its crate, or nothing if it can."""
+def why_not_applied(mutant):
+    """Says why the mutant cannot be applied to its crate, or nothing if it can."""
     texts = {}
-    for path, old, new in changes.pairs_of(edit):
-        file = TOP / "crates" / edit.parent.name / path
+    for path, old, new in mutant.pairs:
+        file = TOP / "crates" / mutant.crate / path
         if not file.is_file():
             return f"there is no {path}"
         text = texts.setdefault(path, file.read_text(encoding="utf-8"))
@@ -62,15 +64,24 @@ def why_not_applied(edit):
     return "" if texts else "it changes nothing"
 
 
-def applied(edits):
-    """Prints what cannot be applied, and returns how many edits that are."""
+def applied(mutants):
+    """Prints what cannot be applied, and returns how many mutants that are."""
     lost = 0
-    for edit in edits:
-        why = why_not_applied(edit)
+    for it in mutants:
+        why = why_not_applied(it)
         if why:
             lost += 1
-            print(f"{edit.parent.name}/{edit.name}: {why}")
+            print(f"{it.crate}/{it.name}: {why}")
     return lost
+
+
+def must_fail_edit(mutant):
+    """The text of the file that `rt must-fail` takes."""
+    lines, last = [], ""
+    for path, old, new in mutant.pairs:
+        lines += [f"file: {path}"] * (path != last) + [f"old: {old}", f"new: {new}"]
+        last = path
+    return "\n".join(lines) + "\n"
 
 
 def link_or_copy(made, to):
@@ -88,8 +99,8 @@ def hand_over(name, copy):
             shutil.copytree(built, copy / "crates" / name / "out" / kind, copy_function=link_or_copy)
 
 
-def refused(edits):
-    """Tries the edits in a copy of the crates, each crate's in turn, and returns how many were not refused."""
+def refused(mutants):
+    """Tries the mutants in a copy of the crates, each crate's in turn, and returns how many were not refused."""
     lost = 0
     with tempfile.TemporaryDirectory(prefix="mutants-") as room:
         copy = pathlib.Path(room)
@@ -98,21 +109,15 @@ def refused(edits):
             shutil.copy2(TOP / name, copy / name)
         for name in changes.crates_below():
             hand_over(name, copy)
-        for name in sorted({it.parent.name for it in edits}):
-            place, own = copy / "crates" / name / "must-fail", [it for it in edits if it.parent.name == name]
+        for name in sorted({it.crate for it in mutants}):
+            place, own = copy / "crates" / name / "must-fail", [it for it in mutants if it.crate == name]
             place.mkdir()
-            for edit in own:
-                shutil.copy2(edit, place)
+            for it in own:
+                (place / f"{it.name}.edit").write_text(must_fail_edit(it), encoding="utf-8")
             ran = subprocess.run([*RT, "must-fail", name], cwd=copy, stdin=subprocess.DEVNULL, stdout=subprocess.PIPE, stderr=subprocess.STDOUT, text=True, errors="replace")
             print(ran.stdout, end="", flush=True)
             lost += len(own) - ran.stdout.count(": refused, as it must be")
     return lost
-
-
-def chosen(words):
-    if words.changed:
-        return changes.stale_mutants(words.changed, [it for name in further() for it in edits_of(name)], words.above)
-    return [it for word in words.names or further() for it in named_by(word)]
 
 
 def main():
@@ -123,17 +128,24 @@ def main():
     parser.add_argument("--above", action="store_true", help="with --changed: those of all crates that changed, and of the crates above")
     parser.add_argument("names", nargs="*", metavar="CRATE or CRATE/MUTANT")
     words = parser.parse_args()
-    unknown = [it for it in words.names if not named_by(it)]
-    if unknown:
-        print(f"mutants/ has no crate and no mutant of the name {unknown[0]}", file=sys.stderr)
+    every = every_mutant()
+    for it in words.names:
+        if not any(is_named(mutant, it) for mutant in every):
+            print(f"mutants/ has no crate and no mutant of the name {it}", file=sys.stderr)
+            return 2
+    for it in named_twice(every):
+        print(f"mutants/ has two of the name {it}", file=sys.stderr)
         return 2
-    edits = chosen(words)
+    if words.changed:
+        mutants = changes.stale_mutants(words.changed, every, words.above)
+    else:
+        mutants = [it for it in every if not words.names or any(is_named(it, word) for word in words.names)]
     if words.list:
-        print(*(f"{it.parent.name}/{it.name.removesuffix('.edit')}" for it in edits), sep="\n")
+        print(*(f"{it.crate}/{it.name}" for it in mutants), sep="\n")
         return 0
-    lost = applied(edits) if words.applies else applied(edits) or refused(edits)
+    lost = applied(mutants) if words.applies else applied(mutants) or refused(mutants)
     what = "applied" if words.applies else "refused"
-    print(f"{len(edits)} mutants of {len({it.parent for it in edits})} crates, {lost} not {what}")
+    print(f"{len(mutants)} mutants of {len({it.crate for it in mutants})} crates, {lost} not {what}")
     misnamed = named.main() if words.applies else 0
     return 1 if lost or misnamed else 0
 

@@ -25,7 +25,7 @@ QUOTED = re.compile(r"^```(?:rust|antt)\n(.*?)^```$", re.M | re.S)
 # A library that others wrote.
 OTHERS = {"stomp.py"}
 WORD = re.compile(r"[a-z0-9]+(?:_[a-z0-9]+){3,}")
-CODE = (".rt", ".antt", ".py", ".edit", ".sh", ".c", ".txt", ".mjs")
+CODE = (".rt", ".antt", ".py", ".edit", ".edits", ".sh", ".c", ".txt", ".mjs")
 
 
 def tracked():
