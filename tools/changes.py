@@ -30,24 +30,38 @@ def crates_below():
 
 
 Mutant = collections.namedtuple("Mutant", "crate name pairs")
-Mutant.__doc__ = "A wrong edit of a crate. Each pair is the file, the text that it loses, and the text in its place."
+Mutant.__doc__ = "A wrong edit of a crate. Each pair is the file, the text that it loses, the text in its place, and the function it stands in, or nothing."
 
 
 def mutants_in(crate, text):
     """The mutants of mutants/CRATE.edits: a file holds for all below it, until the next."""
-    found, path, old = [], "", ""
+    found, path, old, within = [], "", "", ""
     for line in text.splitlines():
         if line.startswith("file: "):
             path = line[6:].strip()
         elif line.startswith("["):
             found.append(Mutant(crate, line.strip("[]"), []))
+            within = ""
+        elif line.startswith("in: "):
+            within = line[4:].strip()
         elif line.startswith("old: "):
             old = line[5:]
         elif line.startswith("new:"):
-            found[-1].pairs.append((path, old, line[4:].removeprefix(" ")))
+            found[-1].pairs.append((path, old, line[4:].removeprefix(" "), within))
         elif line:
             sys.exit(f"mutants/{crate}.edits has the line: {line}")
     return found
+
+
+def span(text, within):
+    """Where a function, as `name` or `Type::name`, begins and ends in the text of its file; the whole text if none is named."""
+    start = 0
+    for part in within.split("::") if within else ():
+        found = re.compile(rf"^( *)(?:[a-z()]+ )*(?:fn {part}\b|impl\b[^{{\n]*\b{part}\b)", re.M).search(text, start)
+        if not found:
+            return 0, 0
+        start, end = found.start(), text.find(f"\n{found[1]}}}", found.end())
+    return (start, end) if within else (0, len(text))
 
 
 def git(*words):
@@ -133,7 +147,7 @@ def stale_meanings(commit, paths):
 
 def concerns(mutant, commit, paths, stale):
     """Whether the change may concern a mutant: the function that it edits, or a definition that this one names."""
-    for path, old, _ in mutant.pairs:
+    for path, old, _, _ in mutant.pairs:
         file = pathlib.PurePath("crates", mutant.crate, path)
         item = around(now(file), old)
         if meant_by(item, meanings(now(file))) & stale or (file in paths and around(was(commit, file), old) != item):

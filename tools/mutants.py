@@ -3,6 +3,7 @@
 where. Needs `rt` and Python 3; the gate only looks whether they apply.
 
 A mutant is a section `[NAME]` with lines `old: ..` and `new: ..`, a pair for each line that it edits, below the line `file: ..` of its source file.
+A line `in: FUNCTION` or `in: TYPE::FUNCTION` before a pair says which function is meant, if others have the same text.
 
     python3 tools/mutants.py [--applies] [CRATE | CRATE/MUTANT ..]
     python3 tools/mutants.py [--applies | --list] --changed COMMIT [--above]
@@ -10,7 +11,7 @@ A mutant is a section `[NAME]` with lines `old: ..` and `new: ..`, a pair for ea
 Without names, it tries those of all crates. With --changed it tries those of which the mutant itself, the function that it edits, or a definition that
 this function's contract speaks of, directly or through others, differs from that commit's; with --above also those of all crates that changed, and of
 the crates above them. --list only prints them. With --applies it proves nothing, and says in a second or two which can't be applied: the text that
-each takes away has to stand in its file once.
+each takes away has to stand once in its file, or in the function that it names.
 
 For each it prints the goal that refused it, or a warning if only a proof file that names what the mutant took away was refused: that says little of
 the contract. A copy of the crates is made, over what the checkout has built, so the checkout stays as it is. A crate that was checked on this
@@ -53,14 +54,15 @@ def named_twice(mutants):
 def why_not_applied(mutant):
     """Says why the mutant cannot be applied to its crate, or nothing if it can."""
     texts = {}
-    for path, old, new in mutant.pairs:
+    for path, old, new, within in mutant.pairs:
         file = TOP / "crates" / mutant.crate / path
         if not file.is_file():
             return f"there is no {path}"
         text = texts.setdefault(path, file.read_text(encoding="utf-8"))
-        if text.count(old) != 1:
-            return f"{path} has this {text.count(old)} times: {old}"
-        texts[path] = text.replace(old, new)
+        start, end = changes.span(text, within)
+        if text.count(old, start, end) != 1:
+            return f"{within or path} has this {text.count(old, start, end)} times: {old}"
+        texts[path] = text[:start] + text[start:end].replace(old, new) + text[end:]
     return "" if texts else "it changes nothing"
 
 
@@ -75,10 +77,24 @@ def applied(mutants):
     return lost
 
 
-def must_fail_edit(mutant):
+def marked(crate, mutant):
+    """The mutant's pairs as rt takes them, by a text that stands once in a file: a line of a function that is named gets a comment in the copy."""
+    for path, old, new, within in mutant.pairs:
+        if within:
+            file = crate / path
+            text = file.read_text(encoding="utf-8")
+            at = text.index(old, *changes.span(text, within))
+            start, end = text.rfind("\n", 0, at) + 1, text.index("\n", at)
+            mark = f" // {mutant.name}"
+            file.write_text(text[:end] + mark + text[end:], encoding="utf-8")
+            old, new = text[start:end] + mark, text[start:end].replace(old, new) + mark
+        yield path, old, new
+
+
+def must_fail_edit(pairs):
     """The text of the file that `rt must-fail` takes."""
     lines, last = [], ""
-    for path, old, new in mutant.pairs:
+    for path, old, new in pairs:
         lines += [f"file: {path}"] * (path != last) + [f"old: {old}", f"new: {new}"]
         last = path
     return "\n".join(lines) + "\n"
@@ -113,7 +129,7 @@ def refused(mutants):
             place, own = copy / "crates" / name / "must-fail", [it for it in mutants if it.crate == name]
             place.mkdir()
             for it in own:
-                (place / f"{it.name}.edit").write_text(must_fail_edit(it), encoding="utf-8")
+                (place / f"{it.name}.edit").write_text(must_fail_edit(marked(copy / "crates" / name, it)), encoding="utf-8")
             ran = subprocess.run([*RT, "must-fail", name], cwd=copy, stdin=subprocess.DEVNULL, stdout=subprocess.PIPE, stderr=subprocess.STDOUT, text=True, errors="replace")
             print(ran.stdout, end="", flush=True)
             lost += len(own) - ran.stdout.count(": refused, as it must be")
