@@ -2,11 +2,6 @@
 
 #![tactic(auto)]
 
-mod fault;
-mod laws;
 mod open_tx;
-mod transaction;
 
-pub use fault::TxFault;
-pub use laws::members_keep_their_order;
-pub use open_tx::OpenTx;
+pub use open_tx::{OpenTx, TxFault, members_keep_their_order};

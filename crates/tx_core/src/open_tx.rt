@@ -1,13 +1,17 @@
 //! The open transactions of a session.
 
-ghost use Rattle.std.specs.Prelude.{◌≡◌, ◌++◌, ◌∷◌, [], Some, None, IfOk, IfErr, OnOk, OnErr, MatchOption};
+ghost use Rattle.std.specs.Prelude.{◌≡◌, ◌++◌, ◌∷◌, [], Some, None, IfOk, IfErr, OnOk, OnErr, MatchOption, ◌≤◌, List, ℕ, IsSome, false, fold};
+ghost use Rattle.std.specs.Str.{bytes_eq};
+ghost use Rattle.command_core.specs.declared.member.Member.{Member};
 ghost use Rattle.tx_core.specs.Places.{HasNone, IsPlace};
+ghost use Rattle.tx_core.specs.Transactions.{IsTransaction, bytes_of, added, begun, members_of};
+ghost use Rattle.tx_core.specs.Refusals.{refusal_to_join};
+ghost use Rattle.tx_core.specs.TxFaults.{fault_of};
 
-use crate::fault::TxFault;
-use crate::transaction::Transaction;
-use command_core::{HeaderText, Member, Members};
+use command_core::{Fault, HeaderText, Member, Members, member_size};
 use std::alloc::{AllocError, Global};
 use std::marker::Model;
+use thiserror::Error;
 
 /// The open transactions of a session (STOMP 1.2, "BEGIN"), in the order in which they were begun. There are at most
 /// four, of different names, and each has at most 64 members that take at most 262,144 bytes. Contracts see the list of
@@ -154,3 +158,130 @@ impl OpenTx {
         self.all.len()
     }
 }
+
+/// A transaction: its name and its members, and how many bytes these take. Contracts see the name and the members.
+#[derive(Drop)]
+pub struct Transaction {
+    name: HeaderText,
+    members: Vec<Member>,
+    bytes: u64,
+}
+
+impl Model for Transaction {
+    ghost use Rattle.std.specs.Prelude.{◌≡◌, List, ℕ};
+    ghost use Rattle.command_core.specs.declared.member.Member.{Member};
+    ghost use Rattle.tx_core.specs.Transactions.{IsTransaction, bytes_of};
+
+    ghost Value = { List ℕ × List Member };
+
+    ghost view = { λ a. (a.name, a.members.items) };
+
+    ghost invariant = { λ a. IsTransaction a.members.items × (a.bytes ≡ bytes_of a.members.items) };
+}
+
+impl Transaction {
+    /// A transaction without members. No memory is taken.
+    pub fn new(alloc: Global, name: HeaderText) -> Transaction
+        ensures { result ≡ (name, []) }
+    {
+        Transaction {
+            name,
+            members: Vec::new(alloc),
+            bytes: 0,
+        }
+    }
+
+    /// Whether it has that name.
+    pub fn is_named(&self, name: &str) -> bool
+        ensures { result ≡ bytes_eq name.now self.now.0 }
+    {
+        name == self.name.as_str()
+    }
+
+    /// How many bytes its members take.
+    pub fn bytes(&self) -> u64
+        ensures value { result ≡ bytes_of self.now.1 }
+        ensures most { result ≤ 262144 }
+    {
+        self.bytes
+    }
+
+    /// Puts the member after the others.
+    pub fn add(&mut self, member: Member) -> Result<(), TxFault>
+        ensures ok { OnOk result (self.new ≡ (self.old.0, self.old.1 ++ member ∷ [])) }
+        ensures allowed { OnOk result (refusal_to_join member (Some self.old.1) ≡ None) }
+        ensures refused { IfErr result (λ fault. fault_of fault ≡ refusal_to_join member (Some self.old.1)) }
+        ensures same { OnErr result (self.new ≡ self.old) }
+        ensures name { self.new.0 ≡ self.old.0 }
+    {
+        let bytes = self.bytes + member_size(&member);
+        if self.members.len() >= 64 || bytes > 262_144 {
+            return Err(TxFault::TooLarge);
+        }
+        put_member(&mut self.members, member).map_err(TxFault::Memory)?;
+        self.bytes = bytes;
+        Ok(())
+    }
+
+    /// The members, which move: no memory is taken.
+    pub fn into_members(self) -> Members
+        ensures value { result ≡ self.1 }
+        ensures form { IsTransaction self.1 }
+    {
+        Members::new(self.members)
+    }
+}
+
+fn put_member(members: &mut Vec<Member>, member: Member) -> Result<(), AllocError>
+    ensures ok { OnOk result (members.new.items ≡ members.old.items ++ member ∷ []) }
+    ensures same { OnErr result (members.new.items ≡ members.old.items) }
+{
+    members.push(member)?;
+    Ok(())
+}
+
+/// Why a transaction was not begun, changed or ended. It is as it was before.
+#[derive(Debug, Drop, Error)]
+pub enum TxFault {
+    /// A transaction of that name is open.
+    #[error("transaction already begun")]
+    Begun,
+    /// No transaction of that name is open.
+    #[error("transaction not begun")]
+    NotBegun,
+    /// It would have more than 64 members, or more than 262,144 bytes.
+    #[error("transaction too large")]
+    TooLarge,
+    /// Four transactions are open.
+    #[error("too many transactions")]
+    TooMany,
+    /// Memory was refused.
+    #[error(transparent)]
+    Memory(#[from(alloc)] AllocError),
+}
+
+impl TxFault {
+    /// The fault that a client is told, unless memory was refused.
+    pub fn fault(&self) -> Option<Fault>
+        ensures { result ≡ fault_of self.now }
+    {
+        match self {
+            TxFault::Begun => Some(Fault::TransactionBegun),
+            TxFault::NotBegun => Some(Fault::TransactionNotBegun),
+            TxFault::TooLarge => Some(Fault::TransactionTooLarge),
+            TxFault::TooMany => Some(Fault::TooManyEntries),
+            TxFault::Memory(_) => None,
+        }
+    }
+}
+
+/// What is put into a transaction after its BEGIN stands there in the same order, and the transactions of other names
+/// are as they were.
+pub fn members_keep_their_order()
+    ensures order { (name : List ℕ) (members : List Member) (transactions : List (List ℕ × List Member))
+        → members_of name transactions ≡ None
+        → members_of name (fold (λ all member. added name member all) (begun name transactions) members) ≡ Some members }
+    ensures others { (name other : List ℕ) (member : Member) (transactions : List (List ℕ × List Member))
+        → bytes_eq name other ≡ false → IsSome (members_of name transactions)
+        → members_of other (added name member transactions) ≡ members_of other transactions }
+{}

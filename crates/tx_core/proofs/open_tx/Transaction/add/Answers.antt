@@ -1,6 +1,6 @@
 use Rattle.std.proofs.Common.{arith, rules}
 use Rattle.std.proofs.lemmas.Grind.{common_steps}
-use Rattle.tx_core.proofs.transaction.Transaction.add.Goals as goal
+use Rattle.tx_core.proofs.open_tx.Transaction.add.Goals as goal
 
 pub returns-in_err-map_err-clause-refused : goal.returns-in_err-map_err-clause-refused
 returns-in_err-map_err-clause-refused c = search rules
