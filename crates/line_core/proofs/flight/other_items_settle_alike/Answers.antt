@@ -1,5 +1,5 @@
 use Rattle.line_core.proofs.Flights.{has_delivery-mapped, rising-mapped, settled-mapped, unsettled-mapped}
-use Rattle.line_core.proofs.flight_laws.other_items_settle_alike.Goals as goal
+use Rattle.line_core.proofs.flight.other_items_settle_alike.Goals as goal
 
 pub returns : goal.returns
 returns g c = record {
