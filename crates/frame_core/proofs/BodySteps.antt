@@ -6,7 +6,7 @@ use Rattle.std.proofs.lemmas.List.Elements.{All-from_recursion}
 use Rattle.frame_core.specs.declared.frame.Frame.{Frame}
 use Rattle.frame_core.specs.declared.frame.Verb.{Verb}
 use Rattle.frame_core.specs.declared.fault.FrameFault.TheVariants.{Malformed, TooLarge, BodyNotAllowed}
-use Rattle.frame_core.specs.declared.partial.Section.TheVariants.{Body}
+use Rattle.frame_core.specs.declared.reader.Section.TheVariants.{Body}
 use Rattle.frame_core.specs.Verbs.{has_body}
 use Rattle.frame_core.specs.Writable.{HasNoNul}
 use Rattle.frame_core.specs.Spelling.{IsNumber, announced, HasBody, Spells, IsWithinLimits}

@@ -13,8 +13,8 @@ use Rattle.frame_core.specs.declared.frame.Verb.{Verb}
 use Rattle.frame_core.specs.declared.frame.Verb.TheVariants.{Connect, Stomp, Send, Subscribe, Unsubscribe, Ack, Nack, Begin, Commit, Abort, Disconnect, Connected, Message, Receipt, Error}
 use Rattle.frame_core.specs.declared.fault.FrameFault.{FrameFault}
 use Rattle.frame_core.specs.declared.fault.FrameFault.TheVariants.{Malformed, TooLarge, UndefinedEscape, UnknownCommand, BodyNotAllowed, BadHeaderValue}
-use Rattle.frame_core.specs.declared.partial.Section.{Section}
-use Rattle.frame_core.specs.declared.partial.Section.TheVariants.{Command, HeaderLines, Body}
+use Rattle.frame_core.specs.declared.reader.Section.{Section}
+use Rattle.frame_core.specs.declared.reader.Section.TheVariants.{Command, HeaderLines, Body}
 use Rattle.frame_core.specs.Verbs.{name_of, has_body}
 use Rattle.frame_core.specs.Heads.{meaning}
 use Rattle.frame_core.specs.Spelling.{announced, IsNumber}

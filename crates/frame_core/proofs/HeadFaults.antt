@@ -4,10 +4,10 @@ use Rattle.std.proofs.lemmas.List.{append-nil}
 use Rattle.frame_core.specs.declared.frame.Verb.{Verb}
 use Rattle.frame_core.specs.declared.fault.FrameFault.{FrameFault}
 use Rattle.frame_core.specs.declared.fault.FrameFault.TheVariants.{Malformed, TooLarge, UndefinedEscape, UnknownCommand, BodyNotAllowed, BadHeaderValue}
-use Rattle.frame_core.specs.declared.partial.Stop.{Stop}
-use Rattle.frame_core.specs.declared.partial.Stop.TheVariants.{Memory, Fault}
-use Rattle.frame_core.specs.declared.partial.Section.{Section}
-use Rattle.frame_core.specs.declared.partial.Section.TheVariants.{Command, HeaderLines}
+use Rattle.frame_core.specs.declared.reader.Stop.{Stop}
+use Rattle.frame_core.specs.declared.reader.Stop.TheVariants.{Memory, Fault}
+use Rattle.frame_core.specs.declared.reader.Section.{Section}
+use Rattle.frame_core.specs.declared.reader.Section.TheVariants.{Command, HeaderLines}
 use Rattle.frame_core.specs.Heads.{IsInLine}
 use Rattle.frame_core.specs.Parts.{IsBoundedHead}
 use Rattle.frame_core.specs.Faults.{Faulty, IsFirstLine, IsNextLine, IsNextHeader}

@@ -1,7 +1,7 @@
 use Rattle.std.proofs.Common.{◌≡◌, ◌<◌, ◌≤◌, ◌+◌, ◌-◌, ℕ, List, [], ◌∷◌, ◌++◌, Option, Some, None, Bool, true, false, cond, length, flat_map, refl, sym, ap, ◌∙◌, subst, arith, append_assoc, length-append}
 use Rattle.std.proofs.lemmas.List.{append-nil, nil_from_length}
 use Rattle.frame_core.specs.declared.frame.Verb.{Verb}
-use Rattle.frame_core.specs.declared.partial.Section.TheVariants.{Command, HeaderLines, Body}
+use Rattle.frame_core.specs.declared.reader.Section.TheVariants.{Command, HeaderLines, Body}
 use Rattle.frame_core.specs.Verbs.{name_of}
 use Rattle.frame_core.specs.Heads.{IsInLine, eol, HeaderLine, line_of, IsHeaderOf, Begins, IsHead}
 use Rattle.frame_core.specs.Heads as Heads

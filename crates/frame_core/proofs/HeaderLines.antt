@@ -4,8 +4,8 @@ use Rattle.std.specs.Str.{IsUtf8}
 use Rattle.frame_core.specs.declared.frame.Verb.{Verb}
 use Rattle.frame_core.specs.declared.fault.FrameFault.{FrameFault}
 use Rattle.frame_core.specs.declared.fault.FrameFault.TheVariants.{UndefinedEscape, BadHeaderValue}
-use Rattle.frame_core.specs.declared.partial.Stop.{Stop}
-use Rattle.frame_core.specs.declared.partial.Stop.TheVariants.{Memory, Fault}
+use Rattle.frame_core.specs.declared.reader.Stop.{Stop}
+use Rattle.frame_core.specs.declared.reader.Stop.TheVariants.{Memory, Fault}
 use Rattle.frame_core.specs.Heads.{IsInLine, meaning}
 use Rattle.frame_core.specs.Stops.{IfFault, IsHeaderText, IsHeaderFault, IsNameAndValue}
 use Rattle.frame_core.proofs.Lists.{all_left, all_right, all_both}

@@ -2,8 +2,8 @@ use Rattle.std.proofs.Common.{◌≡◌, ◌+◌, ℕ, List, [], ◌++◌, Bool,
 use Rattle.std.proofs.lemmas.List.{append-nil, take-take, take-append-drop, drop-take}
 use Rattle.frame_core.specs.declared.frame.Frame.{Frame}
 use Rattle.frame_core.specs.declared.fault.FrameFault.{FrameFault}
-use Rattle.frame_core.specs.declared.partial.Section.{Section}
-use Rattle.frame_core.specs.declared.partial.Section.TheVariants.{Command, HeaderLines, Body}
+use Rattle.frame_core.specs.declared.reader.Section.{Section}
+use Rattle.frame_core.specs.declared.reader.Section.TheVariants.{Command, HeaderLines, Body}
 use Rattle.frame_core.specs.Parts.{IsPartOfHead, IsUnfinished}
 use Rattle.frame_core.specs.Streams.{Frames, Fails}
 use Rattle.frame_core.specs.Partials.{IsAt}

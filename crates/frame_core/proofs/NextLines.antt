@@ -1,6 +1,6 @@
 use Rattle.std.proofs.Common.{◌≡◌, ◌+◌, [], ◌∷◌, ◌++◌, false, length}
-use Rattle.frame_core.specs.declared.partial.Section.{Section}
-use Rattle.frame_core.specs.declared.partial.Partial.{Partial}
+use Rattle.frame_core.specs.declared.reader.Section.{Section}
+use Rattle.frame_core.specs.declared.reader.Partial.{Partial}
 use Rattle.frame_core.specs.Partials.{IsAt, IsKept, bytes_of, IsNextLineOf}
 use Rattle.frame_core.specs.Streams.{Frames}
 use Rattle.frame_core.proofs.OpenLines.{byte_reads}

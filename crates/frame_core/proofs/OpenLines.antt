@@ -2,8 +2,8 @@ use Rattle.std.proofs.Common.{◌≡◌, ◌≢◌, ◌<◌, ◌≤◌, ◌+◌,
 use Rattle.std.specs.List.{AllByRecursion}
 use Rattle.std.proofs.lemmas.Bool.{cases_eq, ne_eqb}
 use Rattle.std.proofs.lemmas.List.{append-nil, drop_at, take_at}
-use Rattle.frame_core.specs.declared.partial.Section.{Section}
-use Rattle.frame_core.specs.declared.partial.Section.TheVariants.{Command, HeaderLines, Body}
+use Rattle.frame_core.specs.declared.reader.Section.{Section}
+use Rattle.frame_core.specs.declared.reader.Section.TheVariants.{Command, HeaderLines, Body}
 use Rattle.frame_core.specs.Heads.{IsInLine, eol}
 use Rattle.frame_core.specs.Parts.{IsBegun, IsPartOfHead}
 use Rattle.frame_core.specs.Partials.{IsLine, IsAt, IsInHead}

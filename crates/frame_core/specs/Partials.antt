@@ -2,9 +2,9 @@ use Rattle.std.specs.Prelude.{◌≡◌, ◌<◌, ◌≤◌, ◌+◌, List, [], 
 use Rattle.std.specs.List.{AllByRecursion}
 use Rattle.frame_core.specs.declared.frame.Frame.{Frame}
 use Rattle.frame_core.specs.declared.frame.Verb.{Verb}
-use Rattle.frame_core.specs.declared.partial.Section.{Section}
-use Rattle.frame_core.specs.declared.partial.Section.TheVariants.{Command, HeaderLines, Body}
-use Rattle.frame_core.specs.declared.partial.Partial.{Partial}
+use Rattle.frame_core.specs.declared.reader.Section.{Section}
+use Rattle.frame_core.specs.declared.reader.Section.TheVariants.{Command, HeaderLines, Body}
+use Rattle.frame_core.specs.declared.reader.Partial.{Partial}
 use Rattle.frame_core.specs.Heads.{IsInLine, Begins}
 use Rattle.frame_core.specs.Parts.{IsBoundedHead, Plans, IsPartOfBody}
 use Rattle.frame_core.specs.Streams.{Frames}

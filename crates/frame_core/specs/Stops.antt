@@ -5,8 +5,8 @@ use Rattle.std.specs.Str.Parse.{IsNumeral}
 use Rattle.frame_core.specs.declared.frame.Verb.{Verb}
 use Rattle.frame_core.specs.declared.fault.FrameFault.{FrameFault}
 use Rattle.frame_core.specs.declared.fault.FrameFault.TheVariants.{Malformed, TooLarge, UndefinedEscape, UnknownCommand, BodyNotAllowed, BadHeaderValue}
-use Rattle.frame_core.specs.declared.partial.Stop.{Stop}
-use Rattle.frame_core.specs.declared.partial.Stop.TheVariants.{Memory, Fault}
+use Rattle.frame_core.specs.declared.reader.Stop.{Stop}
+use Rattle.frame_core.specs.declared.reader.Stop.TheVariants.{Memory, Fault}
 use Rattle.frame_core.specs.Verbs.{name_of, has_body}
 use Rattle.frame_core.specs.Heads.{HeaderLine, IsHeaderLine, meaning, IsHeaderOf}
 use Rattle.frame_core.specs.Spelling.{IsNumber, announced}

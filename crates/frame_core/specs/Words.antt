@@ -1,7 +1,7 @@
 -- The words that a broker writes itself.
 use Rattle.std.specs.Prelude.{List, ℕ, codes}
-use Rattle.frame_core.specs.declared.word.Word.{Word}
-use Rattle.frame_core.specs.declared.word.Word.TheVariants.{Version, Session, HeartBeat, ReceiptId, Message, Subscription, MessageId, Destination, Ack, ContentLength}
+use Rattle.frame_core.specs.declared.text.Word.{Word}
+use Rattle.frame_core.specs.declared.text.Word.TheVariants.{Version, Session, HeartBeat, ReceiptId, Message, Subscription, MessageId, Destination, Ack, ContentLength}
 
 abbrev pub word_bytes : Word → List ℕ
 word_bytes Version = codes "version"

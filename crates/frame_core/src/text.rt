@@ -3,7 +3,6 @@
 ghost use Rattle.std.specs.Prelude.{◌≡◌, IfOk, string_bytes};
 ghost use Rattle.frame_core.specs.Words.{word_bytes};
 
-use crate::word::Word;
 use arrayvec::ArrayString;
 use std::alloc::{AllocError, Global};
 use std::cmp::Ordering;
@@ -171,5 +170,100 @@ impl Ord for Text {
 
     fn cmp(&self, other: &Text) -> Ordering {
         self.as_str().cmp(other.as_str())
+    }
+}
+
+/// The bytes of a body. Contracts see them as a list.
+#[derive(Clone, Drop)]
+pub struct Bytes {
+    all: Vec<u8>,
+}
+
+impl Model for Bytes {
+    ghost use Rattle.std.specs.Prelude.{List, ℕ};
+
+    ghost Value = { List ℕ };
+
+    ghost view = { λ a. a.all.items };
+}
+
+impl Bytes {
+    /// The bytes of a vector, which moves: no memory is taken.
+    pub fn new(all: Vec<u8>) -> Bytes
+        ensures { result ≡ all.items }
+    {
+        Bytes { all }
+    }
+
+    /// The bytes.
+    pub fn as_slice(&self) -> &[u8]
+        ensures { result.now ≡ self.now }
+    {
+        self.all.as_slice()
+    }
+}
+
+impl PartialEq for Bytes {
+    ghost use Rattle.std.specs.Cmp.{partial_equiv_from_equiv};
+    ghost use Rattle.std.specs.Str.{bytes_eq};
+    ghost use Rattle.std.proofs.lemmas.Cmp.{nat_list_eq_equiv};
+
+    ghost eq = { bytes_eq };
+
+    ghost laws = { partial_equiv_from_equiv nat_list_eq_equiv };
+
+    fn eq(&self, other: &Bytes) -> bool {
+        self.as_slice() == other.as_slice()
+    }
+}
+
+impl Eq for Bytes {
+    ghost use Rattle.std.proofs.lemmas.Cmp.{nat_list_eq_equiv};
+
+    ghost laws = { nat_list_eq_equiv };
+}
+
+/// The name of a header that a broker writes itself (STOMP 1.2, "CONNECTED", "MESSAGE", "RECEIPT" and "ERROR").
+#[derive(Clone, Copy)]
+pub enum Word {
+    /// `version`
+    Version,
+    /// `session`
+    Session,
+    /// `heart-beat`
+    HeartBeat,
+    /// `receipt-id`
+    ReceiptId,
+    /// `message`
+    Message,
+    /// `subscription`
+    Subscription,
+    /// `message-id`
+    MessageId,
+    /// `destination`
+    Destination,
+    /// `ack`
+    Ack,
+    /// `content-length`
+    ContentLength,
+}
+
+impl Word {
+    /// The word as it is written.
+    pub fn as_str(self) -> &'static str
+        ensures { result.now ≡ word_bytes self }
+    {
+        match self {
+            Word::Version => "version",
+            Word::Session => "session",
+            Word::HeartBeat => "heart-beat",
+            Word::ReceiptId => "receipt-id",
+            Word::Message => "message",
+            Word::Subscription => "subscription",
+            Word::MessageId => "message-id",
+            Word::Destination => "destination",
+            Word::Ack => "ack",
+            Word::ContentLength => "content-length",
+        }
     }
 }

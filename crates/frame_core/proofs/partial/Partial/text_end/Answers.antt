@@ -1,5 +1,0 @@
-use Rattle.std.proofs.Common.{rules}
-use Rattle.frame_core.proofs.partial.Partial.text_end.Goals as goal
-
-pub returns : goal.returns
-returns c = search rules
