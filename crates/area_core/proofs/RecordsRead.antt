@@ -2,8 +2,8 @@
 use Rattle.std.proofs.Common.{◌≡◌, ◌≢◌, ◌<◌, ◌+◌, ◌==◌, false, ℕ, List, [], ◌∷◌, ◌++◌, length, take, drop, refl, sym, ◌∙◌, ap, subst, arith, length-drop, take-append-drop}
 use Rattle.std.proofs.lemmas.List.{append-nil, length-take-le}
 use Rattle.std.specs.List.{AllByRecursion}
-use Rattle.command_core.specs.declared.decode_fault.DecodeFault.{DecodeFault}
-use Rattle.command_core.specs.declared.decode_fault.DecodeFault.TheVariants.{NoSpelling, Memory}
+use Rattle.command_core.specs.declared.decoding.DecodeFault.{DecodeFault}
+use Rattle.command_core.specs.declared.decoding.DecodeFault.TheVariants.{NoSpelling, Memory}
 use Rattle.command_core.specs.Commands.{CommandValue}
 use Rattle.command_core.specs.Spellings.{record_of}
 use Rattle.area_core.specs.Areas.{HasRecord, records}

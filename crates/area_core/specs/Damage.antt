@@ -4,8 +4,8 @@ use Rattle.std.specs.Int.{w64, to_be_bytes}
 use Rattle.std.specs.List.{AllByRecursion}
 use Rattle.command_core.specs.Commands.{CommandValue}
 use Rattle.command_core.specs.Spellings.{Spells}
-use Rattle.command_core.specs.declared.decode_fault.DecodeFault.{DecodeFault}
-use Rattle.command_core.specs.declared.decode_fault.DecodeFault.TheVariants as decoding
+use Rattle.command_core.specs.declared.decoding.DecodeFault.{DecodeFault}
+use Rattle.command_core.specs.declared.decoding.DecodeFault.TheVariants as decoding
 use Rattle.disk_core.specs.Faults.{IsOneMore}
 use Rattle.area_core.specs.declared.area.Area.{Area}
 use Rattle.area_core.specs.declared.faults.ReadFault.{ReadFault}

@@ -1,6 +1,6 @@
 use Rattle.std.proofs.Common.{◌≡◌, ◌+◌, List, ◌∷◌, ℕ, Result, Ok, Err, ap}
 use Rattle.command_core.specs.declared.fault.Fault.{Fault}
-use Rattle.command_core.specs.declared.member.Member.{Member}
+use Rattle.command_core.specs.declared.command.Member.{Member}
 use Rattle.broker_state.specs.declared.nack_rule.NackRule.{NackRule}
 use Rattle.broker_state.specs.Executing.{applied, committed}
 use Rattle.broker_state.specs.States.{State}

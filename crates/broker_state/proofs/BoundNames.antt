@@ -7,7 +7,7 @@ use Rattle.std.specs.Str.{bytes_eq}
 use Rattle.std.proofs.lemmas.Bool.{leb-false}
 use Rattle.std.proofs.lemmas.Map.Lookups.{exact_unsigned}
 use Rattle.frame_core.proofs.Lists.{all_both, all_push, all_weaker}
-use Rattle.command_core.specs.declared.ack_mode.AckMode.{AckMode}
+use Rattle.command_core.specs.declared.command.AckMode.{AckMode}
 use Rattle.command_core.specs.Commands.{CommandValue}
 use Rattle.command_core.specs.Destinations.{is_queue}
 use Rattle.line_core.specs.declared.message.Message.{Message}

@@ -9,8 +9,8 @@ use Rattle.std.proofs.lemmas.List.{length-append}
 use Rattle.std.proofs.lemmas.Map.Lookups.{exact_unsigned}
 use Rattle.std.proofs.lemmas.Slice.Eq.{bytes_eq-Decides}
 use Rattle.frame_core.proofs.Lists.{all_both, all_push, all_weaker}
-use Rattle.command_core.specs.declared.ack_mode.AckMode.{AckMode}
-use Rattle.command_core.specs.declared.ack_mode.AckMode.TheVariants.{Auto, Client, ClientIndividual}
+use Rattle.command_core.specs.declared.command.AckMode.{AckMode}
+use Rattle.command_core.specs.declared.command.AckMode.TheVariants.{Auto, Client, ClientIndividual}
 use Rattle.command_core.specs.Commands.{CommandValue}
 use Rattle.command_core.specs.Destinations.{is_queue}
 use Rattle.line_core.specs.declared.message.Message.{Message}

@@ -2,8 +2,8 @@ use Rattle.std.specs.Prelude.{◌+◌, ◌≤◌, List, [], ◌∷◌, ℕ, Resu
 use Rattle.command_core.specs.declared.command.Op.{Op}
 use Rattle.command_core.specs.declared.command.Op.TheVariants.{Send, Subscribe, Unsubscribe, Ack, Nack, Commit, End}
 use Rattle.command_core.specs.declared.fault.Fault.{Fault}
-use Rattle.command_core.specs.declared.member.Member.{Member}
-use Rattle.command_core.specs.declared.member.Member.TheVariants as members
+use Rattle.command_core.specs.declared.command.Member.{Member}
+use Rattle.command_core.specs.declared.command.Member.TheVariants as members
 use Rattle.broker_state.specs.declared.nack_rule.NackRule.{NackRule}
 use Rattle.broker_state.specs.Dead.{nacked}
 use Rattle.broker_state.specs.Operations.{acknowledged, ended, sent, subscribed, unsubscribed_by}

@@ -1,7 +1,7 @@
 use Rattle.std.specs.Prelude.{◌+◌, ◌^◌, ◌&&◌, List, [], ◌∷◌, ◌++◌, ℕ, zero, suc, Bool, true, false, not, Option, Some, None, length, nat_lt, if◌then◌else◌}
 use Rattle.std.specs.List.{sum_by}
-use Rattle.command_core.specs.declared.ack_mode.AckMode.{AckMode}
-use Rattle.command_core.specs.declared.ack_mode.AckMode.TheVariants.{Auto}
+use Rattle.command_core.specs.declared.command.AckMode.{AckMode}
+use Rattle.command_core.specs.declared.command.AckMode.TheVariants.{Auto}
 use Rattle.command_core.specs.Outs.{OutValue}
 use Rattle.command_core.specs.Replies.{message_frame}
 use Rattle.line_core.specs.declared.message.Message.{Message}

@@ -1,10 +1,10 @@
 use Rattle.std.specs.Prelude.{List, [], ◌∷◌, ℕ, None, codes}
-use Rattle.command_core.specs.declared.ack_mode.AckMode.TheVariants.{Client}
+use Rattle.command_core.specs.declared.command.AckMode.TheVariants.{Client}
 use Rattle.command_core.specs.Sendings.{SendingValue}
 use Rattle.command_core.specs.Commands.{CommandValue}
 use Rattle.command_core.specs.declared.command.Op.{Op}
 use Rattle.command_core.specs.declared.command.Op.TheVariants.{Open, Send, Subscribe, Nack, Commit}
-use Rattle.command_core.specs.declared.member.Member.TheVariants as members
+use Rattle.command_core.specs.declared.command.Member.TheVariants as members
 use Rattle.line_core.specs.declared.message.Message.{Message}
 use Rattle.broker_state.specs.Operations.{message_of}
 

@@ -4,7 +4,7 @@ use Rattle.std.proofs.lemmas.List.Elements.{filter_more}
 use Rattle.std.proofs.lemmas.List.Sums.{sum_by-append, sum_by-cons}
 use Rattle.std.proofs.lemmas.Option.{get_or_from_slice_get, slice_get_within}
 use Rattle.line_core.specs.declared.message.Message.{Message}
-use Rattle.command_core.specs.declared.ack_mode.AckMode.{AckMode}
+use Rattle.command_core.specs.declared.command.AckMode.{AckMode}
 use Rattle.line_core.specs.Flights.{settled, settles}
 use Rattle.broker_state.specs.Dead.{dead_queue, is_dropped, refused, refused_from, with_refused}
 use Rattle.broker_state.specs.Names.{text_cmp}

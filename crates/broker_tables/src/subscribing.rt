@@ -4,7 +4,7 @@ ghost use Rattle.std.specs.Prelude.{◌≡◌, ◌<◌, ◌^◌, ◌&&◌, ◌++
 ghost use Rattle.std.specs.List.{list_any};
 ghost use Rattle.std.specs.Str.{bytes_eq};
 ghost use Rattle.command_core.specs.Texts.{IsGiven};
-ghost use Rattle.command_core.specs.declared.ack_mode.AckMode.{AckMode};
+ghost use Rattle.command_core.specs.declared.command.AckMode.{AckMode};
 ghost use Rattle.broker_state.specs.Operations.{begun, begun_for, client_in, is_named, is_of, name_for, subscribed, uses, with_subscription};
 ghost use Rattle.broker_state.specs.Parts.{NonePass, leaving};
 ghost use Rattle.broker_state.specs.States.{one};

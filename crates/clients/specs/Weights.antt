@@ -4,8 +4,8 @@ use Rattle.std.specs.List.{sum_by}
 use Rattle.command_core.specs.Sizes.{op_size}
 use Rattle.command_core.specs.declared.command.Op.{Op}
 use Rattle.command_core.specs.declared.command.Op.TheVariants as ops
-use Rattle.command_core.specs.declared.member.Member.{Member}
-use Rattle.command_core.specs.declared.member.Member.TheVariants as members
+use Rattle.command_core.specs.declared.command.Member.{Member}
+use Rattle.command_core.specs.declared.command.Member.TheVariants as members
 use Rattle.command_core.specs.PartSizes.{option_size}
 use Rattle.session_core.specs.declared.act.Act.{Act}
 use Rattle.session_core.specs.declared.act.Act.TheVariants.{Do, Direct, Close}

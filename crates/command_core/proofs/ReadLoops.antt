@@ -3,8 +3,8 @@ use Rattle.std.proofs.Common.{◌≡◌, ℕ, suc, ◌-◌, ◌+◌, ◌≤◌, 
 use Rattle.std.specs.Int.{Width, byte_len, from_be_bytes}
 use Rattle.std.proofs.lemmas.Bool.{le-ltb}
 use Rattle.std.proofs.lemmas.List.{append-nil}
-use Rattle.command_core.specs.declared.decode_fault.DecodeFault.{DecodeFault}
-use Rattle.command_core.specs.declared.decode_fault.DecodeFault.TheVariants as faults
+use Rattle.command_core.specs.declared.decoding.DecodeFault.{DecodeFault}
+use Rattle.command_core.specs.declared.decoding.DecodeFault.TheVariants as faults
 use Rattle.command_core.specs.PartReading.{◌>>=◌, Fails, Reader, number_at, many_at}
 
 -- so many bytes as a number has, and the others

@@ -1,8 +1,8 @@
 -- Kinds and modes in records.
 use Rattle.std.proofs.Common.{◌≡◌, ◌<◌, ◌++◌, ◌∷◌, [], ℕ, Bool, true, false, cond, eqb, List, Option, Some, None, refl, subst}
 use Rattle.std.proofs.lemmas.Bool.{eqb-true}
-use Rattle.command_core.specs.declared.ack_mode.AckMode.{AckMode}
-use Rattle.command_core.specs.declared.ack_mode.AckMode.TheVariants.{Auto, Client, ClientIndividual}
+use Rattle.command_core.specs.declared.command.AckMode.{AckMode}
+use Rattle.command_core.specs.declared.command.AckMode.TheVariants.{Auto, Client, ClientIndividual}
 use Rattle.command_core.specs.PartSpellings.{AreBytes, mode_byte}
 use Rattle.command_core.specs.PartReading.{byte_at, mode_at}
 pub use Rattle.command_core.specs.Formats.{Always, mode_bytes}

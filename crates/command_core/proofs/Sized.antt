@@ -3,8 +3,8 @@ use Rattle.std.proofs.Common.{◌≡◌, ◌+◌, List, ◌∷◌, ◌++◌, len
 use Rattle.command_core.specs.declared.command.End.TheVariants.{Bye, Lost, Bad}
 use Rattle.command_core.specs.declared.command.Op.{Op}
 use Rattle.command_core.specs.declared.command.Op.TheVariants.{Open, Send, Subscribe, Unsubscribe, Ack, Nack, Commit, Note, End}
-use Rattle.command_core.specs.declared.member.Member.{Member}
-use Rattle.command_core.specs.declared.member.Member.TheVariants as kinds
+use Rattle.command_core.specs.declared.command.Member.{Member}
+use Rattle.command_core.specs.declared.command.Member.TheVariants as kinds
 use Rattle.command_core.specs.Sizes.{op_size, member_size}
 use Rattle.command_core.specs.Spellings as records
 use Rattle.command_core.specs.PartSpellings.{counted, mode_byte, optional}

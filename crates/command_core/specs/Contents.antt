@@ -1,7 +1,7 @@
 -- The frame of an output, however it is kept.
 use Rattle.std.specs.Prelude.{List, ℕ}
 use Rattle.frame_core.specs.declared.frame.Frame.{Frame}
-use Rattle.command_core.specs.declared.delivery.Delivery.{Delivery}
+use Rattle.command_core.specs.declared.output.Delivery.{Delivery}
 use Rattle.command_core.specs.declared.output.Content.{Content}
 use Rattle.command_core.specs.declared.output.Content.TheVariants.{Framed, Receipt, Message}
 use Rattle.command_core.specs.Replies.{message_frame, message_id, own_headers, receipt_frame}

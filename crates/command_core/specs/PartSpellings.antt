@@ -2,8 +2,8 @@
 use Rattle.std.specs.Prelude.{◌<◌, List, ◌∷◌, [], ◌++◌, ℕ, Option, Some, None, IsUtf8, length}
 use Rattle.std.specs.Int.{w16, w32, to_be_bytes}
 use Rattle.std.specs.List.{AllByRecursion, flat_map}
-use Rattle.command_core.specs.declared.ack_mode.AckMode.{AckMode}
-use Rattle.command_core.specs.declared.ack_mode.AckMode.TheVariants.{Auto, Client, ClientIndividual}
+use Rattle.command_core.specs.declared.command.AckMode.{AckMode}
+use Rattle.command_core.specs.declared.command.AckMode.TheVariants.{Auto, Client, ClientIndividual}
 use Rattle.command_core.specs.Sendings.{IsSending, SendingValue}
 use Rattle.command_core.specs.Texts.{IsHeaderText}
 

@@ -7,8 +7,8 @@ use Rattle.command_core.specs.declared.command.Op.{Op}
 use Rattle.command_core.specs.declared.command.Op.TheVariants.{Open, Subscribe, Unsubscribe, Commit, Note, End}
 use Rattle.command_core.specs.declared.fault.Fault.{Fault}
 use Rattle.command_core.specs.declared.fault.Fault.TheVariants.{MalformedFrame, FrameTooLarge, UndefinedEscape, UnknownCommand, MissingHeader, UnsupportedVersion, UnexpectedFrame, BadDestination, SubscriptionIdInUse, UnknownSubscription, UnknownAcknowledgement, NoRoom, NoClientId, DurableSubscription, TransactionBegun, TransactionNotBegun, TransactionTooLarge, TooManyEntries, BodyNotAllowed, BadHeaderValue}
-use Rattle.command_core.specs.declared.member.Member.{Member}
-use Rattle.command_core.specs.declared.member.Member.TheVariants as kinds
+use Rattle.command_core.specs.declared.command.Member.{Member}
+use Rattle.command_core.specs.declared.command.Member.TheVariants as kinds
 use Rattle.command_core.specs.Commands.{CommandValue}
 use Rattle.command_core.specs.Faults.{code_of}
 use Rattle.command_core.specs.Operations.{op_of}

@@ -5,8 +5,8 @@ use Rattle.command_core.specs.declared.command.End.{End as ending}
 use Rattle.command_core.specs.declared.command.End.TheVariants.{Bye, Lost, Bad}
 use Rattle.command_core.specs.declared.command.Op.{Op}
 use Rattle.command_core.specs.declared.command.Op.TheVariants.{Open, Send, Subscribe, Unsubscribe, Ack, Nack, Commit, Note, End}
-use Rattle.command_core.specs.declared.member.Member.{Member}
-use Rattle.command_core.specs.declared.member.Member.TheVariants as kinds
+use Rattle.command_core.specs.declared.command.Member.{Member}
+use Rattle.command_core.specs.declared.command.Member.TheVariants as kinds
 use Rattle.command_core.specs.Commands.{CommandValue, IsCommand}
 use Rattle.command_core.specs.Destinations.{IsDestination}
 use Rattle.command_core.specs.PartSpellings.{IsSent, IsText, counted, mode_byte, optional, sending}

@@ -1,13 +1,10 @@
 //! The commands that the broker carries out, one after another.
 
-ghost use Rattle.std.specs.Prelude.{◌≡◌, Option};
+ghost use Rattle.std.specs.Prelude.{◌≡◌, Option, ◌≤◌, length};
 ghost use Rattle.command_core.specs.Commands.{IsCommand};
 
-use crate::ack_mode::AckMode;
-use crate::destination::Dest;
+use crate::destination::{Dest, HeaderText};
 use crate::fault::Fault;
-use crate::header_text::HeaderText;
-use crate::member::{Member, Members};
 use crate::sending::Sending;
 use std::marker::Model;
 
@@ -136,5 +133,70 @@ impl Command {
         ensures form { IsCommand self }
     {
         (self.session, self.op, self.receipt)
+    }
+}
+
+/// How the messages of a subscription are acknowledged (STOMP 1.2, "SUBSCRIBE ack Header").
+#[derive(Clone, Copy)]
+pub enum AckMode {
+    /// `auto`: a message counts as received once it is sent.
+    Auto,
+    /// `client`: an acknowledgement counts for its delivery and for all earlier ones of the subscription.
+    Client,
+    /// `client-individual`: an acknowledgement counts for its delivery alone.
+    ClientIndividual,
+}
+
+/// What may be a part of a transaction (STOMP 1.2, "BEGIN").
+#[derive(Drop)]
+pub enum Member {
+    /// A message goes out.
+    Send(Sending),
+    /// The delivery of that number is acknowledged.
+    Ack(u64),
+    /// The delivery of that number is refused.
+    Nack(u64),
+}
+
+/// The members of a transaction, in their order: at most 64. Contracts see the list of them.
+#[derive(Drop)]
+pub struct Members {
+    all: Vec<Member>,
+}
+
+impl Model for Members {
+    ghost use Rattle.std.specs.Prelude.{◌≤◌, List, length};
+    ghost use Rattle.command_core.specs.declared.command.Member.{Member};
+
+    ghost Value = { List Member };
+
+    ghost view = { λ a. a.all.items };
+
+    ghost invariant = { λ a. length a.all.items ≤ 64 };
+}
+
+impl Members {
+    /// At most 64 members, which move: no memory is taken.
+    pub fn new(all: Vec<Member>) -> Members
+        requires { length all.items ≤ 64 }
+        ensures { result ≡ all.items }
+    {
+        Members { all }
+    }
+
+    /// The members in their order, at most 64.
+    pub fn as_slice(&self) -> &[Member]
+        ensures value { result.now ≡ self.now }
+        ensures form { length self.now ≤ 64 }
+    {
+        self.all.as_slice()
+    }
+
+    /// The members, which move: no memory is taken.
+    pub fn into_vec(self) -> Vec<Member>
+        ensures value { result.items ≡ self }
+        ensures form { length self ≤ 64 }
+    {
+        self.all
     }
 }

@@ -6,14 +6,14 @@ use Rattle.std.specs.Ordering.{nat_cmp}
 use Rattle.std.specs.Str.{bytes_eq}
 use Rattle.std.proofs.lemmas.Bool.{eqb-true}
 use Rattle.std.proofs.lemmas.List.Sums.{sum_by-cons, sum_by_push}
-use Rattle.command_core.specs.declared.ack_mode.AckMode.{AckMode}
+use Rattle.command_core.specs.declared.command.AckMode.{AckMode}
 use Rattle.command_core.specs.Destinations.{is_queue}
 use Rattle.command_core.specs.Sendings.{SendingValue}
 use Rattle.command_core.specs.declared.command.Op.TheVariants.{Subscribe}
 use Rattle.command_core.specs.declared.fault.Fault.{Fault}
 use Rattle.command_core.specs.declared.fault.Fault.TheVariants.{DurableSubscription, NoRoom, SubscriptionIdInUse, TooManyEntries, UnknownAcknowledgement}
-use Rattle.command_core.specs.declared.member.Member.{Member}
-use Rattle.command_core.specs.declared.member.Member.TheVariants as members
+use Rattle.command_core.specs.declared.command.Member.{Member}
+use Rattle.command_core.specs.declared.command.Member.TheVariants as members
 use Rattle.line_core.specs.declared.message.Message.{Message}
 use Rattle.broker_state.specs.declared.nack_rule.NackRule.{NackRule}
 use Rattle.broker_state.specs.declared.nack_rule.NackRule.TheVariants as nack

@@ -11,8 +11,8 @@ use Rattle.std.proofs.lemmas.List.Kept.{IsStrictlySortedBy-filter}
 use Rattle.std.proofs.lemmas.Map.Made.{keys_of-map_values}
 use Rattle.std.specs.Cmp.{nat_cmp_is}
 use Rattle.frame_core.proofs.Lists.{all_weaker}
-use Rattle.command_core.specs.declared.ack_mode.AckMode.{AckMode}
-use Rattle.command_core.specs.declared.ack_mode.AckMode.TheVariants.{Auto, Client, ClientIndividual}
+use Rattle.command_core.specs.declared.command.AckMode.{AckMode}
+use Rattle.command_core.specs.declared.command.AckMode.TheVariants.{Auto, Client, ClientIndividual}
 use Rattle.line_core.specs.Flights.{IsOver, IsRising, StandsAt, has_delivery, mapped, settled, settles, unsettled}
 
 less : (a b : ℕ) → nat_cmp a b ≡ Less → a < b

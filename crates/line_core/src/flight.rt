@@ -2,7 +2,7 @@
 
 ghost use Rattle.std.specs.Prelude.{◌≡◌, ◌==◌, ◌<◌, ◌+◌, ◌++◌, ◌∷◌, [], OnOk, OnErr, IfOk, IfErr, IfSome, Err, ℕ, false, true, drop, is_some, length, take, List};
 ghost use Rattle.std.specs.List.{remove, sum_by};
-ghost use Rattle.command_core.specs.declared.ack_mode.AckMode.{AckMode};
+ghost use Rattle.command_core.specs.declared.command.AckMode.{AckMode};
 ghost use Rattle.line_core.specs.Flights.{IsOver, IsRising, StandsAt, has_delivery, settled, settles, unsettled, mapped};
 ghost use Rattle.line_core.specs.declared.flight.SettleFault.TheVariants.{Unknown};
 

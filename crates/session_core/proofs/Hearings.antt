@@ -8,7 +8,7 @@ use Rattle.frame_core.proofs.Joins.{joined, joined_fault, fault_stays}
 use Rattle.frame_core.proofs.OneAnswer.{one_reading, one_fault, fault_or_none}
 use Rattle.command_core.specs.declared.command.Op.{Op}
 use Rattle.command_core.specs.declared.fault.Fault.{Fault}
-use Rattle.command_core.specs.declared.member.Member.{Member}
+use Rattle.command_core.specs.declared.command.Member.{Member}
 use Rattle.command_core.specs.Faults.{fault_of}
 use Rattle.std.specs.Prelude.{None, Some}
 use Rattle.session_core.specs.declared.requests.Request.{Request}

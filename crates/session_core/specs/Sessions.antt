@@ -7,7 +7,7 @@ use Rattle.command_core.specs.declared.command.Op.TheVariants as ops
 use Rattle.command_core.specs.declared.command.End.TheVariants.{Bye, Lost, Bad}
 use Rattle.command_core.specs.declared.fault.Fault.{Fault}
 use Rattle.command_core.specs.declared.fault.Fault.TheVariants.{TransactionNotBegun}
-use Rattle.command_core.specs.declared.member.Member.{Member}
+use Rattle.command_core.specs.declared.command.Member.{Member}
 use Rattle.command_core.specs.Commands.{Fits}
 use Rattle.command_core.specs.Faults.{fault_of}
 use Rattle.command_core.specs.Operations.{IsOp, op_of}

@@ -8,7 +8,7 @@ ghost use Rattle.session_core.specs.declared.act.Act.TheVariants as acts;
 ghost use Rattle.frame_core.specs.declared.frame.Verb.TheVariants as verbs;
 ghost use Rattle.command_core.specs.declared.command.Op.TheVariants as ops;
 ghost use Rattle.command_core.specs.declared.fault.Fault.TheVariants as faults;
-ghost use Rattle.command_core.specs.declared.member.Member.TheVariants as members;
+ghost use Rattle.command_core.specs.declared.command.Member.TheVariants as members;
 
 /// What sessions do for a frame. A CONNECT that offers 1.2 opens a session, and one that offers only 1.1 is refused. A
 /// SEND before it is refused with its receipt told, and a SEND to what names no destination ends an open session. A

@@ -1,6 +1,6 @@
 -- A durable name with its topic and its line is read part by part: the name, and then the topic with the line.
 use Rattle.std.proofs.Common.{◌≡◌, ◌∙◌, ℕ, List, Option, None, Some, ap, refl, subst, sym}
-use Rattle.command_core.specs.declared.decode_fault.DecodeFault.{DecodeFault}
+use Rattle.command_core.specs.declared.decoding.DecodeFault.{DecodeFault}
 use Rattle.command_core.specs.PartReading.{◌>>=◌, Fails, destination_at}
 use Rattle.line_core.specs.declared.message.Message.{Message}
 use Rattle.broker_core.specs.Names.{Name}

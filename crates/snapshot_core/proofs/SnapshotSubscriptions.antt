@@ -8,7 +8,7 @@ use Rattle.std.specs.Option.{option_map}
 use Rattle.std.specs.Ordering.{nat_cmp}
 use Rattle.std.proofs.lemmas.Option.{none-some, same_Some}
 use Rattle.frame_core.proofs.Lists.{all_weaker}
-use Rattle.command_core.specs.declared.ack_mode.AckMode.{AckMode}
+use Rattle.command_core.specs.declared.command.AckMode.{AckMode}
 use Rattle.command_core.specs.Destinations.{IsDestination, is_queue}
 use Rattle.command_core.specs.PartReading.{◌>>=◌, destination_at, mode_at, name_at, text_at}
 use Rattle.command_core.specs.PartSpellings.{AreBytes, IsText, counted, mode_byte, optional}

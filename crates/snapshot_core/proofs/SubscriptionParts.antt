@@ -2,9 +2,9 @@
 use Rattle.std.proofs.Common.{◌≡◌, ◌∙◌, ◌||◌, ℕ, Bool, List, Option, None, Some, ap, is_some, not, refl, subst, sym}
 use Rattle.std.specs.Int.{w64}
 use Rattle.std.specs.Ordering.{nat_cmp}
-use Rattle.command_core.specs.declared.ack_mode.AckMode.{AckMode}
-use Rattle.command_core.specs.declared.decode_fault.DecodeFault.{DecodeFault}
-use Rattle.command_core.specs.declared.decode_fault.DecodeFault.TheVariants as faults
+use Rattle.command_core.specs.declared.command.AckMode.{AckMode}
+use Rattle.command_core.specs.declared.decoding.DecodeFault.{DecodeFault}
+use Rattle.command_core.specs.declared.decoding.DecodeFault.TheVariants as faults
 use Rattle.command_core.specs.Destinations.{is_queue}
 use Rattle.command_core.specs.PartReading.{◌>>=◌, Fails, destination_at, mode_at, name_at, number_at, text_at}
 use Rattle.line_core.specs.declared.message.Message.{Message}

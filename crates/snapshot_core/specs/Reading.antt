@@ -6,7 +6,7 @@ use Rattle.std.specs.List.{list_all}
 use Rattle.std.specs.Map.{keys_of}
 use Rattle.std.specs.Ordering.{is_lt, nat_cmp}
 use Rattle.std.specs.declared.cmp.Ordering.{Ordering}
-use Rattle.command_core.specs.declared.ack_mode.AckMode.{AckMode}
+use Rattle.command_core.specs.declared.command.AckMode.{AckMode}
 use Rattle.command_core.specs.Destinations.{is_queue}
 use Rattle.command_core.specs.PartReading.{◌>>=◌, Reader, destination_at, listed_at, mode_at, name_at, number_at, sending_at, text_at}
 use Rattle.line_core.specs.declared.message.Message.{Message}

@@ -7,7 +7,7 @@ use Rattle.std.proofs.lemmas.Cmp.{nat_list_eq_equiv}
 use Rattle.std.proofs.lemmas.List.Edits.{length-remove}
 use Rattle.std.proofs.lemmas.Map.{lookup-remove_entry}
 use Rattle.std.proofs.lemmas.Map.Keys.{IsDistinct-push}
-use Rattle.command_core.specs.declared.member.Member.{Member}
+use Rattle.command_core.specs.declared.command.Member.{Member}
 use Rattle.command_core.specs.declared.fault.Fault.TheVariants.{TransactionBegun, TransactionNotBegun, TooManyEntries}
 use Rattle.tx_core.specs.Places.{HasNone, IsPlace}
 use Rattle.tx_core.specs.Transactions.{AreOpen, members_of, begun, added, without}

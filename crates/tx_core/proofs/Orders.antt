@@ -4,7 +4,7 @@ use Rattle.std.specs.Map.{lookup}
 use Rattle.std.specs.Str.{bytes_eq}
 use Rattle.std.proofs.lemmas.Cmp.{nat_list_eq_equiv}
 use Rattle.std.proofs.lemmas.Map.{lookup-set_value}
-use Rattle.command_core.specs.declared.member.Member.{Member}
+use Rattle.command_core.specs.declared.command.Member.{Member}
 use Rattle.tx_core.specs.Transactions.{added, begun, members_of}
 
 module _ {K X : Type 0} (test : K → Bool) (key : K) (value : X) (hit : test key ≡ true) where

@@ -1,7 +1,7 @@
 use Rattle.std.specs.Prelude.{◌≡◌, ◌<◌, List, ℕ, length, true, false}
 use Rattle.std.specs.List.{AllWithin, HoldsAt}
 use Rattle.std.specs.Str.{bytes_eq}
-use Rattle.command_core.specs.declared.member.Member.{Member}
+use Rattle.command_core.specs.declared.command.Member.{Member}
 
 -- no transaction has that name
 abbrev pub HasNone : List ℕ → List (List ℕ × List Member) → Type 0

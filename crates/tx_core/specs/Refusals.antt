@@ -1,7 +1,7 @@
 use Rattle.std.specs.Prelude.{◌+◌, ◌||◌, List, ℕ, Bool, Option, Some, None, cond, is_some, length, nat_le, nat_lt}
 use Rattle.command_core.specs.declared.fault.Fault.{Fault}
 use Rattle.command_core.specs.declared.fault.Fault.TheVariants.{TransactionBegun, TransactionNotBegun, TransactionTooLarge, TooManyEntries}
-use Rattle.command_core.specs.declared.member.Member.{Member}
+use Rattle.command_core.specs.declared.command.Member.{Member}
 use Rattle.command_core.specs.Sizes.{member_size}
 use Rattle.tx_core.specs.Transactions.{bytes_of, members_of}
 

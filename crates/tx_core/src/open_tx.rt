@@ -2,7 +2,7 @@
 
 ghost use Rattle.std.specs.Prelude.{◌≡◌, ◌++◌, ◌∷◌, [], Some, None, IfOk, IfErr, OnOk, OnErr, MatchOption, ◌≤◌, List, ℕ, IsSome, false, fold};
 ghost use Rattle.std.specs.Str.{bytes_eq};
-ghost use Rattle.command_core.specs.declared.member.Member.{Member};
+ghost use Rattle.command_core.specs.declared.command.Member.{Member};
 ghost use Rattle.tx_core.specs.Places.{HasNone, IsPlace};
 ghost use Rattle.tx_core.specs.Transactions.{IsTransaction, bytes_of, added, begun, members_of};
 ghost use Rattle.tx_core.specs.Refusals.{refusal_to_join};
@@ -23,7 +23,7 @@ pub struct OpenTx {
 
 impl Model for OpenTx {
     ghost use Rattle.std.specs.Prelude.{List, ℕ};
-    ghost use Rattle.command_core.specs.declared.member.Member.{Member};
+    ghost use Rattle.command_core.specs.declared.command.Member.{Member};
     ghost use Rattle.tx_core.specs.Transactions.{AreOpen};
 
     ghost Value = { List (List ℕ × List Member) };
@@ -169,7 +169,7 @@ pub struct Transaction {
 
 impl Model for Transaction {
     ghost use Rattle.std.specs.Prelude.{◌≡◌, List, ℕ};
-    ghost use Rattle.command_core.specs.declared.member.Member.{Member};
+    ghost use Rattle.command_core.specs.declared.command.Member.{Member};
     ghost use Rattle.tx_core.specs.Transactions.{IsTransaction, bytes_of};
 
     ghost Value = { List ℕ × List Member };

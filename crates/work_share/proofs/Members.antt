@@ -1,7 +1,7 @@
 -- What the first members of a transaction show.
 use Rattle.std.proofs.Common.{◌≡◌, ◌≢◌, List, [], ℕ, Option, Some, None}
 use Rattle.std.specs.List.{AllByRecursion}
-use Rattle.command_core.specs.declared.member.Member.{Member}
+use Rattle.command_core.specs.declared.command.Member.{Member}
 use Rattle.work_share.specs.Counts.{SendsTo}
 
 -- these send to that one place, if there are any

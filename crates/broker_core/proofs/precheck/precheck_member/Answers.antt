@@ -1,5 +1,5 @@
 use Rattle.std.proofs.Common.{◌∙◌, List, ℕ, ap, subst, sym}
-use Rattle.command_core.specs.declared.member.Member.{Member}
+use Rattle.command_core.specs.declared.command.Member.{Member}
 use Rattle.broker_state.specs.Executing.{applied}
 use Rattle.broker_state.specs.Parts.{copies_to}
 use Rattle.broker_core.specs.Prechecks.{Leads}

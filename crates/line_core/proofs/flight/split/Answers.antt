@@ -1,6 +1,6 @@
 use Rattle.std.proofs.Common.{◌≡◌, ◌∙◌, ◌+◌, add-one, sym, take, drop}
 use Rattle.std.proofs.lemmas.Result.{IfOk-weaker, on_ok_weaker}
-use Rattle.command_core.specs.declared.ack_mode.AckMode.TheVariants.{Client}
+use Rattle.command_core.specs.declared.command.AckMode.TheVariants.{Client}
 use Rattle.line_core.specs.Flights.{settled, unsettled}
 use Rattle.line_core.proofs.Flights.{settled-alone, settled-one_alone, settled-up_to, unsettled-alone, unsettled-one_alone, unsettled-up_to}
 use Rattle.line_core.proofs.flight.split.Goals as goal

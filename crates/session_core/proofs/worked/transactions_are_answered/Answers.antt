@@ -1,6 +1,6 @@
 use Rattle.std.proofs.Common.{◌≡◌, ◌∷◌, [], Some, Option, ℕ, ap, arith, refl, sym, codes}
 use Rattle.std.proofs.lemmas.Fmt.{decimal_digit}
-use Rattle.command_core.specs.declared.member.Member.TheVariants as members
+use Rattle.command_core.specs.declared.command.Member.TheVariants as members
 use Rattle.session_core.specs.Numbers.{decimal_value}
 use Rattle.session_core.specs.ReadFrames.{number_or_fault}
 use Rattle.session_core.specs.Requests.{joins}

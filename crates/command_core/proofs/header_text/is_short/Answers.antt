@@ -1,5 +1,0 @@
-use Rattle.std.proofs.Common.{rules}
-use Rattle.command_core.proofs.header_text.is_short.Goals as goal
-
-pub returns : goal.returns
-returns c = search rules
