@@ -1,6 +1,6 @@
 -- What a `FailOnce` shows.
 use Rattle.std.specs.Prelude.{◌≡◌, ◌≢◌, ℕ, ◌+◌, None, Option, Result, Some, IsErr}
-use Rattle.disk_core.specs.declared.fail_once.FailOnce.{FailOnce}
+use Rattle.disk_core.specs.declared.fuse.FailOnce.{FailOnce}
 use Rattle.disk_core.specs.Faults.{HasCause, IsOneMore}
 
 -- the disk that it passes calls on to

@@ -1,18 +1,26 @@
 //! A disk in a real file.
-ghost use Rattle.std.specs.Prelude.{◌≡◌, None, replicate, drop, take, IfOk, ⊤};
+
+ghost use Rattle.std.specs.Prelude.{◌≡◌, None, replicate, drop, take, IfOk, ⊤, [], ℕ, List};
 ghost use Rattle.disk_core.specs.File.{IsSameFile};
 ghost use Rattle.disk_core.specs.declared.file.TheConstants.{SLACK_AT, SLACK_BYTES};
+ghost use Rattle.disk_core.specs.Asking.{IsAsked};
+ghost use Rattle.disk_core.specs.Syncing.{AsksPath, SyncsBy, WritesBack};
 
-use crate::loss::{HEADER_BYTES, Known, Node, judge, remember, touches_header};
-use crate::naming::{Naming, Place, folder_of};
-use crate::open_file::OpenFile;
-use crate::syncing::{SyncKept, sync_by};
+use crate::loss::{Found, HEADER_BYTES, Known, Node, is_named, judge, remember, touches_header};
+use crate::naming::{Look, Naming, Noted, Place, folder_of, stands};
 use crate::{DeviceCause, DeviceFault, Disk};
 use std::alloc::Global;
 use std::fs::{File, OpenOptions, TryLockError};
+use std::io::{Seek, SeekFrom};
 use std::os::unix::fs::{FileExt, OpenOptionsExt};
 use std::rt::Files;
 use std::{error, fmt, io};
+
+/// From which byte of a file on some are written back by the first sync, and how many. In a journal's header they follow the selector, and are
+/// never read.
+pub const SLACK_AT: u64 = 17;
+
+pub const SLACK_BYTES: u64 = 15;
 
 /// Why a file is not opened as a disk.
 #[derive(Debug, Drop)]
@@ -77,12 +85,6 @@ pub struct FileDisk {
     cause: Option<DeviceCause>,
     kept: SyncKept,
 }
-
-/// From which byte of a file on some are written back by the first sync, and how many. In a journal's header they follow the selector, and are
-/// never read.
-pub const SLACK_AT: u64 = 17;
-
-pub const SLACK_BYTES: u64 = 15;
 
 // The bytes of the header that are written back.
 pub(crate) fn slack_of(header: &[u8; HEADER_BYTES]) -> &[u8]
@@ -281,4 +283,204 @@ fn as_cause(outcome: io::Result<()>) -> Result<(), DeviceCause> {
         Ok(()) => Ok(()),
         Err(error) => Err(DeviceCause::from(error)),
     }
+}
+
+/// An open file, and what its path is.
+#[derive(Drop)]
+pub(crate) struct OpenFile {
+    pub(crate) file: File,
+    pub(crate) naming: Naming,
+}
+
+impl OpenFile {
+    // What the file and its path are found as.
+    pub(crate) fn found(&self, known: &Known) -> io::Result<Found> {
+        let mut found = known.expected();
+        found.named = self.naming.look(&self.file, known.node)?;
+        found.size = self.file.metadata()?.len();
+        if known.has_header() {
+            self.file.read_exact_at(&mut found.header, 0)?;
+        }
+        self.read_last(known, &mut found.last)?;
+        Ok(found)
+    }
+
+    // Compares the bytes of the last write with what they read as now, and the header if it is to be.
+    pub(crate) fn compare(&self, known: &Known, with_header: bool) -> Result<(), DeviceCause> {
+        let mut found = known.expected();
+        self.read_last(known, &mut found.last)?;
+        if with_header {
+            self.file.read_exact_at(&mut found.header, 0)?;
+        }
+        judge(&found, known)
+    }
+
+    // Reads the first bytes of the last write, as they are now.
+    fn read_last(&self, known: &Known, last: &mut [u8; HEADER_BYTES]) -> io::Result<()> {
+        let count = known.last_count.min(HEADER_BYTES);
+        self.file.read_exact_at(&mut last[..count], known.last_at)
+    }
+}
+
+/// It claims nothing of its events, since no contract knows what a file holds.
+impl SyncedFile for OpenFile {
+    ghost events = { λ _. [] };
+
+    ghost failures = { λ _. 0 };
+
+    ghost honest = { λ _. ⊥ };
+
+    fn write_back(&mut self, known: &Known) -> Result<(), DeviceCause> {
+        self.compare(known, true)?;
+        self.file.write_all_at(slack_of(&known.header), SLACK_AT)?;
+        Ok(())
+    }
+
+    fn make_stable(&mut self) -> Result<(), DeviceCause> {
+        Ok(self.file.sync_data()?)
+    }
+
+    fn measure(&mut self) -> Result<u64, DeviceCause> {
+        Ok(self.file.seek(SeekFrom::End(0))?)
+    }
+
+    fn folder_changed(&mut self) -> Result<Option<Noted>, DeviceCause> {
+        Ok(self.naming.folder_changed()?)
+    }
+
+    fn named(&mut self, node: Node) -> Result<Option<Node>, DeviceCause> {
+        Ok(self.naming.look(&self.file, node)?)
+    }
+
+    fn written_at(&mut self) -> Result<Noted, DeviceCause> {
+        Ok(Noted::of(&self.file.metadata()?))
+    }
+}
+
+/// What an open file, its folder or its path did or answered.
+#[derive(Clone, Copy)]
+pub enum FileEvent {
+    /// Some bytes of the header were written back as they were.
+    WroteBack,
+    /// All that was written before was made stable.
+    Synced,
+    /// The file has this many bytes.
+    SizeIs(u64),
+    /// The folder was last changed then. There is no time if no folder is watched.
+    FolderIs(Option<Noted>),
+    /// The path names this file, or nothing.
+    PathIs(Option<Node>),
+    /// The file was last written then.
+    WrittenAt(Noted),
+}
+
+/// An open file, with its folder and its path, as a sync asks them. Only an honest one promises anything.
+pub trait SyncedFile {
+    ghost use Rattle.disk_core.specs.declared.file.FileEvent.{FileEvent};
+
+    /// What was done and answered so far, in order. A call that fails adds nothing.
+    ghost events: { Self → List FileEvent };
+
+    /// How many calls have failed, up to the end of a `u64`.
+    ghost failures: { Self → ℕ };
+
+    /// The file keeps to what is said of its calls.
+    ghost honest: { Self → Type 0 };
+
+    /// Writes some bytes of the header back as they are, after a look whether they are as they were.
+    fn write_back(&mut self, known: &Known) -> Result<(), DeviceCause>
+        ensures { honest self.old → IsAsked events failures honest self.old self.new result (λ _. FileEvent.WroteBack) };
+
+    /// Makes all that was written stable.
+    fn make_stable(&mut self) -> Result<(), DeviceCause>
+        ensures { honest self.old → IsAsked events failures honest self.old self.new result (λ _. FileEvent.Synced) };
+
+    /// The number of bytes.
+    fn measure(&mut self) -> Result<u64, DeviceCause>
+        ensures { honest self.old → IsAsked events failures honest self.old self.new result (λ size. FileEvent.SizeIs size) };
+
+    /// When the folder was last changed, if it is watched.
+    fn folder_changed(&mut self) -> Result<Option<Noted>, DeviceCause>
+        ensures { honest self.old → IsAsked events failures honest self.old self.new result (λ changed. FileEvent.FolderIs changed) };
+
+    /// The file that the path names, this one if it is that of the node.
+    fn named(&mut self, node: Node) -> Result<Option<Node>, DeviceCause>
+        ensures { honest self.old → IsAsked events failures honest self.old self.new result (λ named. FileEvent.PathIs named) };
+
+    /// When the file was last written.
+    fn written_at(&mut self) -> Result<Noted, DeviceCause>
+        ensures { honest self.old → IsAsked events failures honest self.old self.new result (λ written. FileEvent.WrittenAt written) };
+}
+
+/// What a file's disk keeps from sync to sync.
+#[derive(Drop)]
+pub struct SyncKept {
+    // Whether no bytes were written back since the file was opened.
+    pub(crate) is_stale: bool,
+    // The last look at the path, as far as it still shows that the path names the file.
+    pub(crate) last: Option<Look>,
+}
+
+impl SyncKept {
+    /// Nothing was synced since the file was opened. It is stale if bytes of its header are to be written back.
+    pub fn new(is_stale: bool) -> SyncKept
+        ensures { result ≡ record { is_stale = is_stale; last = None } }
+    {
+        SyncKept {
+            is_stale,
+            last: None,
+        }
+    }
+}
+
+/// Writes back what is stale, makes all stable, and then looks whether the file still has all of its bytes, and whether its path still names
+/// it. The folder is looked at before the path, and the path before the file's time, so that no change between two looks is missed.
+pub fn sync_by<F: SyncedFile>(
+    file: &mut F,
+    known: &Known,
+    kept: &mut SyncKept,
+) -> Result<(), DeviceCause>
+    ensures { F.honest file.old → SyncsBy F.SyncedFile file.old file.new known.now kept.old kept.new result }
+{
+    write_back_if_stale(file, known, &mut kept.is_stale)?;
+    file.make_stable()?;
+    let mut found = known.expected();
+    found.size = file.measure()?;
+    found.named = named_by(file, known.node, &mut kept.last)?;
+    judge(&found, known)
+}
+
+// Has the bytes of the header written back, unless that was done since the file was opened.
+fn write_back_if_stale<F: SyncedFile>(
+    file: &mut F,
+    known: &Known,
+    is_stale: &mut bool,
+) -> Result<(), DeviceCause>
+    ensures { F.honest file.old → WritesBack F.SyncedFile file.old file.new is_stale.old is_stale.new result }
+{
+    if *is_stale {
+        file.write_back(known)?;
+        *is_stale = false;
+    }
+    Ok(())
+}
+
+// What the path names: asked after the folder, and not at all if the last look still stands.
+fn named_by<F: SyncedFile>(
+    file: &mut F,
+    node: Node,
+    last: &mut Option<Look>,
+) -> Result<Option<Node>, DeviceCause>
+    ensures { F.honest file.old → AsksPath F.SyncedFile file.old file.new node last.old last.new result }
+{
+    let Some(changed) = file.folder_changed()? else {
+        return file.named(node);
+    };
+    if stands(last, changed) {
+        return Ok(Some(node));
+    }
+    let named = file.named(node)?;
+    let written = file.written_at()?;
+    *last = Some(Look::of(changed, written, is_named(named, node)));
+    Ok(named)
 }

@@ -3,32 +3,20 @@
 //! a file.
 #![tactic(auto)]
 
-mod call;
 mod disk;
-mod epoch;
-mod example;
-mod fail_once;
-mod faults;
 mod file;
 mod fuse;
 mod loss;
 mod memory;
 mod naming;
-mod open_file;
 mod span;
-mod synced_file;
-mod syncing;
 
-pub use call::Call;
-pub use disk::Disk;
-pub use example::publish;
-pub use fail_once::FailOnce;
-pub use faults::DeviceFault;
-pub use file::{FileAt, FileDisk, OpenError, SLACK_AT, SLACK_BYTES};
-pub use fuse::FuseDisk;
+pub use disk::{Call, DeviceFault, Disk, publish};
+pub use file::{
+    FileAt, FileDisk, FileEvent, OpenError, SLACK_AT, SLACK_BYTES, SyncKept, SyncedFile, sync_by,
+};
+pub use fuse::{FailOnce, FuseDisk};
 pub use loss::{DeviceCause, HEADER_BYTES, Known, Node};
 pub use memory::MemDisk;
 pub use naming::Noted;
 pub use span::{is_image, overwrite, release};
-pub use synced_file::{FileEvent, SyncedFile};
-pub use syncing::{SyncKept, sync_by};

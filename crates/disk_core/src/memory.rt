@@ -1,13 +1,13 @@
 //! A disk in memory.
-ghost use Rattle.std.specs.Prelude.{◌≡◌, ◌+◌, ◌≤◌, ◌↔◌, false, length, take, drop, IfOk, IsTrue, OnOk, OnErr, ⊤};
+
+ghost use Rattle.std.specs.Prelude.{◌≡◌, ◌+◌, ◌≤◌, ◌↔◌, false, length, take, drop, IfOk, IsTrue, OnOk, OnErr, ⊤, ℕ, List, Option};
 ghost use Rattle.std.proofs.Common.{inl};
 ghost use Rattle.disk_core.specs.Images.{Frees, IsImage, Only, Torn, Within};
-ghost use Rattle.disk_core.specs.declared.call.Call.TheVariants.{Read, Write, Sync};
+ghost use Rattle.disk_core.specs.declared.disk.Call.TheVariants.{Read, Write, Sync};
 ghost use Rattle.disk_core.specs.Memory.{Ages, Memory, Fails, fresh, after_crash, called, restarted_with, synced, written, HadSince, only_now, reads_image};
+ghost use Rattle.disk_core.specs.Spans.{IsCover};
 
-use crate::call::{Call, record};
-use crate::epoch::Epoch;
-use crate::faults::{fail, tell};
+use crate::disk::{Call, fail, record, tell};
 use crate::span::{Span, add, is_image, overwrite, put_all_back, release_all};
 use crate::{DeviceFault, Disk};
 use std::alloc::{AllocError, Global};
@@ -203,5 +203,46 @@ impl Disk for MemDisk {
         release_all(&self.written, &mut self.held);
         self.written.clear();
         Ok(())
+    }
+}
+
+/// For each byte that was unsynced when a sync came, what it held at the sync before.
+#[derive(Drop)]
+pub struct Epoch {
+    size: usize,
+    spans: Vec<Span>,
+    // What is held in each range, one after another.
+    parts: Vec<Option<u8>>,
+}
+
+impl Model for Epoch {
+    ghost use Rattle.std.specs.Prelude.{ℕ, List, Option};
+    ghost use Rattle.disk_core.specs.Epochs.{placed};
+    ghost use Rattle.disk_core.specs.Memory.{none_held};
+
+    ghost Value = { List (Option ℕ) };
+
+    ghost view = { λ a. placed a.spans.items a.parts.items (none_held a.size) };
+}
+
+impl Epoch {
+    /// Copies what is held in these ranges, which is all that is held.
+    pub(crate) fn of(
+        alloc: Global,
+        spans: &[Span],
+        held: &[Option<u8>],
+    ) -> Result<Epoch, AllocError>
+        requires { IsCover spans.now held.now }
+        ensures { IfOk result (λ epoch. epoch ≡ held.now) }
+    {
+        let mut parts = Vec::new(alloc);
+        for span in spans {
+            parts.extend_from_slice(&held[span.at..span.at + span.len])?;
+        }
+        Ok(Epoch {
+            size: held.len(),
+            spans: Vec::from_slice(alloc, spans)?,
+            parts,
+        })
     }
 }

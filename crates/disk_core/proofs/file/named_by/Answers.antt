@@ -2,9 +2,9 @@ use Rattle.std.proofs.Common.{◌∙◌, Option, [], ◌∷◌, ap, refl}
 use Rattle.std.proofs.lemmas.Bool.{false≢true}
 use Rattle.disk_core.specs.Syncing.Names.{is_spared, is_looked_at}
 use Rattle.disk_core.specs.declared.naming.Noted.{Noted}
-use Rattle.disk_core.specs.declared.synced_file.FileEvent.TheVariants.{FolderIs, PathIs, WrittenAt}
+use Rattle.disk_core.specs.declared.file.FileEvent.TheVariants.{FolderIs, PathIs, WrittenAt}
 use Rattle.disk_core.proofs.Events.{then}
-use Rattle.disk_core.proofs.syncing.named_by.Goals as goal
+use Rattle.disk_core.proofs.file.named_by.Goals as goal
 
 pub returns-then-stands : goal.returns-then-stands
 returns-then-stands g c = λ honest.

@@ -5,7 +5,7 @@ use Rattle.disk_core.specs.declared.span.Span.{Span}
 use Rattle.disk_core.specs.Memory.{none_held}
 use Rattle.disk_core.specs.Epochs.{held_at}
 use Rattle.disk_core.proofs.Epochs.{same_places, placed_is}
-use Rattle.disk_core.proofs.epoch.Epoch.of.Goals as goal
+use Rattle.disk_core.proofs.memory.Epoch.of.Goals as goal
 
 pub returns : goal.returns
 returns c =
