@@ -2,8 +2,8 @@
 use Rattle.std.proofs.Common.{◌≡◌, ◌++◌, ◌∷◌, [], List, ℕ, Option, refl, sym, ap, ◌∙◌, subst, inl, inr, append-nil}
 use Rattle.command_core.specs.declared.command.Op.{Op}
 use Rattle.frame_core.specs.declared.frame.Frame.{Frame}
-use Rattle.session_core.specs.declared.act.Act.{Act}
-use Rattle.session_core.specs.declared.act.Act.TheVariants.{Do, Direct, Close}
+use Rattle.session_core.specs.declared.session.Act.{Act}
+use Rattle.session_core.specs.declared.session.Act.TheVariants.{Do, Direct, Close}
 use Rattle.clients.specs.Progress.{IsNext, after, asked, role_of}
 use Rattle.clients.specs.declared.progress.Progress.{Progress}
 use Rattle.clients.specs.Effects.{Effect, Does, Said, Told, Untold, Tells, commands_of, told_of, untold_of}

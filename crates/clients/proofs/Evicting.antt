@@ -2,7 +2,7 @@
 use Rattle.std.proofs.Common.{◌≡◌, ◌++◌, ◌∷◌, [], ℕ, List, Option, None, append_assoc, append-nil, ap, inl, inr, refl, subst, sym, ◌∙◌, ◌⊎◌}
 use Rattle.std.specs.List.{AllByRecursion}
 use Rattle.command_core.specs.declared.command.Op.{Op}
-use Rattle.session_core.specs.declared.act.Act.{Act}
+use Rattle.session_core.specs.declared.session.Act.{Act}
 use Rattle.clients.specs.Connections.{ConnectionValue, connection_of, evicted, with_lost}
 use Rattle.clients.specs.Stages.{Executes, lost}
 use Rattle.clients.specs.Tasks.{all_of, tasks}

@@ -9,7 +9,7 @@ use Rattle.claim_core.specs.declared.limits.TheConstants.{WINDOW}
 use Rattle.claim_core.specs.Seats.{SessionSeatValue, with_seen}
 use Rattle.claim_core.specs.declared.refusals.Refused.{Refused}
 use Rattle.claim_core.specs.declared.refusals.Refused.TheVariants as refusals
-use Rattle.session_core.specs.declared.act.Act.{Act}
+use Rattle.session_core.specs.declared.session.Act.{Act}
 use Rattle.clients.specs.Connections.{ConnectionValue, Fails, HearsBytes, IsLost, Listens, Takes, closed_by, connection_of, filled, with_appended, with_room}
 use Rattle.clients.specs.Progress.{IsDone, IsNext, after, asked, is_last, role_of}
 use Rattle.clients.specs.Footprints.{FootprintValue, IsFootprint, charged, settled, spent, total}
@@ -18,8 +18,8 @@ use Rattle.clients.specs.Stages.{CanTell, Executes, IsEnding, rested, stopped}
 use Rattle.clients.specs.declared.progress.Progress.{Progress}
 use Rattle.clients.specs.declared.stage.Stage.{Stage}
 use Rattle.clients.specs.declared.stage.Stage.TheVariants.{Running, GivingUp}
-use Rattle.session_core.specs.declared.act.Act.TheVariants.{Direct, Do, Close}
-use Rattle.session_core.specs.declared.act.CloseCode.{CloseCode}
+use Rattle.session_core.specs.declared.session.Act.TheVariants.{Direct, Do, Close}
+use Rattle.session_core.specs.declared.session.CloseCode.{CloseCode}
 use Rattle.clients.specs.Continues.{Continues}
 use Rattle.clients.specs.Conversations.{StaysOrEnds}
 use Rattle.clients.specs.Effects.{Effect, Said, Told, Untold, Tells, commands_of, told_of, untold_of}

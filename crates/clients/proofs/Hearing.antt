@@ -1,6 +1,6 @@
 -- What a connection has heard, by more and more bytes.
 use Rattle.std.proofs.Common.{◌≡◌, ◌++◌, [], ℕ, List, false, refl, arith, sym, ap, ◌∙◌, subst, inl, inr, append-nil}
-use Rattle.session_core.specs.declared.act.Act.{Act}
+use Rattle.session_core.specs.declared.session.Act.{Act}
 use Rattle.session_core.specs.Sessions.{Hearing, Hears, IsOver, fresh}
 use Rattle.session_core.proofs.Hearings.{heard_as_one, pieces_as_one}
 use Rattle.frame_core.specs.Parts.{IsUnfinished}

@@ -8,10 +8,10 @@ use Rattle.command_core.specs.declared.command.Op.{Op}
 use Rattle.command_core.specs.declared.command.Op.TheVariants as ops
 use Rattle.command_core.specs.declared.command.End.TheVariants as ends
 use Rattle.frame_core.specs.declared.frame.Frame.{Frame}
-use Rattle.session_core.specs.declared.act.Act.{Act}
-use Rattle.session_core.specs.declared.act.Act.TheVariants.{Do, Direct}
-use Rattle.session_core.specs.declared.act.CloseCode.{CloseCode}
-use Rattle.session_core.specs.declared.act.CloseCode.TheVariants.{NormalClosure, ProtocolError}
+use Rattle.session_core.specs.declared.session.Act.{Act}
+use Rattle.session_core.specs.declared.session.Act.TheVariants.{Do, Direct}
+use Rattle.session_core.specs.declared.session.CloseCode.{CloseCode}
+use Rattle.session_core.specs.declared.session.CloseCode.TheVariants.{NormalClosure, ProtocolError}
 use Rattle.session_core.specs.Sessions.{Hearing, Hears, IsOver, fresh}
 use Rattle.clients.specs.Connections.{ConnectionValue, HearsBytes, IsLost, IsSent, Listens, Takes, closed_by, loss_of, unheard, with_appended}
 use Rattle.clients.specs.Progress.{IsDone, IsFinished, IsNext, after, asked, is_farewell, is_last, over, role_of}

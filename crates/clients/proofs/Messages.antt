@@ -8,7 +8,7 @@ use Rattle.frame_core.specs.declared.frame.Verb.TheVariants as verbs
 use Rattle.frame_core.specs.Written.{written}
 use Rattle.ws_core.specs.Sending.{with_message}
 use Rattle.outbox_core.specs.Boxes.{TakerValue}
-use Rattle.session_core.specs.declared.act.Act.{Act}
+use Rattle.session_core.specs.declared.session.Act.{Act}
 use Rattle.clients.specs.Connections.{ConnectionValue, Takes}
 use Rattle.clients.specs.Progress.{number_in}
 use Rattle.clients.specs.declared.progress.Progress.{Progress}

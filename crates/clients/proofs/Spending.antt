@@ -8,8 +8,8 @@ use Rattle.command_core.specs.declared.command.Op.{Op}
 use Rattle.command_core.specs.declared.command.Op.TheVariants as ops
 use Rattle.command_core.specs.declared.command.End.TheVariants as ends
 use Rattle.claim_core.specs.Counts.{Pair}
-use Rattle.session_core.specs.declared.act.Act.{Act}
-use Rattle.session_core.specs.declared.act.Act.TheVariants.{Do}
+use Rattle.session_core.specs.declared.session.Act.{Act}
+use Rattle.session_core.specs.declared.session.Act.TheVariants.{Do}
 use Rattle.clients.specs.Connections.{ConnectionValue, Takes, filled, with_room}
 use Rattle.clients.specs.Footprints.{FootprintValue, IsFootprint, IsWithin, charged, footprint, none_standing, settled, spent, standing, total}
 use Rattle.clients.specs.Stages.{Executes, IsEnding, given_up}

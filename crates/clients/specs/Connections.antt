@@ -6,11 +6,11 @@ use Rattle.command_core.specs.declared.command.Op.{Op}
 use Rattle.command_core.specs.declared.command.Op.TheVariants as ops
 use Rattle.frame_core.specs.declared.frame.Verb.{Verb}
 use Rattle.frame_core.specs.declared.frame.Verb.TheVariants as verbs
-use Rattle.session_core.specs.declared.act.Act.{Act}
-use Rattle.session_core.specs.declared.act.Act.TheVariants.{Do}
-use Rattle.session_core.specs.declared.act.CloseCode.{CloseCode}
-use Rattle.session_core.specs.declared.act.CloseCode.TheVariants.{NormalClosure, ProtocolError}
-use Rattle.session_core.specs.declared.phase.Phase.TheVariants.{Failed}
+use Rattle.session_core.specs.declared.session.Act.{Act}
+use Rattle.session_core.specs.declared.session.Act.TheVariants.{Do}
+use Rattle.session_core.specs.declared.session.CloseCode.{CloseCode}
+use Rattle.session_core.specs.declared.session.CloseCode.TheVariants.{NormalClosure, ProtocolError}
+use Rattle.session_core.specs.declared.session.Phase.TheVariants.{Failed}
 use Rattle.session_core.specs.Sessions.{Hearing, Hears, fresh, held_in, is_held}
 use Rattle.clients.specs.Progress.{IsNext, after, asked, over}
 use Rattle.clients.specs.Stages.{given_up, lost}

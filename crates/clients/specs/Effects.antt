@@ -2,8 +2,8 @@
 use Rattle.std.specs.Prelude.{◌≡◌, ◌⊎◌, ◌∷◌, ℕ, List, []}
 use Rattle.frame_core.specs.declared.frame.Frame.{Frame}
 use Rattle.claim_core.specs.Counts.{Pair}
-use Rattle.session_core.specs.declared.act.Act.{Act}
-use Rattle.session_core.specs.declared.act.Act.TheVariants.{Do, Direct, Close}
+use Rattle.session_core.specs.declared.session.Act.{Act}
+use Rattle.session_core.specs.declared.session.Act.TheVariants.{Do, Direct, Close}
 use Rattle.clients.specs.Progress.{IsNext, after, asked, role_of}
 use Rattle.clients.specs.declared.progress.Progress.{Progress}
 

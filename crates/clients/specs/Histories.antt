@@ -6,8 +6,8 @@ use Rattle.command_core.specs.declared.command.Op.{Op}
 use Rattle.command_core.specs.declared.command.Op.TheVariants as ops
 use Rattle.command_core.specs.declared.command.End.TheVariants as ends
 use Rattle.claim_core.specs.Seats.{SessionSeatValue}
-use Rattle.session_core.specs.declared.act.Act.{Act}
-use Rattle.session_core.specs.declared.act.Act.TheVariants.{Do}
+use Rattle.session_core.specs.declared.session.Act.{Act}
+use Rattle.session_core.specs.declared.session.Act.TheVariants.{Do}
 use Rattle.session_core.specs.Sessions.{Hearing, Hears, IsOver, fresh}
 use Rattle.clients.specs.Connections.{ConnectionValue, connection_of}
 use Rattle.clients.specs.Progress.{IsDone, IsFinished, IsNext, asked}

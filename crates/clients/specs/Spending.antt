@@ -2,8 +2,8 @@
 use Rattle.std.specs.Prelude.{◌≡◌, ◌⊎◌, ◌<◌, ◌≤◌, ◌∷◌, ◌++◌, ℕ, List, [], Option, Some, None, map}
 use Rattle.command_core.specs.declared.command.Op.{Op}
 use Rattle.claim_core.specs.Counts.{Pair}
-use Rattle.session_core.specs.declared.act.Act.{Act}
-use Rattle.session_core.specs.declared.act.Act.TheVariants.{Do}
+use Rattle.session_core.specs.declared.session.Act.{Act}
+use Rattle.session_core.specs.declared.session.Act.TheVariants.{Do}
 use Rattle.clients.specs.Connections.{ConnectionValue}
 use Rattle.clients.specs.Footprints.{IsWithin, footprint, standing}
 use Rattle.clients.specs.Stages.{Executes}

@@ -6,7 +6,7 @@ use Rattle.claim_core.specs.Seats.{SessionSeatValue}
 use Rattle.claim_core.specs.declared.limits.TheConstants.{WINDOW}
 use Rattle.command_core.specs.Commands.{CommandValue}
 use Rattle.command_core.specs.declared.command.Op.{Op}
-use Rattle.session_core.specs.declared.act.Act.TheVariants.{Direct}
+use Rattle.session_core.specs.declared.session.Act.TheVariants.{Direct}
 use Rattle.clients.specs.Concluding.{Concludes}
 use Rattle.clients.specs.Connections.{ConnectionValue, connection_of}
 use Rattle.clients.specs.Progress.{IsNext, after, is_last, role_of}

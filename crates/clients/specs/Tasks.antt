@@ -1,6 +1,6 @@
 -- What a session has asked for that is still to be done.
 use Rattle.std.specs.Prelude.{◌++◌, List, Option, option_to_list}
-use Rattle.session_core.specs.declared.act.Act.{Act}
+use Rattle.session_core.specs.declared.session.Act.{Act}
 
 -- the act that was tried and is to be tried again, and those after it
 pub record Tasks : Type 0 where

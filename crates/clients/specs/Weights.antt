@@ -7,8 +7,8 @@ use Rattle.command_core.specs.declared.command.Op.TheVariants as ops
 use Rattle.command_core.specs.declared.command.Member.{Member}
 use Rattle.command_core.specs.declared.command.Member.TheVariants as members
 use Rattle.command_core.specs.PartSizes.{option_size}
-use Rattle.session_core.specs.declared.act.Act.{Act}
-use Rattle.session_core.specs.declared.act.Act.TheVariants.{Do, Direct, Close}
+use Rattle.session_core.specs.declared.session.Act.{Act}
+use Rattle.session_core.specs.declared.session.Act.TheVariants.{Do, Direct, Close}
 
 -- how many headers the messages of operations have
 abbrev pub headers_of_member : Member → ℕ

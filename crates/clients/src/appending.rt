@@ -3,7 +3,7 @@
 ghost use Rattle.std.specs.Prelude.{◌≡◌, ◌≢◌, None, true, false};
 ghost use Rattle.command_core.specs.Entries.{EntryValue};
 ghost use Rattle.session_core.specs.Sessions.{HasForm};
-ghost use Rattle.session_core.specs.declared.act.Act.TheVariants as acts;
+ghost use Rattle.session_core.specs.declared.session.Act.TheVariants as acts;
 ghost use Rattle.clients.specs.Boxes.{HasBox};
 ghost use Rattle.clients.specs.Histories.{Taken, Waits};
 ghost use Rattle.clients.specs.Progress.{IsNext};

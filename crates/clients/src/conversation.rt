@@ -2,7 +2,7 @@
 
 ghost use Rattle.std.specs.Prelude.{◌≡◌, ℕ, Option, IfSome};
 ghost use Rattle.session_core.specs.Sessions.{HasForm};
-ghost use Rattle.session_core.specs.declared.act.Act.TheVariants as acts;
+ghost use Rattle.session_core.specs.declared.session.Act.TheVariants as acts;
 ghost use Rattle.clients.specs.Connections.{Asks, IsSent, closed_by, loss_of};
 
 use crate::acts::Acts;

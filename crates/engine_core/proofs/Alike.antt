@@ -7,9 +7,9 @@ use Rattle.std.specs.Map.{lookup, remove_entry}
 use Rattle.std.specs.Ordering.{match_ordering, nat_cmp}
 use Rattle.disk_core.specs.Memory.{fresh}
 use Rattle.frame_core.proofs.OneAnswer.{one_reading, fault_or_none}
-use Rattle.session_core.specs.declared.act.Act.{Act}
-use Rattle.session_core.specs.declared.phase.Phase.{Phase}
-use Rattle.session_core.specs.declared.phase.Phase.TheVariants.{New, Open, Ended, Failed}
+use Rattle.session_core.specs.declared.session.Act.{Act}
+use Rattle.session_core.specs.declared.session.Phase.{Phase}
+use Rattle.session_core.specs.declared.session.Phase.TheVariants.{New, Open, Ended, Failed}
 use Rattle.session_core.specs.Sessions.{Hearing, Hears, IsOver, loss_of}
 use Rattle.session_core.proofs.Hearings.{heard_in_one_way, nothing_heard}
 use Rattle.engine_core.specs.declared.running_script.ScriptConnection.{ScriptConnection}

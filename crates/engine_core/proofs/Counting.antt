@@ -1,7 +1,7 @@
 -- Where one of a connection's acts is such an act.
 use Rattle.std.proofs.Common.{◌≡◌, List, [], ◌∷◌, ◌++◌, ℕ, Option, Some, None, IsSomeAnd, ap, sym, ◌∙◌, subst}
 use Rattle.std.specs.List.{fold}
-use Rattle.session_core.specs.declared.act.Act.{Act}
+use Rattle.session_core.specs.declared.session.Act.{Act}
 use Rattle.engine_core.specs.declared.running_script.ScriptConnection.{ScriptConnection}
 use Rattle.session_core.specs.Sessions.{loss_of}
 use Rattle.engine_core.specs.Queues.{QueueValue, Progress, ComeTo, acted}

@@ -6,7 +6,7 @@ use Rattle.std.specs.Map.{remove_entry}
 use Rattle.std.specs.Ordering.{nat_cmp}
 use Rattle.disk_core.specs.Memory.{Memory}
 use Rattle.engine_core.specs.declared.running_script.ScriptConnection.{ScriptConnection}
-use Rattle.session_core.specs.declared.act.Act.{Act}
+use Rattle.session_core.specs.declared.session.Act.{Act}
 use Rattle.session_core.specs.Sessions.{Hearing, Hears, loss_of}
 use Rattle.engine_core.specs.Queues.{QueueValue, Progress, ComeTo, IsTooFar, acted, acted_on}
 use Rattle.engine_core.specs.Running.{connection_at, Loses, Receives}

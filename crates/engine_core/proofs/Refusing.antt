@@ -1,7 +1,7 @@
 -- What a step tells that is refused, from what its part tells.
 use Rattle.std.proofs.Common.{◌≡◌, ◌++◌, ◌∷◌, ◌∙◌, List, ℕ, true, refl, subst}
 use Rattle.std.specs.List.{fold}
-use Rattle.session_core.specs.declared.act.Act.{Act}
+use Rattle.session_core.specs.declared.session.Act.{Act}
 use Rattle.engine_core.specs.OfQueue.{IsMemory}
 use Rattle.engine_core.specs.Queues.{ComeTo, IsAny, IsFlush, IsTooFar, LacksRoom, Progress, QueueOnDisk, QueueValue, acted}
 use Rattle.engine_core.specs.Refusals.{RefusesActs, RefusesStep}

@@ -4,7 +4,7 @@ use Rattle.disk_core.specs.Memory.{Memory}
 use Rattle.flush_core.specs.declared.faults.FlushFault.{FlushFault}
 use Rattle.flush_core.specs.declared.faults.FlushFault.TheVariants as flush
 use Rattle.script_text.specs.ScriptLines.{IsCrash}
-use Rattle.session_core.specs.declared.act.Act.{Act}
+use Rattle.session_core.specs.declared.session.Act.{Act}
 use Rattle.engine_core.specs.Queues.{IsAny, IsFlush, IsTooFar, LacksRoom, QueueValue}
 use Rattle.engine_core.specs.Refusals.{RefusesActs, RefusesFlush, RefusesRunning, RefusesStep}
 use Rattle.engine_core.specs.Running.{ScriptValue, on_disk}

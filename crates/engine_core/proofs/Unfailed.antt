@@ -7,8 +7,8 @@ use Rattle.broker_core.specs.States.{State}
 use Rattle.command_core.specs.declared.command.Op.{Op}
 use Rattle.command_core.specs.declared.command.Op.TheVariants as ops
 use Rattle.session_core.specs.Sessions.{loss_of}
-use Rattle.session_core.specs.declared.act.Act.{Act}
-use Rattle.session_core.specs.declared.act.Act.TheVariants.{Close, Direct, Do}
+use Rattle.session_core.specs.declared.session.Act.{Act}
+use Rattle.session_core.specs.declared.session.Act.TheVariants.{Close, Direct, Do}
 use Rattle.script_text.specs.ScriptLines.{IsNoCrash}
 use Rattle.engine_core.specs.Queues.{Progress, QueueValue, acted, acted_on, as_command, flushed, is_full, with_room}
 use Rattle.engine_core.specs.Running.{ScriptValue, beginning, connection_at}

@@ -18,8 +18,8 @@ use Rattle.script_text.specs.PercentTexts.{encoded}
 use Rattle.engine_core.specs.declared.waiting.Waiting.{Waiting}
 use Rattle.engine_core.specs.Journals.{IsFull}
 use Rattle.engine_core.specs.Placed.{commands_of}
-use Rattle.session_core.specs.declared.act.Act.{Act}
-use Rattle.session_core.specs.declared.act.Act.TheVariants.{Do, Direct, Close}
+use Rattle.session_core.specs.declared.session.Act.{Act}
+use Rattle.session_core.specs.declared.session.Act.TheVariants.{Do, Direct, Close}
 
 -- Between the connections and the broker: the commands that wait for the next flush, in their order, each with the connection that it came
 -- from. Also which connection opened which session, the broker as it was last flushed, and whether what was flushed is durable.

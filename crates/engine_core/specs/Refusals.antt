@@ -1,6 +1,6 @@
 -- What a step that is refused reports: a flush, a command, or the acts of a connection.
 use Rattle.std.specs.Prelude.{◌≡◌, ℕ, true}
-use Rattle.session_core.specs.declared.act.Act.{Act}
+use Rattle.session_core.specs.declared.session.Act.{Act}
 use Rattle.flush_core.specs.declared.faults.FlushFault.TheVariants as flush
 use Rattle.engine_core.specs.Queues.{CountsTooFar, IsAny, IsFlush, IsTooFar, LacksRoom, QueueOnDisk, QueueValue, is_full}
 use Rattle.engine_core.specs.Running.{ScriptValue, on_disk}

@@ -7,7 +7,7 @@ use Rattle.std.specs.Ordering.{nat_cmp}
 use Rattle.disk_core.specs.Memory.{Memory}
 use Rattle.broker_core.specs.States.{State}
 use Rattle.session_core.specs.Sessions.{Hearing, Hears, loss_of}
-use Rattle.session_core.specs.declared.act.Act.{Act}
+use Rattle.session_core.specs.declared.session.Act.{Act}
 use Rattle.engine_core.specs.Connections.{new_connection}
 use Rattle.engine_core.specs.Queues.{QueueOnDisk, QueueValue, Progress, ComeTo, IsTooFar, acted, acted_on, progress_of}
 use Rattle.engine_core.specs.declared.running_script.ScriptConnection.{ScriptConnection}

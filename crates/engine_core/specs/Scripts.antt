@@ -13,7 +13,7 @@ use Rattle.engine_core.specs.Journals.{StandsAfterFront}
 use Rattle.engine_core.specs.Placed.{commands_of}
 use Rattle.script_text.specs.PercentTexts.{decoded}
 use Rattle.script_text.specs.ScriptLines.{IsOfNoForm, IsLoss, IsCrash}
-use Rattle.session_core.specs.declared.act.Act.{Act}
+use Rattle.session_core.specs.declared.session.Act.{Act}
 use Rattle.engine_core.specs.Queues.{QueueValue, IsFlush, IsTooFar, flush_text, flushed}
 use Rattle.engine_core.specs.Running.{ScriptValue, beginning, Loses, LosesSuch, Receives, ReceivesSuch}
 use Rattle.engine_core.specs.declared.script.Script.{Script}

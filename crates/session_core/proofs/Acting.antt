@@ -2,8 +2,8 @@
 use Rattle.std.proofs.Common.{◌≡◌, List, [], ◌∷◌, ◌++◌, refl, ap, sym, ◌∙◌, append_assoc, append-nil}
 use Rattle.frame_core.specs.declared.frame.Frame.{Frame}
 use Rattle.session_core.specs.Sessions.{told, next, acts_of, phase_of}
-use Rattle.session_core.specs.declared.phase.Phase.{Phase}
-use Rattle.session_core.specs.declared.act.Act.{Act}
+use Rattle.session_core.specs.declared.session.Phase.{Phase}
+use Rattle.session_core.specs.declared.session.Act.{Act}
 
 pub one_more_act : (phase : Phase) (frames : List Frame) (frame : Frame) → acts_of phase (frames ++ frame ∷ []) ≡ acts_of phase frames ++ told (phase_of phase frames) frame
 one_more_act phase [] frame = simp append-nil

@@ -17,11 +17,11 @@ use Rattle.command_core.specs.Texts.{IsGiven}
 use Rattle.command_core.specs.Operations.{IsOp}
 use Rattle.tx_core.specs.Refusals.{refusal_of_add, refusal_of_begin, refusal_of_end}
 use Rattle.tx_core.specs.Transactions.{added, begun, members_of, without}
-use Rattle.session_core.specs.declared.act.Act.{Act}
+use Rattle.session_core.specs.declared.session.Act.{Act}
 use Rattle.session_core.specs.declared.requests.Request.{Request}
 use Rattle.session_core.specs.declared.requests.Request.TheVariants.{Ask, Join, Begin, Commit, Abort, Disconnect}
-use Rattle.session_core.specs.declared.phase.Phase.{Phase}
-use Rattle.session_core.specs.declared.phase.Phase.TheVariants.{New, Open, Ended, Failed}
+use Rattle.session_core.specs.declared.session.Phase.{Phase}
+use Rattle.session_core.specs.declared.session.Phase.TheVariants.{New, Open, Ended, Failed}
 use Rattle.session_core.specs.ReadFrames.{delivery_of, durable_of, is_connect, mode_of, receipt_of, some_text}
 use Rattle.session_core.specs.Requests.{asked_by, first_asked, joins, sends_to, subscribes_by, subscribes_to, transaction_of, unsubscribes_by, with_header}
 use Rattle.session_core.specs.Sessions.{HasForm, acts_of, answered, executed, committed, first_answered, next, note, refused, told, unless}

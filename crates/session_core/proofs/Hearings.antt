@@ -13,13 +13,13 @@ use Rattle.command_core.specs.Faults.{fault_of}
 use Rattle.std.specs.Prelude.{None, Some}
 use Rattle.session_core.specs.declared.requests.Request.{Request}
 use Rattle.session_core.specs.declared.requests.Request.TheVariants.{Ask, Join, Begin, Commit, Abort, Disconnect}
-use Rattle.session_core.specs.declared.phase.Phase.{Phase}
-use Rattle.session_core.specs.declared.phase.Phase.TheVariants.{New, Open, Ended, Failed}
+use Rattle.session_core.specs.declared.session.Phase.{Phase}
+use Rattle.session_core.specs.declared.session.Phase.TheVariants.{New, Open, Ended, Failed}
 use Rattle.session_core.specs.ReadFrames.{receipt_of}
 use Rattle.session_core.specs.Requests.{asked, asked_first}
 use Rattle.tx_core.specs.Refusals.{refusal_of_add, refusal_of_begin, refusal_of_end}
 use Rattle.tx_core.specs.Transactions.{added, begun, members_of, without}
-use Rattle.session_core.specs.declared.act.Act.{Act}
+use Rattle.session_core.specs.declared.session.Act.{Act}
 use Rattle.session_core.specs.Sessions.{Hearing, Hears, HearsFrames, HearsFault, IsOver, acts_of, phase_of, told, next, refused, answered, executed, committed, unless, first_answered}
 
 acts_append : (phase : Phase) (f g : List Frame) → acts_of phase (f ++ g) ≡ acts_of phase f ++ acts_of (phase_of phase f) g

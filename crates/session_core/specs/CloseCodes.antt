@@ -1,6 +1,6 @@
 use Rattle.std.specs.Prelude.{ℕ}
-use Rattle.session_core.specs.declared.act.CloseCode.{CloseCode}
-use Rattle.session_core.specs.declared.act.CloseCode.TheVariants.{NormalClosure, ProtocolError}
+use Rattle.session_core.specs.declared.session.CloseCode.{CloseCode}
+use Rattle.session_core.specs.declared.session.CloseCode.TheVariants.{NormalClosure, ProtocolError}
 
 -- RFC 6455, section 7.4.1
 abbrev pub code_of : CloseCode → ℕ

@@ -14,13 +14,13 @@ use Rattle.command_core.specs.Operations.{IsOp, op_of}
 use Rattle.command_core.specs.Replies.{error_frame}
 use Rattle.tx_core.specs.Refusals.{refusal_of_add, refusal_of_begin, refusal_of_end}
 use Rattle.tx_core.specs.Transactions.{added, begun, bytes_of_all, members_of, without}
-use Rattle.session_core.specs.declared.act.Act.{Act}
-use Rattle.session_core.specs.declared.act.Act.TheVariants.{Do, Direct, Close}
-use Rattle.session_core.specs.declared.act.CloseCode.TheVariants.{NormalClosure, ProtocolError}
+use Rattle.session_core.specs.declared.session.Act.{Act}
+use Rattle.session_core.specs.declared.session.Act.TheVariants.{Do, Direct, Close}
+use Rattle.session_core.specs.declared.session.CloseCode.TheVariants.{NormalClosure, ProtocolError}
 use Rattle.session_core.specs.declared.requests.Request.{Request}
 use Rattle.session_core.specs.declared.requests.Request.TheVariants.{Ask, Join, Begin, Commit, Abort, Disconnect}
-use Rattle.session_core.specs.declared.phase.Phase.{Phase}
-use Rattle.session_core.specs.declared.phase.Phase.TheVariants.{New, Open, Ended, Failed}
+use Rattle.session_core.specs.declared.session.Phase.{Phase}
+use Rattle.session_core.specs.declared.session.Phase.TheVariants.{New, Open, Ended, Failed}
 use Rattle.session_core.specs.ReadFrames.{receipt_of}
 use Rattle.session_core.specs.Requests.{asked, asked_first}
 

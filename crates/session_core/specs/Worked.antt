@@ -9,11 +9,11 @@ use Rattle.command_core.specs.declared.command.Op.TheVariants as ops
 use Rattle.command_core.specs.declared.fault.Fault.{Fault}
 use Rattle.command_core.specs.declared.command.Member.{Member}
 use Rattle.command_core.specs.declared.command.Member.TheVariants as members
-use Rattle.session_core.specs.declared.act.Act.{Act}
-use Rattle.session_core.specs.declared.act.Act.TheVariants as acts
-use Rattle.session_core.specs.declared.act.CloseCode.TheVariants as closes
-use Rattle.session_core.specs.declared.phase.Phase.{Phase}
-use Rattle.session_core.specs.declared.phase.Phase.TheVariants as phases
+use Rattle.session_core.specs.declared.session.Act.{Act}
+use Rattle.session_core.specs.declared.session.Act.TheVariants as acts
+use Rattle.session_core.specs.declared.session.CloseCode.TheVariants as closes
+use Rattle.session_core.specs.declared.session.Phase.{Phase}
+use Rattle.session_core.specs.declared.session.Phase.TheVariants as phases
 
 -- a CONNECT that offers these versions
 abbrev pub connect : List ℕ → Frame

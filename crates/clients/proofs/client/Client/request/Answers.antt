@@ -1,7 +1,7 @@
 use Rattle.std.proofs.Common.{◌≡◌, ◌<◌, ◌≤◌, ◌∷◌, ◌∙◌, Some, [], ap, arith, inl, refl, subst, sym}
 use Rattle.command_core.specs.Commands.{CommandValue}
 use Rattle.command_core.specs.declared.command.Op.{Op}
-use Rattle.session_core.specs.declared.act.Act.TheVariants.{Do}
+use Rattle.session_core.specs.declared.session.Act.TheVariants.{Do}
 use Rattle.clients.specs.Connections.{connection_of}
 use Rattle.clients.specs.Progress.{IsNext}
 use Rattle.clients.specs.Footprints.{charged, total}

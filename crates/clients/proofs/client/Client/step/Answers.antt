@@ -1,7 +1,7 @@
 use Rattle.std.proofs.Common.{◌≡◌, ◌∙◌, Some, ap, refl, rules, subst, sym}
 use Rattle.clients.specs.Connections.{Takes, connection_of}
-use Rattle.session_core.specs.declared.act.Act.{Act}
-use Rattle.session_core.specs.declared.act.Act.TheVariants.{Close, Direct, Do}
+use Rattle.session_core.specs.declared.session.Act.{Act}
+use Rattle.session_core.specs.declared.session.Act.TheVariants.{Close, Direct, Do}
 use Rattle.clients.proofs.Answering.{quiet_takes}
 use Rattle.clients.proofs.Going.{goes_closing, goes_none, goes_resting, goes_taken, goes_telling, goes_waiting, not_some, still_executes}
 use Rattle.clients.proofs.Living.{next_so}

@@ -1,6 +1,6 @@
 use Rattle.std.proofs.Common.{inr, refl, subst, ap}
 use Rattle.clients.specs.Connections.{connection_of}
-use Rattle.session_core.specs.declared.act.Act.TheVariants.{Direct}
+use Rattle.session_core.specs.declared.session.Act.TheVariants.{Direct}
 use Rattle.clients.specs.Histories.{HasTold, Taken}
 use Rattle.clients.specs.declared.ended.Ended.TheVariants.{Bad}
 use Rattle.clients.specs.declared.stage.Stage.TheVariants.{Closing}
