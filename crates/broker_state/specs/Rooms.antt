@@ -1,6 +1,6 @@
 use Rattle.std.specs.Prelude.{◌≡◌, ◌+◌, ◌≤◌, ℕ, MatchOption, Option}
 use Rattle.line_core.specs.declared.message.Message.{Message}
-use Rattle.broker_state.specs.declared.held.Held.{Held}
+use Rattle.broker_state.specs.declared.limits.Held.{Held}
 use Rattle.broker_state.specs.States.{bytes, one}
 
 -- What is left of a room once messages are in it that weigh so much, or nothing if they do not fit.

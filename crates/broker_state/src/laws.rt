@@ -1,6 +1,6 @@
 //! What follows from the definitions of the broker's states and outputs. Nothing is run.
 
-ghost use Rattle.std.specs.Prelude.{◌≡◌, ◌<◌, ◌≤◌, ◌+◌, ◌&&◌, ◌∷◌, ◌++◌, List, [], ℕ, Err, None, Option, Some, count_by, false, fold, true, if◌then◌else◌, length};
+ghost use Rattle.std.specs.Prelude.{◌≡◌, ◌<◌, ◌≤◌, ◌+◌, ◌&&◌, ◌∷◌, ◌++◌, List, [], ℕ, Err, None, Option, Some, count_by, false, fold, true, if◌then◌else◌, length, Ok, codes};
 ghost use Rattle.std.specs.List.{AllByRecursion, sum_by};
 ghost use Rattle.std.specs.Map.{keys_of};
 ghost use Rattle.command_core.specs.Commands.{CommandValue};
@@ -13,17 +13,21 @@ ghost use Rattle.line_core.specs.declared.message.Message.{Message};
 ghost use Rattle.line_core.specs.declared.message.MessageNumber.{MessageNumber};
 ghost use Rattle.broker_state.specs.declared.nack_rule.NackRule.{NackRule};
 ghost use Rattle.broker_state.specs.declared.subscription.Subscription.{Subscription};
-ghost use Rattle.broker_state.specs.Executing.{executed};
+ghost use Rattle.broker_state.specs.Executing.{executed, HasFewMembers};
 ghost use Rattle.broker_state.specs.HandOut.{can_take, hand_out, handed, is_auto, settled};
 ghost use Rattle.broker_state.specs.Kept.{kept_in_queue, kept_under};
 ghost use Rattle.broker_state.specs.Lists.{picked};
 ghost use Rattle.broker_state.specs.Names.{Name};
 ghost use Rattle.broker_state.specs.Operations.{ended, message_of, restarted, fanned_out};
-ghost use Rattle.broker_state.specs.Sound.{IsSound};
+ghost use Rattle.broker_state.specs.Sound.{IsSound, HasLines, HasNames, HasNumbers, HasSubscriptions, HasLimits};
 ghost use Rattle.broker_state.specs.States.{State, IsInOrder, bytes, empty_state, held_bytes, held_messages, is_open, standing, weight_of};
 ghost use Rattle.broker_state.specs.Waiting.{line_for};
 ghost use Rattle.broker_state.specs.Copies.{AddsNothing, AreSingle, LeavesNewOut};
-ghost use Rattle.broker_state.specs.Steps.{Event, MayBefall, done, is_opening, outs_by, outs_of_by, state_after_all, state_after_by, step_by};
+ghost use Rattle.broker_state.specs.Steps.{Event, MayBefall, done, is_opening, outs_by, outs_of_by, state_after_all, state_after_by, step_by, state_after, state_after_v1};
+ghost use Rattle.broker_state.specs.declared.nack_rule.NackRule.TheVariants.{Keeps};
+ghost use Rattle.broker_state.specs.Dead.{nacked};
+ghost use Rattle.broker_state.specs.Refusals.{LosesOnlyDropped};
+ghost use Rattle.broker_state.specs.Worked.{dead, refuses_both, refuses_each, two_sent};
 
 /// Commands and then others do what the others do after the first, and give the outputs of both in turn.
 pub fn commands_follow_one_another()
@@ -117,4 +121,75 @@ pub fn restarts_keep_what_is_kept()
 /// A restart is the end of each session in turn.
 pub fn restarts_end_each_session_in_turn()
     ensures { (s : State) → IsSound s → restarted s ≡ fold ended s (keys_of s.sessions) }
+{}
+
+/// A NACK that is carried out loses nothing but what its rule drops. Of what its subscription had not acknowledged, what it
+/// does not settle stays so. Each other message is dropped or stands in `/queue/dead` with its headers and body. What
+/// waited there still does, and all else stays: other deliveries, and the lines of durable names and of other queues. So
+/// whatever a message may weigh by its headers and body, the state is lighter only by what is dropped.
+pub fn refusals_lose_nothing_else()
+    ensures { (s t : State) (session member delivery : ℕ) → nacked Keeps s session member delivery ≡ Ok t
+        → LosesOnlyDropped s t session delivery }
+{}
+
+/// No line that stays is empty. Messages stand only in lines of their destination, and are unacknowledged there. In a line
+/// and what is unacknowledged from it none stands twice. Nothing stands at first. Each restart keeps this, and so does each
+/// command whose transaction has at most 64 members, as all have.
+pub fn lines_keep_their_messages()
+    ensures first { HasLines empty_state }
+    ensures step { (rule : NackRule) (s : State) (c : CommandValue) → HasFewMembers c.op
+        → IsInOrder s → HasSubscriptions s → HasNames s → HasNumbers s → HasLines s → HasLines (step_by rule s c) }
+    ensures restart { (s : State) → IsInOrder s → HasNames s → HasLines s → HasLines (restarted s) }
+{}
+
+/// Messages have numbers of commands that are counted. Deliveries are under the next one, and none is unacknowledged
+/// twice. So it is in the first state, and each command and each restart keeps it so.
+pub fn numbers_stay_under_the_next()
+    ensures first { HasNumbers empty_state }
+    ensures step { (rule : NackRule) (s : State) (c : CommandValue) → IsInOrder s → HasNumbers s → HasNumbers (step_by rule s c) }
+    ensures restart { (s : State) → IsInOrder s → HasNumbers s → HasNumbers (restarted s) }
+{}
+
+/// Subscriptions are of open sessions, at most 16 of each, under ids that differ. At most 16 deliveries of each are
+/// unacknowledged, and none with `auto`. The first state has no subscription, and each command and each restart keeps this.
+pub fn subscriptions_stay_within_their_limits()
+    ensures first { HasSubscriptions empty_state }
+    ensures step { (rule : NackRule) (s : State) (c : CommandValue) → IsInOrder s → HasSubscriptions s → HasSubscriptions (step_by rule s c) }
+    ensures restart { (s : State) → IsInOrder s → HasSubscriptions s → HasSubscriptions (restarted s) }
+{}
+
+/// At most 256 durable names are bound, each to a topic. The subscription that uses one is of the name's client and of its
+/// topic, and there is at most one. Lines stand only under bound names. No name is bound at first, and each command and
+/// each restart keeps this.
+pub fn durable_names_stay_bound()
+    ensures first { HasNames empty_state }
+    ensures step { (rule : NackRule) (s : State) (c : CommandValue) → IsInOrder s → HasNames s → HasNames (step_by rule s c) }
+    ensures restart { (s : State) → IsInOrder s → HasNames s → HasNames (restarted s) }
+{}
+
+/// At most 4,096 messages and 16,777,216 bytes are held, and nothing that could be handed out waits. Nothing is held at
+/// first, and each command and each restart keeps this.
+pub fn limits_are_kept()
+    ensures first { HasLimits empty_state }
+    ensures step { (rule : NackRule) (s : State) (c : CommandValue) → IsInOrder s → HasLimits s → HasLimits (step_by rule s c) }
+    ensures restart { (s : State) → IsInOrder s → HasLimits s → HasLimits (restarted s) }
+{}
+
+/// The first state is one that a broker can have. Each restart leads from such a state to another, and so does each step
+/// whose command's transaction has at most 64 members, as all have.
+pub fn states_stay_sound()
+    ensures first { IsSound empty_state }
+    ensures step { (rule : NackRule) (s : State) (c : CommandValue) → HasFewMembers c.op → IsSound s → IsSound (step_by rule s c) }
+    ensures restart { (s : State) → IsSound s → IsSound (restarted s) }
+{}
+
+/// Command 4 refuses two messages of a queue. By one NACK they have the places 64 and 65, and as members of a
+/// transaction 64 and 80. By the rule of version 1 nothing is left of them.
+pub fn refused_messages_are_numbered()
+    ensures one { (state_after empty_state (two_sent ++ refuses_both ∷ [])).shared.queues
+        ≡ (codes "/queue/dead", dead 64 ∷ dead 65 ∷ []) ∷ [] }
+    ensures each { (state_after empty_state (two_sent ++ refuses_each ∷ [])).shared.queues
+        ≡ (codes "/queue/dead", dead 64 ∷ dead 80 ∷ []) ∷ [] }
+    ensures old { (state_after_v1 empty_state (two_sent ++ refuses_both ∷ [])).shared.queues ≡ [] }
+    ensures none { held_messages (state_after_v1 empty_state (two_sent ++ refuses_each ∷ [])) ≡ 0 }
 {}

@@ -8,7 +8,7 @@ use Rattle.std.proofs.lemmas.Option.{same_Some}
 use Rattle.command_core.specs.Outs.{OutValue}
 use Rattle.line_core.specs.declared.message.Message.{Message}
 use Rattle.line_core.specs.Flights.{IsOver}
-use Rattle.broker_state.specs.declared.held.Held.{Held}
+use Rattle.broker_state.specs.declared.limits.Held.{Held}
 use Rattle.broker_state.specs.declared.subscription.Subscription.{Subscription}
 use Rattle.broker_state.specs.HandOut.{can_take, delivered, has_room, is_auto, message_out}
 use Rattle.broker_state.specs.Lists.{is_none}

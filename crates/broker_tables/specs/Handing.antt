@@ -3,7 +3,7 @@ use Rattle.command_core.specs.Outs.{OutValue}
 use Rattle.line_core.specs.declared.message.Message.{Message}
 use Rattle.line_core.specs.Flights.{IsOver}
 use Rattle.line_core.specs.Lines.{first_of}
-use Rattle.broker_state.specs.declared.held.Held.{Held}
+use Rattle.broker_state.specs.declared.limits.Held.{Held}
 use Rattle.broker_state.specs.declared.subscription.Subscription.{Subscription}
 use Rattle.broker_state.specs.HandOut.{can_take, delivered, is_auto, message_out}
 use Rattle.broker_state.specs.States.{bytes}

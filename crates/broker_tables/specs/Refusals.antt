@@ -3,7 +3,7 @@ use Rattle.std.specs.List.{sum_by}
 use Rattle.line_core.specs.declared.message.Message.{Message}
 use Rattle.line_core.specs.declared.message.MessageNumber.{MessageNumber}
 use Rattle.line_core.specs.Messages.{size_of}
-use Rattle.broker_state.specs.declared.held.Held.{Held}
+use Rattle.broker_state.specs.declared.limits.Held.{Held}
 use Rattle.broker_state.specs.Dead.{dead_queue, is_dropped, refused_from, with_refused}
 use Rattle.broker_state.specs.States.{bytes, one}
 use Rattle.broker_state.specs.Waiting.{Shared}

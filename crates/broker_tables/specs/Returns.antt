@@ -3,7 +3,7 @@ use Rattle.std.specs.List.{sum_by}
 use Rattle.line_core.specs.declared.message.Message.{Message}
 use Rattle.command_core.specs.Destinations.{is_queue}
 use Rattle.broker_state.specs.Names.{Name, name_cmp, text_cmp}
-use Rattle.broker_state.specs.declared.held.Held.{Held}
+use Rattle.broker_state.specs.declared.limits.Held.{Held}
 use Rattle.broker_state.specs.declared.subscription.Subscription.{Subscription}
 use Rattle.broker_state.specs.States.{bytes, one, weight_of_subscription}
 use Rattle.broker_state.specs.Waiting.{Shared, weight_of_lines, weight_of_shared, with_deliveries}

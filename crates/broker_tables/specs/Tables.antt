@@ -1,5 +1,5 @@
 use Rattle.std.specs.Prelude.{◌≡◌, ◌≤◌, ◌^◌, List, ℕ, Bool}
-use Rattle.broker_state.specs.declared.held.Held.{Held}
+use Rattle.broker_state.specs.declared.limits.Held.{Held}
 use Rattle.broker_state.specs.States.{IsNext, State, held_bytes, held_messages}
 use Rattle.broker_tables.specs.declared.due.Due.{Due}
 use Rattle.broker_tables.specs.declared.stock.Stock.{Stock}

@@ -6,7 +6,7 @@ use Rattle.std.specs.List.{flat_map, sum_by}
 use Rattle.std.specs.List.Sorted.{IsNonDecreasingBy, IsPermutation}
 use Rattle.line_core.specs.declared.message.Message.{Message}
 use Rattle.script_text.specs.PercentTexts.{encoded}
-use Rattle.broker_state.specs.declared.held.Held.{Held}
+use Rattle.broker_state.specs.declared.limits.Held.{Held}
 use Rattle.broker_state.specs.Names.{Name, name_cmp}
 use Rattle.broker_state.specs.States.{State, bytes, held_bytes, held_messages}
 use Rattle.broker_state.specs.Operations.{restarted}

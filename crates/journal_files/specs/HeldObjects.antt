@@ -3,7 +3,7 @@ use Rattle.std.specs.Prelude.{◌++◌, List, [], ◌∷◌, ℕ, Option, codes,
 use Rattle.std.specs.List.{flat_map, sum_by}
 use Rattle.json.specs.Token.{Token, key}
 use Rattle.line_core.specs.declared.message.Message.{Message}
-use Rattle.broker_state.specs.declared.held.Held.{Held}
+use Rattle.broker_state.specs.declared.limits.Held.{Held}
 use Rattle.broker_state.specs.Names.{Name, name_cmp}
 use Rattle.broker_state.specs.Operations.{restarted}
 use Rattle.broker_state.specs.States.{State, bytes}

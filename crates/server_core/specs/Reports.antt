@@ -1,6 +1,6 @@
 -- What a server reports of itself.
 use Rattle.std.specs.Prelude.{◌≡◌, ◌<◌, ◌*◌, ◌/◌, ◌-◌, ◌^◌, ℕ, Bool, true, max, min}
-use Rattle.broker_state.specs.declared.held.Held.{Held}
+use Rattle.broker_state.specs.declared.limits.Held.{Held}
 use Rattle.broker_state.specs.declared.limits.TheConstants.{MOST_BYTES, MOST_MESSAGES}
 
 -- a compaction has left more than three quarters of an area used

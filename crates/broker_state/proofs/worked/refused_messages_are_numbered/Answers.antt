@@ -1,5 +1,0 @@
-use Rattle.std.proofs.Common.{refl}
-use Rattle.broker_state.proofs.worked.refused_messages_are_numbered.Goals as goal
-
-pub returns : goal.returns
-returns c = record { one = refl; each = refl; old = refl; none = refl }
