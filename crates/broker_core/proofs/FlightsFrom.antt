@@ -5,8 +5,8 @@ use Rattle.std.proofs.lemmas.Bool.Decides.{nat_tests}
 use Rattle.std.proofs.lemmas.Option.{none-some, same_Some}
 use Rattle.broker_state.specs.Operations.{is_of}
 use Rattle.broker_state.proofs.Weights.{all_at}
-use Rattle.waiting_order.specs.declared.key.Key.{Key}
-use Rattle.waiting_order.specs.declared.waiter.Waiter.{Waiter}
+use Rattle.waiting_order.specs.declared.waiters.Key.{Key}
+use Rattle.waiting_order.specs.declared.waiters.Waiter.{Waiter}
 use Rattle.waiting_order.specs.Tickets.{IsRising}
 use Rattle.waiting_order.specs.Waiting.{subs_of}
 use Rattle.broker_core.specs.declared.precheck.PrecheckFlight.{PrecheckFlight}

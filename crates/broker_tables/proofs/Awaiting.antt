@@ -16,8 +16,8 @@ use Rattle.broker_state.specs.HandOut.{can_take}
 use Rattle.broker_state.specs.Lists.{is_none}
 use Rattle.broker_state.specs.Waiting.{left_shared, line_for}
 use Rattle.broker_state.proofs.Weights.{all_at}
-use Rattle.waiting_order.specs.declared.places.Place.{Place}
-use Rattle.waiting_order.specs.declared.waiter.Waiter.{Waiter}
+use Rattle.waiting_order.specs.declared.groups.Place.{Place}
+use Rattle.waiting_order.specs.declared.waiters.Waiter.{Waiter}
 use Rattle.waiting_order.specs.Waiting.{IsOrdered, subs_of}
 use Rattle.waiting_order.proofs.Rising.{rising_at}
 use Rattle.broker_tables.specs.declared.cursors.Cursor.{Cursor}

@@ -8,8 +8,8 @@ use Rattle.broker_state.specs.declared.subscription.Subscription.{Subscription}
 use Rattle.broker_state.specs.Lists.{is_none}
 use Rattle.broker_state.specs.Names.{Name, text_cmp}
 use Rattle.broker_state.specs.Waiting.{Shared, is_own, line_at, line_for, line_from}
-use Rattle.waiting_order.specs.declared.places.Place.{Place}
-use Rattle.waiting_order.specs.declared.waiter.Waiter.{Waiter}
+use Rattle.waiting_order.specs.declared.groups.Place.{Place}
+use Rattle.waiting_order.specs.declared.waiters.Waiter.{Waiter}
 use Rattle.waiting_order.specs.Directories.{AreAlike, IsFirstFrom, IsNext, NoneFrom, behind_in, is_behind, is_in}
 use Rattle.waiting_order.specs.Waiting.{IsOrdered, Waiting}
 use Rattle.waiting_order.proofs.Rising.{rising_before}

@@ -14,7 +14,7 @@ use Rattle.broker_state.specs.States.{State, bytes, one, weight_of_subscription}
 use Rattle.broker_state.specs.Waiting.{line_for, weight_of_shared}
 use Rattle.broker_state.proofs.Served.{counted_after, first_and_rest, handed_made, held_after, next_after, no_more_after, number_of_ready, waits_less}
 use Rattle.broker_state.proofs.Serving.{serves, settled_none}
-use Rattle.waiting_order.specs.declared.key.Key.{Key}
+use Rattle.waiting_order.specs.declared.waiters.Key.{Key}
 use Rattle.waiting_order.specs.Waiting.{IsOrdered, Waiting, subs_of}
 use Rattle.waiting_order.proofs.Keeping.{subs_pushed}
 use Rattle.broker_tables.specs.declared.cursors.Cursor.{Cursor}

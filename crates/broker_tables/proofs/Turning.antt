@@ -20,8 +20,8 @@ use Rattle.broker_state.specs.States.{State, bytes, one, weight_of_subscription}
 use Rattle.broker_state.specs.Waiting.{Shared, is_own, line_for, weight_of_shared}
 use Rattle.broker_state.proofs.Served.{next_after}
 use Rattle.broker_state.proofs.Weights.{all_at, all_removed, sum_by-removed}
-use Rattle.waiting_order.specs.declared.places.Place.{Place}
-use Rattle.waiting_order.specs.declared.waiter.Waiter.{Waiter}
+use Rattle.waiting_order.specs.declared.groups.Place.{Place}
+use Rattle.waiting_order.specs.declared.waiters.Waiter.{Waiter}
 use Rattle.waiting_order.specs.Directories.{IsFirstFrom, NoneFrom, is_in, is_plain_at, members}
 use Rattle.waiting_order.specs.Waiting.{IsOrdered, Waiting, subs_of}
 use Rattle.waiting_order.proofs.Directories.{none_left}

@@ -11,7 +11,7 @@ use Rattle.broker_state.specs.Parts.{NonePass}
 use Rattle.broker_state.specs.States.{State}
 use Rattle.broker_state.proofs.Firsts.{picked_first, picked_none}
 use Rattle.broker_state.proofs.Weights.{sum_by-removed}
-use Rattle.waiting_order.specs.declared.key.Key.{Key}
+use Rattle.waiting_order.specs.declared.waiters.Key.{Key}
 use Rattle.waiting_order.specs.Waiting.{subs_of}
 use Rattle.broker_tables.specs.Places.{IsFirstAt}
 use Rattle.broker_tables.proofs.Waiters.{W, sub_at}

@@ -11,9 +11,9 @@ use Rattle.broker_state.specs.Operations.{copied}
 use Rattle.broker_state.specs.Parts.{IsFirst, NonePass}
 use Rattle.broker_state.specs.Waiting.{is_own}
 use Rattle.broker_state.proofs.Sendings.{copied_other, copied_own}
-use Rattle.waiting_order.specs.declared.key.Key.{Key}
-use Rattle.waiting_order.specs.declared.places.Place.{Place}
-use Rattle.waiting_order.specs.declared.waiter.Waiter.{Waiter}
+use Rattle.waiting_order.specs.declared.waiters.Key.{Key}
+use Rattle.waiting_order.specs.declared.groups.Place.{Place}
+use Rattle.waiting_order.specs.declared.waiters.Waiter.{Waiter}
 use Rattle.waiting_order.specs.Directories.{IsFirstFrom, NoneFrom, is_plain_at}
 use Rattle.waiting_order.specs.Keeping.{put_where, with_sub}
 use Rattle.waiting_order.specs.Waiting.{subs_of}

@@ -10,9 +10,9 @@ use Rattle.broker_state.specs.Operations.{fanned_out}
 use Rattle.broker_tables.specs.declared.stock.Stock.{Stock}
 use Rattle.broker_tables.specs.Answers.{Answered, with_outs}
 use Rattle.broker_tables.specs.Stocks.{shown}
-use Rattle.waiting_order.specs.declared.key.Key.{Key}
-use Rattle.waiting_order.specs.declared.places.Place.{Place}
-use Rattle.waiting_order.specs.declared.waiter.Waiter.{Waiter}
+use Rattle.waiting_order.specs.declared.waiters.Key.{Key}
+use Rattle.waiting_order.specs.declared.groups.Place.{Place}
+use Rattle.waiting_order.specs.declared.waiters.Waiter.{Waiter}
 use Rattle.waiting_order.specs.Directories.{AreOfGroup, IsFirstFrom, behind_in, is_in, is_plain_at}
 use Rattle.waiting_order.specs.Waiting.{subs_of}
 

@@ -14,8 +14,8 @@ use Rattle.broker_tables.specs.declared.stock.Readiness.TheVariants.{Ready, Held
 use Rattle.broker_tables.specs.Places.{HoldsAtKey, IsFirstAt}
 use Rattle.broker_tables.specs.Scopes.{IdleUntil, is_within}
 use Rattle.broker_tables.specs.Stocks.{stocked}
-use Rattle.waiting_order.specs.declared.key.Key.{Key}
-use Rattle.waiting_order.specs.declared.waiter.Waiter.{Waiter}
+use Rattle.waiting_order.specs.declared.waiters.Key.{Key}
+use Rattle.waiting_order.specs.declared.waiters.Waiter.{Waiter}
 use Rattle.waiting_order.specs.Waiting.{subs_of}
 
 -- cursors, in no particular order

@@ -15,8 +15,8 @@ use Rattle.broker_tables.specs.Returns.{HandFirst}
 use Rattle.broker_tables.specs.Stocks.{stocked}
 use Rattle.broker_state.specs.Parts.{IsFirst}
 use Rattle.waiting_order.specs.Waiting.{subs_of}
-use Rattle.waiting_order.specs.declared.key.Key.{Key}
-use Rattle.waiting_order.specs.declared.waiter.Waiter.{Waiter}
+use Rattle.waiting_order.specs.declared.waiters.Key.{Key}
+use Rattle.waiting_order.specs.declared.waiters.Waiter.{Waiter}
 
 -- A subscription's least message has left the lines that stay, or its own.
 pub record LeavesLine (shared : Shared) (sub : Subscription) (shared_after : Shared) : Type 0 where

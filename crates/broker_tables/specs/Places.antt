@@ -7,9 +7,9 @@ use Rattle.broker_state.specs.Lists.{changed}
 use Rattle.broker_state.specs.Operations.{is_named, is_of, without}
 use Rattle.broker_state.specs.Parts.{IsFirst, NonePass}
 use Rattle.broker_state.specs.States.{State}
-use Rattle.waiting_order.specs.declared.key.Key.{Key}
-use Rattle.waiting_order.specs.declared.waiter.Waiter.{Waiter}
-use Rattle.waiting_order.specs.declared.places.Place.{Place}
+use Rattle.waiting_order.specs.declared.waiters.Key.{Key}
+use Rattle.waiting_order.specs.declared.waiters.Waiter.{Waiter}
+use Rattle.waiting_order.specs.declared.groups.Place.{Place}
 use Rattle.waiting_order.specs.Keeping.{with_sub}
 use Rattle.waiting_order.specs.Waiting.{Waiting, subs_of}
 

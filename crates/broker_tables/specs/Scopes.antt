@@ -7,9 +7,9 @@ use Rattle.broker_tables.specs.declared.due.Due.{Due}
 use Rattle.broker_tables.specs.declared.scope.Scope.{Scope}
 use Rattle.broker_tables.specs.declared.scope.Scope.TheVariants.{Session, Group}
 use Rattle.broker_tables.specs.Dues.{is_under}
-use Rattle.waiting_order.specs.declared.key.Key.{Key}
-use Rattle.waiting_order.specs.declared.places.Place.{Place}
-use Rattle.waiting_order.specs.declared.waiter.Waiter.{Waiter}
+use Rattle.waiting_order.specs.declared.waiters.Key.{Key}
+use Rattle.waiting_order.specs.declared.groups.Place.{Place}
+use Rattle.waiting_order.specs.declared.waiters.Waiter.{Waiter}
 use Rattle.waiting_order.specs.Directories.{is_in}
 
 -- whether who stands there is one of a scope

@@ -7,7 +7,7 @@ use Rattle.broker_state.specs.Lists.{changed, is_none}
 use Rattle.broker_state.proofs.Weights.{sum_by-changed, sum_by-part, sum_by-removed}
 use Rattle.waiting_order.specs.Directories.{behind_in, is_behind, is_in, members, place_of}
 use Rattle.waiting_order.specs.Groups.{one}
-use Rattle.waiting_order.specs.declared.waiter.Waiter.{Waiter}
+use Rattle.waiting_order.specs.declared.waiters.Waiter.{Waiter}
 use Rattle.waiting_order.proofs.Timed.{W}
 
 pub eq_is : (a b : ℕ) → (a == b) ≡ true → a ≡ b

@@ -19,9 +19,9 @@ use Rattle.broker_state.specs.Operations.{uses}
 use Rattle.broker_state.proofs.Keys.{is_eq-name_cmp, name_itself, same_names, same_texts}
 use Rattle.broker_state.proofs.Lookups.{is_equal}
 use Rattle.broker_state.proofs.Weights.{all_at, all_removed}
-use Rattle.waiting_order.specs.declared.group.Group.{Group}
-use Rattle.waiting_order.specs.declared.places.Place.{Place}
-use Rattle.waiting_order.specs.declared.waiter.Waiter.{Waiter}
+use Rattle.waiting_order.specs.declared.groups.Group.{Group}
+use Rattle.waiting_order.specs.declared.groups.Place.{Place}
+use Rattle.waiting_order.specs.declared.waiters.Waiter.{Waiter}
 use Rattle.waiting_order.specs.Directories.{AreFilled, AreOfGroup, IsGroup, IsIndex, behind_in, group_at, grouped, is_behind, is_in, is_plain_at, members, place_of}
 use Rattle.waiting_order.specs.Groups.{HasHandle, HasNone, OthersStay, grown, one, shrunk}
 use Rattle.waiting_order.specs.Tickets.{IsRising, without}

@@ -11,9 +11,9 @@ use Rattle.broker_state.specs.declared.subscription.Subscription.{Subscription}
 use Rattle.broker_state.specs.Lists.{changed, is_none}
 use Rattle.broker_state.specs.Names.{Name, name_cmp, text_cmp}
 use Rattle.broker_state.specs.Operations.{uses}
-use Rattle.waiting_order.specs.declared.directory.Directory.{Directory}
-use Rattle.waiting_order.specs.declared.places.Place.{Place}
-use Rattle.waiting_order.specs.declared.waiter.Waiter.{Waiter}
+use Rattle.waiting_order.specs.declared.groups.Directory.{Directory}
+use Rattle.waiting_order.specs.declared.groups.Place.{Place}
+use Rattle.waiting_order.specs.declared.waiters.Waiter.{Waiter}
 use Rattle.waiting_order.specs.Directories.{AreAlike, AreFilled, AreFound, GroupsAreAlike, IsGroup, IsSlotted, KeepsPlace, KeepsPlaces, behind_in, group_at, grouped, is_behind, is_in, is_plain_at, members, place_of}
 use Rattle.waiting_order.specs.Keeping.{put_in, put_into, put_where}
 use Rattle.waiting_order.specs.Waiting.{subs_of}
@@ -22,7 +22,7 @@ use Rattle.broker_state.proofs.Keys.{name_itself}
 use Rattle.waiting_order.proofs.Behind.{behind_changed, counts, eq_is, eq_itself, eq_not}
 use Rattle.waiting_order.proofs.Directories.{filled_at, fits_at, in_group, name_has, name_key, plain_has, plain_key, somewhere, text_itself}
 use Rattle.waiting_order.proofs.Members.{count_members, members_alike, members_none}
-use Rattle.waiting_order.specs.declared.group.Group.{Group}
+use Rattle.waiting_order.specs.declared.groups.Group.{Group}
 use Rattle.waiting_order.proofs.Timed.{W, clash}
 
 keeps : (w : W) → KeepsPlace w w

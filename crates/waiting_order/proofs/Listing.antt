@@ -11,7 +11,7 @@ use Rattle.std.proofs.lemmas.Bool.Decides.{nat_tests}
 use Rattle.std.proofs.lemmas.List.Sums.{sum_by-cons}
 use Rattle.std.proofs.lemmas.Option.{none-some, same_Some}
 use Rattle.broker_state.specs.declared.subscription.Subscription.{Subscription}
-use Rattle.waiting_order.specs.declared.key.Key.{Key}
+use Rattle.waiting_order.specs.declared.waiters.Key.{Key}
 use Rattle.waiting_order.specs.Tickets.{IsRising}
 use Rattle.waiting_order.specs.Waiting.{AreTimed, by_ticket, subs_of, waiter_at}
 use Rattle.waiting_order.proofs.Timed.{W, has_ticket, in_order, place_is, rises, stands_there, ticket_of}

@@ -3,9 +3,9 @@ use Rattle.std.proofs.Common.{◌≡◌, ◌≢◌, ◌≤◌, ◌+◌, ◌&&◌
 use Rattle.line_core.specs.Lines.{inserted}
 use Rattle.line_core.specs.declared.message.Message.{Message}
 use Rattle.broker_state.specs.Lists.{changed, is_none}
-use Rattle.waiting_order.specs.declared.group.Group.{Group}
-use Rattle.waiting_order.specs.declared.places.Place.{Place}
-use Rattle.waiting_order.specs.declared.waiter.Waiter.{Waiter}
+use Rattle.waiting_order.specs.declared.groups.Group.{Group}
+use Rattle.waiting_order.specs.declared.groups.Place.{Place}
+use Rattle.waiting_order.specs.declared.waiters.Waiter.{Waiter}
 use Rattle.waiting_order.specs.Directories.{KeepsPlaces, behind_in, grouped, is_behind, is_in, members}
 use Rattle.waiting_order.specs.Groups.{one}
 use Rattle.waiting_order.specs.Keeping.{put_into}

@@ -7,7 +7,7 @@ use Rattle.frame_core.proofs.Lists.{all_push, all_weaker}
 use Rattle.broker_state.proofs.Ending.{filter-all_others}
 use Rattle.broker_state.proofs.Firsts.{found}
 use Rattle.broker_state.proofs.Weights.{all_at, all_removed}
-use Rattle.waiting_order.specs.declared.places.Place.{Place}
+use Rattle.waiting_order.specs.declared.groups.Place.{Place}
 use Rattle.waiting_order.specs.Tickets.{HasTicket, IsIndexOf, IsRising, without}
 
 -- what holds in each place holds of all

@@ -7,10 +7,10 @@ use Rattle.std.proofs.lemmas.Option.{none-some, same_Some}
 use Rattle.broker_state.proofs.Weights.{all_at}
 use Rattle.broker_state.specs.declared.subscription.Subscription.{Subscription}
 use Rattle.broker_state.specs.Operations.{is_of}
-use Rattle.waiting_order.specs.declared.key.Key.{Key}
-use Rattle.waiting_order.specs.declared.places.Place.{Place}
-use Rattle.waiting_order.specs.declared.sought.Sought.{Sought}
-use Rattle.waiting_order.specs.declared.waiter.Waiter.{Waiter}
+use Rattle.waiting_order.specs.declared.waiters.Key.{Key}
+use Rattle.waiting_order.specs.declared.groups.Place.{Place}
+use Rattle.waiting_order.specs.declared.finding.Sought.{Sought}
+use Rattle.waiting_order.specs.declared.waiters.Waiter.{Waiter}
 use Rattle.waiting_order.specs.Directories.{IsNext, IsSlotted}
 use Rattle.waiting_order.specs.Keys.{key_eq, key_of}
 use Rattle.waiting_order.specs.Soughts.{IsSeen, IsSeenAt, is_sought, is_sought_of, sooner}

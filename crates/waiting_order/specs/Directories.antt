@@ -9,11 +9,11 @@ use Rattle.broker_state.specs.declared.subscription.Subscription.{Subscription}
 use Rattle.broker_state.specs.Lists.{is_none}
 use Rattle.broker_state.specs.Names.{name_cmp, text_cmp}
 use Rattle.broker_state.specs.Operations.{uses}
-use Rattle.waiting_order.specs.declared.directory.Directory.{Directory}
-use Rattle.waiting_order.specs.declared.group.Group.{Group}
-use Rattle.waiting_order.specs.declared.key.Key.{Key}
-use Rattle.waiting_order.specs.declared.places.Place.{Place}
-use Rattle.waiting_order.specs.declared.waiter.Waiter.{Waiter}
+use Rattle.waiting_order.specs.declared.groups.Directory.{Directory}
+use Rattle.waiting_order.specs.declared.groups.Group.{Group}
+use Rattle.waiting_order.specs.declared.waiters.Key.{Key}
+use Rattle.waiting_order.specs.declared.groups.Place.{Place}
+use Rattle.waiting_order.specs.declared.waiters.Waiter.{Waiter}
 
 -- the subscription is one of that destination, and has no durable name
 abbrev pub is_plain_at : List ℕ → Subscription → Bool

@@ -6,8 +6,8 @@ use Rattle.std.specs.declared.cmp.Ordering.{Ordering}
 use Rattle.slab.specs.Slab.{Slab, get}
 use Rattle.waiting_order.specs.Directories.{group_at}
 use Rattle.waiting_order.specs.Tickets.{without}
-use Rattle.waiting_order.specs.declared.group.Group.{Group}
-use Rattle.waiting_order.specs.declared.places.Place.{Place}
+use Rattle.waiting_order.specs.declared.groups.Group.{Group}
+use Rattle.waiting_order.specs.declared.groups.Place.{Place}
 
 -- one or none
 abbrev pub one : Bool → ℕ

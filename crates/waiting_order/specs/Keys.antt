@@ -1,5 +1,5 @@
 use Rattle.std.specs.Prelude.{◌==◌, ◌&&◌, ℕ, Bool}
-use Rattle.waiting_order.specs.declared.key.Key.{Key}
+use Rattle.waiting_order.specs.declared.waiters.Key.{Key}
 
 -- whether two keys are the same
 abbrev pub key_eq : Key → Key → Bool

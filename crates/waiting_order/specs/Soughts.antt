@@ -3,11 +3,11 @@ use Rattle.std.specs.Str.{bytes_eq}
 use Rattle.line_core.specs.Flights.{has_delivery}
 use Rattle.broker_state.specs.declared.subscription.Subscription.{Subscription}
 use Rattle.broker_state.specs.Operations.{is_of}
-use Rattle.waiting_order.specs.declared.key.Key.{Key}
-use Rattle.waiting_order.specs.declared.places.Place.{Place}
-use Rattle.waiting_order.specs.declared.waiter.Waiter.{Waiter}
-use Rattle.waiting_order.specs.declared.sought.Sought.{Sought}
-use Rattle.waiting_order.specs.declared.sought.Sought.TheVariants.{Any, Id, Delivery}
+use Rattle.waiting_order.specs.declared.waiters.Key.{Key}
+use Rattle.waiting_order.specs.declared.groups.Place.{Place}
+use Rattle.waiting_order.specs.declared.waiters.Waiter.{Waiter}
+use Rattle.waiting_order.specs.declared.finding.Sought.{Sought}
+use Rattle.waiting_order.specs.declared.finding.Sought.TheVariants.{Any, Id, Delivery}
 
 -- whether a subscription is sought
 abbrev pub is_sought : Sought → Subscription → Bool

@@ -1,6 +1,6 @@
 use Rattle.std.specs.Prelude.{◌≡◌, ◌==◌, ◌<◌, ◌≤◌, ⊤, List, [], ◌∷◌, ℕ, Some, filter, length, not, slice_get}
 use Rattle.std.specs.List.{AllByRecursion}
-use Rattle.waiting_order.specs.declared.places.Place.{Place}
+use Rattle.waiting_order.specs.declared.groups.Place.{Place}
 
 -- the number of each item is under those of the items after it
 abbrev pub IsRising : {X : Type 0} → (X → ℕ) → List X → Type 0

@@ -5,15 +5,15 @@ ghost use Rattle.std.specs.List.{AllByRecursion};
 ghost use Rattle.broker_state.specs.Operations.{is_of};
 ghost use Rattle.waiting_order.specs.Directories.{IsNext, IsSlotted};
 ghost use Rattle.waiting_order.specs.Keys.{key_eq};
-ghost use Rattle.waiting_order.specs.Soughts.{IsSeen, is_sought_of};
+ghost use Rattle.waiting_order.specs.Soughts.{IsSeen, is_sought_of, is_sought, sooner};
 ghost use Rattle.waiting_order.specs.Waiting.{IsFree, IsOrdered, subs_of};
-ghost use Rattle.waiting_order.specs.declared.key.Key.{Key};
-ghost use Rattle.waiting_order.specs.declared.waiter.Waiter.{Waiter};
+ghost use Rattle.waiting_order.specs.declared.waiters.Key.{Key};
+ghost use Rattle.waiting_order.specs.declared.waiters.Waiter.{Waiter};
 
-use crate::key::{Key, SLOTS};
-use crate::places::Place;
-use crate::sought::{Sought, is_sought, sooner};
-use crate::waiters::Waiters;
+use crate::groups::Place;
+use crate::waiters::{Key, SLOTS, Waiters};
+use broker_state::Subscription;
+use command_core::HeaderText;
 
 /// How many stand at that key: one or none.
 fn count_at(waiters: &Waiters, key: Key) -> usize
@@ -97,4 +97,37 @@ pub fn first_of(waiters: &Waiters, session: u64, sought: Sought<'_>, from: u64) 
         first = sooner(first, seen);
     }
     first
+}
+
+/// Which subscription of a session is sought.
+#[derive(Clone, Copy)]
+pub enum Sought<'a> {
+    /// Any.
+    Any,
+    /// That of an id.
+    Id(&'a HeaderText),
+    /// One that has not acknowledged a delivery.
+    Delivery(u64),
+}
+
+/// Whether a subscription is sought.
+pub(crate) fn is_sought(sought: Sought<'_>, sub: &Subscription) -> bool
+    ensures { result ≡ is_sought sought.entry sub.now }
+{
+    match sought {
+        Sought::Any => true,
+        Sought::Id(id) => *id == sub.id,
+        Sought::Delivery(delivery) => sub.unacknowledged.contains(delivery),
+    }
+}
+
+/// The place with the lesser ticket.
+pub(crate) fn sooner(a: Option<Place>, b: Option<Place>) -> Option<Place>
+    ensures { result ≡ sooner a b }
+{
+    match (a, b) {
+        (None, b) => b,
+        (Some(p), None) => Some(p),
+        (Some(p), Some(q)) => Some(if p.ticket <= q.ticket { p } else { q }),
+    }
 }

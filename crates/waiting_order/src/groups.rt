@@ -1,6 +1,6 @@
 //! Groups under their handles, and the handles under what the groups are looked for by.
 
-ghost use Rattle.std.specs.Prelude.{◌≡◌, ◌≢◌, ◌+◌, ◌-◌, ◌++◌, ◌∷◌, ◌<◌, ◌≤◌, ◌^◌, [], Bool, List, ℕ, IfOk, None, OnOk, Some, false, length, map, true, unwrap_or};
+ghost use Rattle.std.specs.Prelude.{◌≡◌, ◌≢◌, ◌+◌, ◌-◌, ◌++◌, ◌∷◌, ◌<◌, ◌≤◌, ◌^◌, [], Bool, List, ℕ, IfOk, None, OnOk, Some, false, length, map, true, unwrap_or, OnErr, remove, slice_get};
 ghost use Rattle.std.specs.Option.{option_copied};
 ghost use Rattle.std.specs.BTreeMap.{is_at};
 ghost use Rattle.std.specs.List.{AllByRecursion};
@@ -8,22 +8,23 @@ ghost use Rattle.std.specs.Map.{lookup};
 ghost use Rattle.slab.specs.Slab.{get};
 ghost use Rattle.broker_state.specs.Lists.{is_none};
 ghost use Rattle.broker_state.specs.Names.{AreSame};
-ghost use Rattle.waiting_order.specs.Directories.{IsNext, KeepsPlaces, group_at, grouped, members};
+ghost use Rattle.waiting_order.specs.Directories.{IsNext, KeepsPlaces, group_at, grouped, members, IsDirectory};
 ghost use Rattle.waiting_order.specs.Groups.{AreBefore, HasNone, Joins, OthersStay, one, shrunk};
 ghost use Rattle.waiting_order.specs.Keeping.{put_in};
-ghost use Rattle.waiting_order.specs.Tickets.{HasTicket, IsRising, without};
-ghost use Rattle.waiting_order.specs.declared.group.Group.{Group};
-ghost use Rattle.waiting_order.specs.declared.key.Key.{Key};
-ghost use Rattle.waiting_order.specs.declared.places.Place.{Place};
-ghost use Rattle.waiting_order.specs.declared.waiter.Waiter.{Waiter};
+ghost use Rattle.waiting_order.specs.Tickets.{HasTicket, IsRising, without, IsIndexOf};
+ghost use Rattle.waiting_order.specs.declared.groups.Group.{Group};
+ghost use Rattle.waiting_order.specs.declared.waiters.Key.{Key};
+ghost use Rattle.waiting_order.specs.declared.groups.Place.{Place};
+ghost use Rattle.waiting_order.specs.declared.waiters.Waiter.{Waiter};
 
-use crate::group::Group;
-use crate::places::Place;
-use crate::waiters::Waiters;
+use crate::waiters::{Key, Waiters};
+use broker_state::{DurableName, Subscription};
+use command_core::Dest;
 use line_core::Message;
 use slab::Slab;
 use std::alloc::{AllocError, Global};
-use std::collections::BTreeMap;
+use std::collections::{BTreeMap, VecDeque};
+use std::marker::Model;
 
 /// No handle is under that key any more.
 pub fn forget<K: Ord + Drop>(handles: &mut BTreeMap<K, usize>, key: &K)
@@ -201,4 +202,259 @@ pub fn put_all(
         unreachable!()
     };
     put_among(waiters, group, message)
+}
+
+/// The subscriptions of a destination without a durable name, or the one of a durable name.
+#[derive(Drop)]
+pub struct Group {
+    /// Where they wait.
+    pub places: Places,
+    /// How many of them have something in their own line.
+    pub behind: usize,
+}
+
+impl Group {
+    /// A group of nobody. No memory is taken.
+    pub fn new(alloc: Global) -> Group
+        ensures { result ≡ record { places = []; behind = 0 } }
+    {
+        Group {
+            places: Places::new(alloc),
+            behind: 0,
+        }
+    }
+
+    /// One more, which waits last, and may be behind. If memory is refused, nothing changes.
+    pub fn add(&mut self, place: Place, is_behind: bool) -> Result<(), AllocError>
+        requires last { AllByRecursion (λ (p : Place). p.ticket < place.ticket) self.old.places }
+        requires count { self.old.behind + 1 < 2 ^ 64 }
+        ensures ok { OnOk result (self.new ≡ record { places = self.old.places ++ place ∷ []; behind = self.old.behind + one is_behind }) }
+        ensures same { OnErr result (self.new ≡ self.old) }
+    {
+        self.places.add(place)?;
+        self.count(is_behind);
+        Ok(())
+    }
+
+    /// One more of them may be behind.
+    pub fn count(&mut self, is_behind: bool)
+        requires { self.old.behind + 1 < 2 ^ 64 }
+        ensures { self.new ≡ record self.old { behind = self.old.behind + one is_behind } }
+    {
+        if is_behind {
+            self.behind += 1;
+        }
+    }
+
+    /// The one of that ticket leaves, which may be behind.
+    pub fn take_out(&mut self, ticket: u64, is_behind: bool)
+        requires { one is_behind ≤ self.old.behind }
+        ensures { self.new ≡ record { places = without ticket self.old.places; behind = self.old.behind - one is_behind } }
+    {
+        self.places.take_out(ticket);
+        if is_behind {
+            self.behind -= 1;
+        }
+    }
+}
+
+/// The subscriptions in groups, by what these are looked for. A group's handle is given again once nobody is in it.
+#[derive(Drop)]
+pub struct Directory {
+    /// By destination, the group of those without a durable name.
+    pub destinations: BTreeMap<Dest, usize>,
+    /// By durable name.
+    pub names: BTreeMap<DurableName, usize>,
+    /// By handle.
+    pub groups: Slab<Group>,
+}
+
+impl Directory {
+    /// A directory of no subscriptions. No memory is taken.
+    pub fn new(alloc: Global) -> Directory
+        ensures { IsDirectory result [] }
+    {
+        Directory {
+            destinations: BTreeMap::new(alloc),
+            names: BTreeMap::new(alloc),
+            groups: Slab::new(alloc),
+        }
+    }
+
+    /// A subscription joins its group, at a place after all others, and the group's handle is given. If memory is refused, part
+    /// of it may be done.
+    pub fn join(
+        &mut self,
+        alloc: Global,
+        sub: &Subscription,
+        place: Place,
+    ) -> Result<usize, AllocError>
+        requires { (ws : List (Key × Waiter)) × IsDirectory self.old ws × AllByRecursion (λ (w : Key × Waiter). w.1.ticket < place.ticket) ws
+            × (length ws + 1 < 2 ^ 64) }
+        ensures { IfOk result (λ group. (ws : List (Key × Waiter)) → IsDirectory self.old ws
+            → IsDirectory self.new (ws ++ (place.key, record { ticket = place.ticket; group = group; sub = sub.now }) ∷ [])) }
+    {
+        let is_behind = !sub.line.is_empty();
+        match &sub.durable {
+            Some(name) => join(
+                alloc,
+                &mut self.groups,
+                &mut self.names,
+                name,
+                place,
+                is_behind,
+            ),
+            None => join(
+                alloc,
+                &mut self.groups,
+                &mut self.destinations,
+                &sub.destination,
+                place,
+                is_behind,
+            ),
+        }
+    }
+
+    /// The subscription of that group and ticket leaves.
+    pub fn leave(&mut self, sub: &Subscription, group: usize, ticket: u64)
+        requires { (ws : List (Key × Waiter)) × (at : ℕ) × (key : Key) × (slice_get ws at ≡ Some (key, record { ticket = ticket; group = group; sub = sub.now }))
+            × IsDirectory self.old ws }
+        ensures { (ws : List (Key × Waiter)) (at : ℕ) (key : Key) → IsRising (λ (w : Key × Waiter). w.1.ticket) ws
+            → slice_get ws at ≡ Some (key, record { ticket = ticket; group = group; sub = sub.now })
+            → IsDirectory self.old ws → IsDirectory self.new (remove ws at) }
+    {
+        if !leave(&mut self.groups, group, ticket, !sub.line.is_empty()) {
+            return;
+        }
+        match &sub.durable {
+            Some(name) => forget(&mut self.names, name),
+            None => forget(&mut self.destinations, &sub.destination),
+        }
+    }
+
+    /// The subscription of that group and ticket moves to a place after all others. No memory is taken.
+    pub fn move_last(&mut self, group: usize, ticket: u64, place: Place)
+        requires { (ws : List (Key × Waiter)) × (at : ℕ) × (w : Key × Waiter) × (slice_get ws at ≡ Some w) × (w.1.ticket ≡ ticket) × (w.1.group ≡ group)
+            × IsDirectory self.old ws × AllByRecursion (λ (w : Key × Waiter). w.1.ticket < place.ticket) ws }
+        ensures { (ws : List (Key × Waiter)) (at : ℕ) (w : Key × Waiter) → IsRising (λ (w : Key × Waiter). w.1.ticket) ws
+            → slice_get ws at ≡ Some w → w.1.ticket ≡ ticket → w.1.group ≡ group
+            → IsDirectory self.old ws → IsDirectory self.new (remove ws at ++ (place.key, record w.1 { ticket = place.ticket }) ∷ []) }
+    {
+        move_last(&mut self.groups, group, ticket, place);
+    }
+}
+
+/// Where a subscription waits: its ticket, and its key.
+#[derive(Clone, Copy, Drop)]
+pub struct Place {
+    pub ticket: u64,
+    pub key: Key,
+}
+
+/// Some places by rising ticket. Contracts see the list of them.
+#[derive(Drop)]
+pub struct Places {
+    all: VecDeque<Place>,
+}
+
+impl Model for Places {
+    ghost use Rattle.std.specs.Prelude.{List, ℕ};
+    ghost use Rattle.waiting_order.specs.Tickets.{IsRising};
+    ghost use Rattle.waiting_order.specs.declared.groups.Place.{Place};
+
+    ghost Value = { List Place };
+
+    ghost view = { λ a. a.all.items };
+
+    ghost invariant = { λ a. IsRising (λ (p : Place). p.ticket) a.all.items };
+}
+
+impl Places {
+    /// No places. No memory is taken.
+    pub fn new(alloc: Global) -> Places
+        ensures { result ≡ [] }
+    {
+        Places {
+            all: VecDeque::new(alloc),
+        }
+    }
+
+    /// How many there are.
+    pub fn len(&self) -> usize
+        ensures len { result ≡ length self.now }
+        ensures small { result < 2 ^ 63 }
+        ensures rising { IsRising (λ (p : Place). p.ticket) self.now }
+    {
+        self.all.len()
+    }
+
+    /// The place at that index, if there is one.
+    pub fn get(&self, at: usize) -> Option<Place>
+        ensures { result ≡ slice_get self.now at }
+    {
+        self.all.get(at).copied()
+    }
+
+    /// How many have lesser tickets. If there are none, that is seen without a search.
+    pub fn index_of(&self, ticket: u64) -> usize
+        ensures index { IsIndexOf self.now ticket result }
+        ensures rising { IsRising (λ (p : Place). p.ticket) self.now }
+    {
+        match self.all.front() {
+            Some(first) if first.ticket < ticket => self.search(ticket),
+            _ => 0,
+        }
+    }
+
+    /// How many have lesser tickets, by halves.
+    fn search(&self, ticket: u64) -> usize
+        ensures { IsIndexOf self.now ticket result }
+    {
+        let mut low = 0;
+        let mut high = self.all.len();
+        while low < high {
+            let middle = low + (high - low) / 2;
+            if self.all[middle].ticket < ticket {
+                low = middle + 1;
+                continue;
+            }
+            high = middle;
+        }
+        low
+    }
+
+    /// One more, whose ticket is over all others. If memory is refused, nothing changes.
+    pub fn add(&mut self, place: Place) -> Result<(), AllocError>
+        requires { AllByRecursion (λ (p : Place). p.ticket < place.ticket) self.old }
+        ensures ok { OnOk result (self.new ≡ self.old ++ place ∷ []) }
+        ensures same { OnErr result (self.new ≡ self.old) }
+    {
+        self.all.push_back(place)?;
+        Ok(())
+    }
+
+    /// Takes out the place of that ticket, if it is there.
+    pub fn take_out(&mut self, ticket: u64)
+        ensures { self.new ≡ without ticket self.old }
+    {
+        let at = self.index_of(ticket);
+        let Some(place) = self.get(at) else {
+            return;
+        };
+        if place.ticket != ticket {
+            return;
+        }
+        self.all.remove(at).unwrap();
+    }
+
+    /// The place of that ticket goes, and another one comes after all others. No memory is taken.
+    pub fn move_last(&mut self, ticket: u64, place: Place)
+        requires there { HasTicket ticket self.old }
+        requires last { AllByRecursion (λ (p : Place). p.ticket < place.ticket) self.old }
+        ensures { self.new ≡ without ticket self.old ++ place ∷ [] }
+    {
+        let at = self.index_of(ticket);
+        self.all.remove(at).unwrap();
+        self.all.push_back_reserved(place);
+    }
 }

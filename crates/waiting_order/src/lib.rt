@@ -2,20 +2,12 @@
 
 #![tactic(auto)]
 
-mod directory;
 mod finding;
-mod group;
 mod groups;
-mod key;
-mod last_slots;
 mod order;
-mod places;
-mod sought;
-mod waiter;
 mod waiters;
 
-pub use key::Key;
+pub use finding::Sought;
+pub use groups::Place;
 pub use order::Order;
-pub use places::Place;
-pub use sought::Sought;
-pub use waiter::Waiter;
+pub use waiters::{Key, Waiter};

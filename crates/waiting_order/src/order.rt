@@ -3,7 +3,7 @@
 ghost use Rattle.std.specs.Prelude.{◌≡◌, ◌+◌, ◌++◌, ◌∷◌, ◌<◌, ◌≤◌, ◌^◌, [], ℕ, IfOk, None, OnErr, OnOk, Some, count_by, length, map, remove, slice_get, true};
 ghost use Rattle.std.specs.List.{sum_by};
 ghost use Rattle.broker_state.specs.declared.subscription.Subscription.{Subscription};
-ghost use Rattle.waiting_order.specs.declared.key.Key.{Key};
+ghost use Rattle.waiting_order.specs.declared.waiters.Key.{Key};
 ghost use Rattle.line_core.specs.Flights.{IsOver, has_delivery, settled};
 ghost use Rattle.line_core.specs.Lines.{first_of};
 ghost use Rattle.broker_state.specs.Lists.{changed};
@@ -12,16 +12,11 @@ ghost use Rattle.waiting_order.specs.Directories.{AreFound, GroupsAreAlike, IsGr
 ghost use Rattle.waiting_order.specs.Keeping.{kept_by, put_where, settled_at, taken_from};
 ghost use Rattle.waiting_order.specs.Soughts.{is_sought_of};
 ghost use Rattle.waiting_order.specs.Waiting.{IsOrdered, Stands, subs_of};
-ghost use Rattle.waiting_order.specs.declared.waiter.Waiter.{Waiter};
+ghost use Rattle.waiting_order.specs.declared.waiters.Waiter.{Waiter};
 
-use crate::directory::Directory;
-use crate::finding::{count_of, first_of, free_key};
-use crate::groups::{catch_up, count_in, next_in, put_all};
-use crate::key::Key;
-use crate::places::Place;
-use crate::sought::Sought;
-use crate::waiter::Waiter;
-use crate::waiters::Waiters;
+use crate::finding::{Sought, count_of, first_of, free_key};
+use crate::groups::{Directory, Place, catch_up, count_in, next_in, put_all};
+use crate::waiters::{Key, Waiter, Waiters};
 use broker_state::{DurableName, Subscription};
 use command_core::Dest;
 use indexmap::map::Slice;

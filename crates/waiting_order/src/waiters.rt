@@ -1,30 +1,30 @@
 //! What stands at each key.
 
-ghost use Rattle.std.specs.Prelude.{◌≡◌, ◌==◌, ◌+◌, ◌++◌, ◌∷◌, ◌<◌, ◌≤◌, ◌^◌, [], ℕ, IfNone, IfOk, IfSome, MatchOption, None, OnErr, OnOk, Some, drop, false, length, map, remove, slice_get, true, if◌then◌else◌};
+ghost use Rattle.std.specs.Prelude.{◌≡◌, ◌==◌, ◌+◌, ◌++◌, ◌∷◌, ◌<◌, ◌≤◌, ◌^◌, [], ℕ, IfNone, IfOk, IfSome, MatchOption, None, OnErr, OnOk, Some, drop, false, length, map, remove, slice_get, true, if◌then◌else◌, ◌≢◌, List};
 ghost use Rattle.std.specs.List.{IsDistinct, sum_by};
 ghost use Rattle.std.specs.Map.{keys_of, lookup};
 ghost use Rattle.broker_state.specs.declared.subscription.Subscription.{Subscription};
-ghost use Rattle.waiting_order.specs.declared.key.Key.{Key};
 ghost use Rattle.line_core.specs.Flights.{IsOver, has_delivery, settled};
 ghost use Rattle.line_core.specs.Lines.{first_of, inserted};
 ghost use Rattle.broker_state.specs.Lists.{changed, is_none};
 ghost use Rattle.broker_state.specs.Operations.{settled_by};
+ghost use Rattle.waiting_order.specs.declared.waiters.Key.{Key};
 ghost use Rattle.waiting_order.specs.Keeping.{kept_by, put_into, settled_at, taken_from};
 ghost use Rattle.waiting_order.specs.Keys.{key_eq};
-ghost use Rattle.waiting_order.specs.LastSlots.{IsReach};
+ghost use Rattle.waiting_order.specs.LastSlots.{IsReach, AreLasts, AreLastsBut, HasLast, IsLastUnder, is_taken, last_of, over};
 ghost use Rattle.waiting_order.specs.Waiting.{IsFree, IsOrdered, Stands, subs_of};
-ghost use Rattle.waiting_order.specs.declared.waiter.Waiter.{Waiter};
+ghost use Rattle.waiting_order.specs.declared.waiters.Waiter.{Waiter};
 
-use crate::key::Key;
-use crate::last_slots::LastSlots;
-use crate::waiter::Waiter;
 use broker_state::Subscription;
 use indexmap::IndexMap;
 use indexmap::map::Slice;
-use line_core::Message;
+use line_core::{Message, SettleFault};
 use std::alloc::{AllocError, Global};
 use std::collections::BTreeMap;
 use std::marker::Model;
+
+/// How many subscriptions a session may have.
+pub const SLOTS: u8 = 16;
 
 /// A waiter stands at that key. If memory is refused, nothing changes.
 fn put_at(all: &mut IndexMap<Key, Waiter>, key: Key, waiter: Waiter) -> Result<(), AllocError>
@@ -230,5 +230,175 @@ impl Waiters {
     {
         let waiter = self.all.get_mut(&key).unwrap();
         waiter.settle(delivery)
+    }
+}
+
+/// A subscription with its ticket, and the handle of its group. Those with lesser tickets are served before it.
+#[derive(Drop)]
+pub struct Waiter {
+    pub ticket: u64,
+    pub group: usize,
+    pub sub: Subscription,
+}
+
+impl Waiter {
+    /// Its own line gets a message. It answers whether that had none. If memory is refused, nothing changes.
+    pub fn put(&mut self, message: Message) -> Result<bool, AllocError>
+        ensures first { IfOk result (λ first. first ≡ is_none self.old.sub.line) }
+        ensures ok { OnOk result (self.new ≡ record self.old { sub = record self.old.sub { line = inserted message self.old.sub.line } }) }
+        ensures same { OnErr result (self.new ≡ self.old) }
+        ensures ticket { self.new.ticket ≡ self.old.ticket }
+    {
+        let first = self.sub.line.is_empty();
+        self.sub.line.put(message)?;
+        Ok(first)
+    }
+
+    /// Takes the least message out of its own line. If it was the last one, its group is given too.
+    pub fn take(&mut self) -> (Option<Message>, Option<usize>)
+        ensures taken { result.0 ≡ first_of self.old.sub.line }
+        ensures caught_up { result.1 ≡ (if length self.old.sub.line == 1 then Some self.old.group else None) }
+        ensures rest { self.new ≡ record self.old { sub = record self.old.sub { line = drop 1 self.old.sub.line } } }
+        ensures ticket { self.new.ticket ≡ self.old.ticket }
+    {
+        let caught_up = if self.sub.line.len() == 1 {
+            Some(self.group)
+        } else {
+            None
+        };
+        (self.sub.line.take(), caught_up)
+    }
+
+    /// A message becomes unacknowledged, by that number of its delivery. If memory is refused, nothing changes.
+    pub fn keep(&mut self, delivery: u64, message: Message) -> Result<(), AllocError>
+        requires { IsOver delivery self.old.sub.unacknowledged }
+        ensures ok { OnOk result (self.new ≡ record self.old { sub = record self.old.sub { unacknowledged = self.old.sub.unacknowledged ++ (delivery, message) ∷ [] } }) }
+        ensures same { OnErr result (self.new ≡ self.old) }
+        ensures ticket { self.new.ticket ≡ self.old.ticket }
+    {
+        self.sub.unacknowledged.add(delivery, message)
+    }
+
+    /// It has a delivery acknowledged, with the others that its mode settles, and gives what is settled. If memory is
+    /// refused, nothing changes.
+    pub fn settle(&mut self, delivery: u64) -> Result<Vec<(u64, Message)>, AllocError>
+        requires { has_delivery delivery self.old.sub.unacknowledged ≡ true }
+        ensures settled { IfOk result (λ out. out.items ≡ settled self.old.sub.mode delivery self.old.sub.unacknowledged) }
+        ensures unsettled { OnOk result (self.new ≡ record self.old { sub = settled_by delivery self.old.sub }) }
+        ensures same { OnErr result (self.new ≡ self.old) }
+        ensures ticket { self.new.ticket ≡ self.old.ticket }
+    {
+        let sub = &mut self.sub;
+        match sub.unacknowledged.settle(sub.mode, delivery) {
+            Ok(settled) => Ok(settled),
+            Err(SettleFault::Memory(refused)) => Err(refused),
+            Err(SettleFault::Unknown) => unreachable!(),
+        }
+    }
+}
+
+/// The key of a subscription: the number of its session, and a slot, which no other one of that session has.
+#[derive(Clone, Copy, PartialEq, Eq, Hash, Drop)]
+pub struct Key {
+    pub session: u64,
+    pub slot: u8,
+}
+
+/// The greatest slot under a key's that is taken of its session, if one is.
+fn last_under(all: &IndexMap<Key, Waiter>, key: Key) -> Option<u8>
+    ensures { IsLastUnder all.now.entries key result }
+{
+    let mut left = key.slot;
+    while left > 0 {
+        left -= 1;
+        let under = Key {
+            session: key.session,
+            slot: left,
+        };
+        if all.contains_key(&under) {
+            return Some(left);
+        }
+    }
+    None
+}
+
+/// The greatest slot that is taken, by session. Contracts see them by rising session.
+#[derive(Drop)]
+pub struct LastSlots {
+    by_session: BTreeMap<u64, u8>,
+}
+
+impl Model for LastSlots {
+    ghost use Rattle.std.specs.Prelude.{List, ℕ};
+
+    ghost Value = { List (ℕ × ℕ) };
+
+    ghost view = { λ a. a.by_session.entries };
+}
+
+impl LastSlots {
+    /// None. No memory is taken.
+    pub fn new(alloc: Global) -> LastSlots
+        ensures { result ≡ [] }
+    {
+        LastSlots {
+            by_session: BTreeMap::new(alloc),
+        }
+    }
+
+    /// A number over the last slot of a session; 0 if none is taken.
+    pub fn reach(&self, session: u64) -> u16
+        ensures reach { result ≡ over (last_of session self.now) }
+        ensures small { result ≤ 256 }
+    {
+        match self.by_session.get(&session) {
+            Some(slot) => u16::from(*slot) + 1,
+            None => 0,
+        }
+    }
+
+    /// A session that has a last slot gets that one instead. No memory is taken.
+    fn replace(&mut self, session: u64, slot: u8)
+        requires { last_of session self.old ≢ None }
+        ensures { HasLast session (Some slot) self.old self.new }
+    {
+        match self.by_session.insert(session, slot) {
+            Ok(_old) => {}
+            Err(_absent) => unreachable!(),
+        }
+    }
+
+    /// A session has no slot any more.
+    fn forget(&mut self, session: u64)
+        ensures { HasLast session None self.old self.new }
+    {
+        self.by_session.remove(&session);
+    }
+
+    /// A free key's slot is about to be taken. If memory is refused, nothing changes.
+    pub fn raise(&mut self, key: Key) -> Result<(), AllocError>
+        ensures ok { OnOk result ((ws : List (Key × Waiter)) → AreLasts self.old ws → is_taken ws key ≡ false → AreLastsBut key self.new ws) }
+        ensures over { OnOk result (key.slot < over (last_of key.session self.new)) }
+        ensures same { OnErr result (self.new ≡ self.old) }
+    {
+        if u16::from(key.slot) < self.reach(key.session) {
+            return Ok(());
+        }
+        self.by_session.insert(key.session, key.slot)?;
+        Ok(())
+    }
+
+    /// A key's slot is free again, or was never taken. No memory is taken.
+    pub fn lower(&mut self, all: &IndexMap<Key, Waiter>, key: Key)
+        requires { AreLastsBut key self.old all.now.entries }
+        ensures { AreLasts self.new all.now.entries }
+    {
+        if self.reach(key.session) != u16::from(key.slot) + 1 {
+            return;
+        }
+        match last_under(all, key) {
+            Some(slot) => self.replace(key.session, slot),
+            None => self.forget(key.session),
+        }
     }
 }

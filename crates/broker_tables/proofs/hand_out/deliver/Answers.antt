@@ -2,7 +2,7 @@ use Rattle.std.proofs.Common.{◌≡◌, ◌-◌, ◌++◌, ◌∷◌, ◌∙◌
 use Rattle.broker_state.specs.declared.subscription.Subscription.{Subscription}
 use Rattle.broker_state.specs.HandOut.{delivered, is_auto}
 use Rattle.broker_state.specs.States.{bytes}
-use Rattle.waiting_order.specs.declared.waiter.Waiter.{Waiter}
+use Rattle.waiting_order.specs.declared.waiters.Waiter.{Waiter}
 use Rattle.waiting_order.specs.Keeping.{kept_by, with_sub}
 use Rattle.broker_tables.proofs.Waiters.{both_ok, changed_alike, changed_none, on_ok}
 use Rattle.broker_tables.proofs.hand_out.deliver.Goals as goal

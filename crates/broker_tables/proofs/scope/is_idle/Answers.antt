@@ -4,7 +4,7 @@ use Rattle.broker_state.specs.declared.subscription.Subscription.{Subscription}
 use Rattle.broker_state.specs.Lists.{is_none}
 use Rattle.broker_state.specs.Waiting.{is_own, line_for}
 use Rattle.waiting_order.specs.Directories.{is_in}
-use Rattle.waiting_order.specs.declared.waiter.Waiter.{Waiter}
+use Rattle.waiting_order.specs.declared.waiters.Waiter.{Waiter}
 use Rattle.broker_tables.specs.declared.scope.Scope.{Scope}
 use Rattle.broker_tables.specs.Scopes.{is_within}
 use Rattle.broker_tables.proofs.Handing.{own_line}

@@ -1,8 +1,8 @@
 use Rattle.std.proofs.Common.{◌≡◌, ◌∙◌, None, Option, Some, ap, subst, sym}
 use Rattle.broker_state.specs.Operations.{is_of}
-use Rattle.waiting_order.specs.declared.places.Place.{Place}
-use Rattle.waiting_order.specs.declared.sought.Sought.TheVariants.{Any}
-use Rattle.waiting_order.specs.declared.waiter.Waiter.{Waiter}
+use Rattle.waiting_order.specs.declared.groups.Place.{Place}
+use Rattle.waiting_order.specs.declared.finding.Sought.TheVariants.{Any}
+use Rattle.waiting_order.specs.declared.waiters.Waiter.{Waiter}
 use Rattle.waiting_order.specs.Directories.{IsNext}
 use Rattle.waiting_order.specs.Soughts.{is_sought_of}
 use Rattle.broker_tables.specs.declared.scope.Scope.{Scope}

@@ -4,8 +4,8 @@ use Rattle.std.proofs.lemmas.List.{take_all}
 use Rattle.std.proofs.lemmas.Option.{get_or_from_slice_get, slice_get_within}
 use Rattle.broker_state.specs.declared.subscription.Subscription.{Subscription}
 use Rattle.broker_state.proofs.Weights.{sum_by-part}
-use Rattle.waiting_order.specs.declared.key.Key.{Key}
-use Rattle.waiting_order.specs.declared.waiter.Waiter.{Waiter}
+use Rattle.waiting_order.specs.declared.waiters.Key.{Key}
+use Rattle.waiting_order.specs.declared.waiters.Waiter.{Waiter}
 use Rattle.waiting_order.specs.Waiting.{subs_of}
 use Rattle.broker_tables.proofs.Waiters.{length_subs, sub_at}
 use Rattle.snapshot_core.specs.Snapshots.{subscription}

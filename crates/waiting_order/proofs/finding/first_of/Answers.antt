@@ -1,5 +1,5 @@
 use Rattle.std.proofs.Common.{◌≡◌, ◌+◌, ℕ, Option, arith, subst, sym}
-use Rattle.waiting_order.specs.declared.places.Place.{Place}
+use Rattle.waiting_order.specs.declared.groups.Place.{Place}
 use Rattle.waiting_order.proofs.Seeking.{Soonest, soonest_begin, soonest_end, soonest_more}
 use Rattle.waiting_order.proofs.finding.first_of.Goals as goal
 

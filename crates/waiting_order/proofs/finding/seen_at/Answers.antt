@@ -1,6 +1,6 @@
 use Rattle.std.proofs.Common.{◌∙◌, ap, arith, sym}
 use Rattle.waiting_order.specs.Soughts.{is_sought}
-use Rattle.waiting_order.specs.declared.waiter.Waiter.{Waiter}
+use Rattle.waiting_order.specs.declared.waiters.Waiter.{Waiter}
 use Rattle.waiting_order.specs.Keys.{key_eq}
 use Rattle.waiting_order.proofs.Seeking.{same_there}
 use Rattle.waiting_order.proofs.Timed.{clash, key_itself}

@@ -1,7 +1,7 @@
 use Rattle.std.proofs.Common.{◌≡◌, ◌∙◌, [], Bor, List, Option, ap, subst, sym, unwrap_or}
 use Rattle.std.specs.Option.{option_copied}
-use Rattle.waiting_order.specs.declared.group.Group.{Group}
-use Rattle.waiting_order.specs.declared.places.Place.{Place}
+use Rattle.waiting_order.specs.declared.groups.Group.{Group}
+use Rattle.waiting_order.specs.declared.groups.Place.{Place}
 use Rattle.waiting_order.specs.Directories.{members}
 use Rattle.waiting_order.specs.Tickets.{IsIndexOf}
 use Rattle.waiting_order.proofs.Members.{next_in_members, next_of_none}

@@ -3,7 +3,7 @@ use Rattle.command_core.specs.Outs.{OutValue}
 use Rattle.broker_tables.specs.Answers.{with_outs}
 use Rattle.broker_tables.specs.Cursors.{IsReady, NoneReady, cursors_in}
 use Rattle.broker_tables.specs.Stocks.{shown}
-use Rattle.waiting_order.specs.declared.key.Key.{Key}
+use Rattle.waiting_order.specs.declared.waiters.Key.{Key}
 use Rattle.broker_tables.proofs.Answering.{with_more, with_none}
 use Rattle.broker_tables.proofs.Settling.{fewer_wait, settles_all, settles_on, still_awaited, still_stocked}
 use Rattle.broker_tables.proofs.stock.Stock.hand_out.Goals as goal

@@ -6,7 +6,7 @@ use Rattle.broker_state.specs.States.{bytes, one, weight_of_subscription}
 use Rattle.broker_state.specs.Waiting.{left_line, line_for}
 use Rattle.broker_state.proofs.Served.{number_of_ready}
 use Rattle.broker_state.proofs.Weights.{all_at, sum_by-part}
-use Rattle.waiting_order.specs.declared.waiter.Waiter.{Waiter}
+use Rattle.waiting_order.specs.declared.waiters.Waiter.{Waiter}
 use Rattle.waiting_order.specs.Keeping.{with_sub}
 use Rattle.waiting_order.specs.Waiting.{Waiting, subs_of}
 use Rattle.broker_tables.specs.Stocks.{stocked}

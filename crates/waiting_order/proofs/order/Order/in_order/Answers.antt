@@ -1,7 +1,7 @@
 use Rattle.std.proofs.Common.{◌≡◌, ◌++◌, ◌∷◌, ◌∙◌, [], Bor, List, Some, ap, append_assoc, arith, drop, length, length-append, map, suc, sym}
 use Rattle.std.proofs.lemmas.List.{map-append}
 use Rattle.broker_state.specs.declared.subscription.Subscription.{Subscription}
-use Rattle.waiting_order.specs.declared.key.Key.{Key}
+use Rattle.waiting_order.specs.declared.waiters.Key.{Key}
 use Rattle.waiting_order.specs.Waiting.{subs_of}
 use Rattle.waiting_order.proofs.Listing.{at_drop, first_of_keys}
 use Rattle.waiting_order.proofs.Timed.{W}

@@ -2,7 +2,7 @@ use Rattle.std.proofs.Common.{◌≡◌, ◌∙◌, List, Some, None, ap, refl, 
 use Rattle.std.specs.Option.{option_copied}
 use Rattle.std.proofs.lemmas.Result.{on_ok_weaker}
 use Rattle.broker_state.specs.Lists.{is_none}
-use Rattle.waiting_order.specs.declared.group.Group.{Group}
+use Rattle.waiting_order.specs.declared.groups.Group.{Group}
 use Rattle.waiting_order.specs.Directories.{AreOfGroup, IsGroup, is_plain_at}
 use Rattle.waiting_order.proofs.Keeping.{found_put, put_alike, put_nowhere}
 use Rattle.waiting_order.proofs.Timed.{W}

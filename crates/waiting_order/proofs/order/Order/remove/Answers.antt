@@ -1,6 +1,6 @@
 use Rattle.std.proofs.Common.{◌≡◌, ◌∙◌, Some, ap, slice_get, subst, sym}
 use Rattle.broker_state.proofs.Weights.{all_removed}
-use Rattle.waiting_order.specs.declared.waiter.Waiter.{Waiter}
+use Rattle.waiting_order.specs.declared.waiters.Waiter.{Waiter}
 use Rattle.waiting_order.specs.Directories.{AreFound, IsSlotted}
 use Rattle.waiting_order.specs.Waiting.{Waiting}
 use Rattle.waiting_order.proofs.order.Order.remove.Goals as goal

@@ -1,5 +1,5 @@
 use Rattle.std.proofs.Common.{◌≡◌, ◌≤◌, ◌-◌, ◌∙◌, Some, true, ap, arith, drop, length, not, refl, subst, sym}
-use Rattle.waiting_order.specs.declared.group.Group.{Group}
+use Rattle.waiting_order.specs.declared.groups.Group.{Group}
 use Rattle.waiting_order.specs.Directories.{AreFound, KeepsPlace, behind_in, group_at, is_behind}
 use Rattle.waiting_order.specs.Groups.{OthersStay, one}
 use Rattle.waiting_order.specs.Keeping.{taken_from}

@@ -1,6 +1,6 @@
 use Rattle.std.proofs.Common.{◌≡◌, ◌++◌, ◌∷◌, ◌∙◌, [], List, Some, ap, append_assoc, arith, length, map, remove, slice_get, sym}
 use Rattle.broker_state.specs.declared.subscription.Subscription.{Subscription}
-use Rattle.waiting_order.specs.declared.key.Key.{Key}
+use Rattle.waiting_order.specs.declared.waiters.Key.{Key}
 use Rattle.waiting_order.specs.Waiting.{Waiting, subs_of}
 use Rattle.waiting_order.proofs.Listing.{first_of_keys, no_keys}
 use Rattle.waiting_order.proofs.Timed.{W}

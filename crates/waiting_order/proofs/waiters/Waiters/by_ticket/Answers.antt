@@ -1,7 +1,7 @@
 use Rattle.std.proofs.Common.{◌≡◌, ◌-◌, ◌∷◌, ◌∙◌, Option, ℕ, Some, suc, ap, arith, cond, drop, slice_get, sym}
 use Rattle.std.specs.BTreeMap.{is_at}
 use Rattle.std.specs.Ordering.{nat_cmp}
-use Rattle.waiting_order.specs.declared.key.Key.{Key}
+use Rattle.waiting_order.specs.declared.waiters.Key.{Key}
 use Rattle.waiting_order.proofs.Listing.{all_listed, drop_there, key_at, key_more}
 use Rattle.waiting_order.proofs.Timed.{W}
 use Rattle.waiting_order.proofs.waiters.Waiters.by_ticket.Goals as goal

@@ -1,5 +1,5 @@
 use Rattle.std.proofs.Common.{◌≡◌, ◌+◌, ◌∙◌, List, ℕ, is_some, suc, ap, arith, refl, subst, sym}
-use Rattle.waiting_order.specs.declared.waiter.Waiter.{Waiter}
+use Rattle.waiting_order.specs.declared.waiters.Waiter.{Waiter}
 use Rattle.waiting_order.specs.LastSlots.{AreLastsBut}
 use Rattle.waiting_order.specs.Waiting.{AreTimed, by_ticket}
 use Rattle.waiting_order.proofs.LastSlots.{lasts_more}

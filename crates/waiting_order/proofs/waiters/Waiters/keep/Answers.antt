@@ -4,7 +4,7 @@ use Rattle.std.proofs.lemmas.Option.{same_Some}
 use Rattle.std.proofs.lemmas.Result.{on_err_weaker, on_ok_weaker}
 use Rattle.line_core.specs.Flights.{IsOver}
 use Rattle.waiting_order.specs.Keeping.{kept_by}
-use Rattle.waiting_order.specs.declared.waiter.Waiter.{Waiter}
+use Rattle.waiting_order.specs.declared.waiters.Waiter.{Waiter}
 use Rattle.waiting_order.proofs.LastSlots.{lasts_changed}
 use Rattle.waiting_order.proofs.Timed.{W, at_its_key, at_key, changed_same, order_changed, there_mut, there_now, timed_changed}
 use Rattle.waiting_order.proofs.waiters.Waiters.keep.Goals as goal

@@ -1,7 +1,7 @@
 use Rattle.std.proofs.Common.{◌≡◌, ◌+◌, ◌++◌, ◌∷◌, ◌∙◌, [], List, ℕ, suc, ap, arith, refl, remove, subst, sym}
 use Rattle.std.specs.Option.{option_copied_mut}
 use Rattle.std.proofs.lemmas.Option.{same_Some}
-use Rattle.waiting_order.specs.declared.waiter.Waiter.{Waiter}
+use Rattle.waiting_order.specs.declared.waiters.Waiter.{Waiter}
 use Rattle.waiting_order.specs.Waiting.{AreTimed, by_ticket}
 use Rattle.waiting_order.proofs.LastSlots.{lasts_changed}
 use Rattle.waiting_order.proofs.Timed.{W, at_its_key, at_key, order_moved, there_mut, there_now, timed_more}

@@ -3,7 +3,7 @@ use Rattle.std.specs.Option.{option_copied_mut}
 use Rattle.std.proofs.lemmas.Option.{same_Some}
 use Rattle.line_core.specs.Lines.{first_of}
 use Rattle.waiting_order.specs.Keeping.{taken_from}
-use Rattle.waiting_order.specs.declared.waiter.Waiter.{Waiter}
+use Rattle.waiting_order.specs.declared.waiters.Waiter.{Waiter}
 use Rattle.waiting_order.proofs.LastSlots.{lasts_changed}
 use Rattle.waiting_order.proofs.Timed.{W, at_its_key, at_key, order_changed, there_mut, there_now, timed_changed}
 use Rattle.waiting_order.proofs.waiters.Waiters.take.Goals as goal

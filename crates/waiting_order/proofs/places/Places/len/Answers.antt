@@ -1,4 +1,0 @@
-use Rattle.waiting_order.proofs.places.Places.len.Goals as goal
-
-pub returns-clause-rising : goal.returns-clause-rising
-returns-clause-rising c = rw (← c.self.view_is) c.self.invariant
