@@ -20,10 +20,10 @@ use Rattle.waiting_order.specs.declared.groups.Place.{Place}
 use Rattle.waiting_order.specs.declared.waiters.Waiter.{Waiter}
 use Rattle.waiting_order.specs.Waiting.{IsOrdered, subs_of}
 use Rattle.waiting_order.proofs.Rising.{rising_at}
-use Rattle.broker_tables.specs.declared.cursors.Cursor.{Cursor}
+use Rattle.broker_tables.specs.declared.stock.Cursor.{Cursor}
 use Rattle.broker_tables.specs.declared.due.Due.{Due}
-use Rattle.broker_tables.specs.declared.scope.Scope.{Scope}
-use Rattle.broker_tables.specs.declared.scope.Scope.TheVariants.{Session, Group}
+use Rattle.broker_tables.specs.declared.due.Scope.{Scope}
+use Rattle.broker_tables.specs.declared.due.Scope.TheVariants.{Session, Group}
 use Rattle.broker_tables.specs.declared.stock.Stock.{Stock}
 use Rattle.broker_tables.specs.CursorOrder.{cursor_cmp}
 use Rattle.broker_tables.specs.Cursors.{AreAwaited, AwaitAllDue, IsReady, NoneReady, is_ahead, is_awaited, tickets_left}

@@ -3,12 +3,12 @@ use Rattle.std.specs.List.{AllByRecursion, list_any, sum_by}
 use Rattle.std.specs.BinaryHeap.{heap_items}
 use Rattle.broker_state.specs.HandOut.{can_take}
 use Rattle.broker_state.specs.Parts.{NonePass}
-use Rattle.broker_tables.specs.declared.cursors.Cursor.{Cursor}
-use Rattle.broker_tables.specs.declared.cursors.Cursors.{Cursors}
+use Rattle.broker_tables.specs.declared.stock.Cursor.{Cursor}
+use Rattle.broker_tables.specs.declared.stock.Cursors.{Cursors}
 use Rattle.broker_tables.specs.declared.due.Due.{Due}
 use Rattle.broker_tables.specs.declared.stock.Stock.{Stock}
 use Rattle.broker_tables.specs.Dues.{is_due}
-use Rattle.broker_tables.specs.declared.scope.Scope.{Scope}
+use Rattle.broker_tables.specs.declared.due.Scope.{Scope}
 use Rattle.broker_tables.specs.declared.stock.Readiness.{Readiness}
 use Rattle.broker_tables.specs.declared.stock.Readiness.TheVariants.{Ready, Held, Idle}
 use Rattle.broker_tables.specs.Places.{HoldsAtKey, IsFirstAt}

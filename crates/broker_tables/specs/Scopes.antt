@@ -4,8 +4,8 @@ use Rattle.broker_state.specs.Lists.{is_none}
 use Rattle.broker_state.specs.Operations.{is_of}
 use Rattle.broker_state.specs.Waiting.{Shared, line_for}
 use Rattle.broker_tables.specs.declared.due.Due.{Due}
-use Rattle.broker_tables.specs.declared.scope.Scope.{Scope}
-use Rattle.broker_tables.specs.declared.scope.Scope.TheVariants.{Session, Group}
+use Rattle.broker_tables.specs.declared.due.Scope.{Scope}
+use Rattle.broker_tables.specs.declared.due.Scope.TheVariants.{Session, Group}
 use Rattle.broker_tables.specs.Dues.{is_under}
 use Rattle.waiting_order.specs.declared.waiters.Key.{Key}
 use Rattle.waiting_order.specs.declared.groups.Place.{Place}

@@ -2,25 +2,15 @@
 
 #![tactic(auto)]
 
-mod acknowledging;
 mod answers;
-mod at_once;
-mod cursors;
 mod due;
 mod durable_names;
-mod ending;
-mod hand_out;
-mod keyed_lines;
-mod refusing;
-mod scope;
-mod sending;
+mod messages;
 mod shared_lines;
 mod stock;
-mod subscribing;
 mod tables;
 
 pub use answers::Answers;
-pub use refusing::{is_dropped, refused_size};
-pub use sending::{copies_to, find_room};
+pub use messages::{copies_to, find_room, is_dropped, refused_size};
 pub use shared_lines::SharedLines;
 pub use tables::Tables;
