@@ -9,8 +9,8 @@ use Rattle.broker_state.specs.Sound.{IsSound}
 use Rattle.broker_state.specs.States.{BrokerValue, State, held_bytes, held_messages}
 use Rattle.broker_state.specs.Steps.{accepted_or_ended, answers, led_to}
 use Rattle.broker_tables.specs.Tables.{TablesValue}
-use Rattle.broker_core.specs.declared.fault.BrokerFault.{BrokerFault}
-use Rattle.broker_core.specs.declared.fault.BrokerFault.TheVariants.{Memory, Broken}
+use Rattle.broker_core.specs.declared.broker.BrokerFault.{BrokerFault}
+use Rattle.broker_core.specs.declared.broker.BrokerFault.TheVariants.{Memory, Broken}
 
 -- Whole tables are in a state that a broker can have, and broken ones hold nothing. Nothing is due.
 pub record IsWholeOrEmpty (b : TablesValue) : Type 0 where

@@ -1,30 +1,38 @@
 //! The broker, one command after another.
 
-ghost use Rattle.std.specs.Prelude.{◌≡◌, ◌+◌, ◌++◌, ◌<◌, ◌^◌, ◌↔◌, false, true, IfOk, IfSome, IsSome, OnOk, length, map, ℕ};
+ghost use Rattle.std.specs.Prelude.{◌≡◌, ◌+◌, ◌++◌, ◌<◌, ◌^◌, ◌↔◌, false, true, IfOk, IfSome, IsSome, OnOk, length, map, ℕ, ◌≤◌, IsErr, ◌∷◌, []};
 ghost use Rattle.std.specs.List.{sum_by};
-ghost use Rattle.broker_core.specs.Outcomes.{IsOutcome};
-ghost use Rattle.broker_state.specs.Operations.{restarted};
+ghost use Rattle.broker_state.specs.Operations.{restarted, ended, opened};
 ghost use Rattle.broker_state.specs.PartsOf.{state_of_parts};
 ghost use Rattle.broker_state.specs.Sound.{IsSound};
 ghost use Rattle.broker_state.specs.States.{empty_state, held_messages, held_bytes};
 ghost use Rattle.broker_state.specs.declared.subscription.Subscription.{Subscription};
 ghost use Rattle.broker_tables.specs.Answers.{with_outs};
 ghost use Rattle.waiting_order.specs.Waiting.{subs_of};
-ghost use Rattle.broker_state.specs.Steps.{outs, outs_by, outs_v1, step, step_by, step_v1};
+ghost use Rattle.broker_state.specs.Steps.{outs, outs_by, outs_v1, step, step_by, step_v1, is_opening, led_to, outs_to, replies, farewell, receipts};
+ghost use Rattle.broker_state.specs.Executing.{HasFewMembers, applied, committed, executed};
+ghost use Rattle.broker_state.specs.Parts.{leaving, is_end};
+ghost use Rattle.command_core.specs.Texts.{IsGiven};
+ghost use Rattle.command_core.specs.Operations.{IsOp};
+ghost use Rattle.command_core.specs.Replies.{connected, error_frame};
+ghost use Rattle.broker_state.specs.HandOut.{settled};
+ghost use Rattle.broker_tables.specs.Sendings.{IsCarriedOut};
+ghost use Rattle.broker_core.specs.Outcomes.{IsOutcome, is_send, led_in_session, outs_of};
 
-use crate::committing::have_few_members;
-use crate::executing::execute;
-use crate::fault::BrokerFault;
+use crate::precheck::precheck_members;
 use broker_state::{
     DurableName, GivenName, Held, NackRule, Parts, Subscription, are_sound, held_of,
 };
 use broker_tables::{Answers, SharedLines, Tables};
-use command_core::{Command, Dest, Out};
+use command_core::{
+    Command, Dest, End, Fault, HeaderText, Member, Members, Op, Out, connected_reply, error_reply,
+};
 use indexmap::map::Slice;
 use std::alloc::{AllocError, Global};
 use std::collections::BTreeMap;
 use std::marker::Model;
 use std::mem::replace;
+use thiserror::Error;
 use waiting_order::{Key, Waiter};
 
 /// The broker: it carries out commands one after another, numbered from 0, and answers each. Contracts see its state and
@@ -271,4 +279,344 @@ impl Broker {
         }
         self.tables.held()
     }
+}
+
+/// A transaction has at most 64 members: it knows that when it is asked. Nothing changes.
+pub fn have_few_members(op: &Op)
+    ensures { HasFewMembers op.now }
+{
+    if let Op::Commit(members) = op {
+        let _members = members.as_slice();
+    }
+}
+
+/// A member of a transaction is carried out. If it is refused, the tables are as they were.
+fn apply(
+    tables: &mut Tables,
+    alloc: Global,
+    rule: NackRule,
+    session: u64,
+    place: u32,
+    member: Member,
+) -> Result<Result<(), Fault>, AllocError>
+    requires few { place < 64 }
+    requires whole { tables.old.broken ≡ false }
+    ensures applied { IfOk result (λ r. applied rule tables.old.state session place member ≡ leaving r tables.new.state) }
+    ensures same { IfOk result (λ r. IsErr r → tables.new ≡ tables.old) }
+    ensures whole { OnOk result (tables.new.broken ≡ false) }
+{
+    match member {
+        Member::Send(sending) => tables.send(alloc, place, sending),
+        Member::Ack(delivery) => tables.acknowledge(session, delivery),
+        Member::Nack(delivery) => tables.nack(alloc, rule, place, session, delivery),
+    }
+}
+
+/// The members of a transaction are carried out in their order, or refused together, and then the tables are as they were.
+/// So they are checked before the first of them is carried out. If memory is refused, the tables may be broken.
+pub fn commit(
+    tables: &mut Tables,
+    alloc: Global,
+    rule: NackRule,
+    session: u64,
+    members: Members,
+) -> Result<Result<(), Fault>, AllocError>
+    requires whole { tables.old.broken ≡ false }
+    ensures committed { IfOk result (λ r. committed rule tables.old.state session 0 members ≡ leaving r tables.new.state) }
+    ensures same { IfOk result (λ r. IsErr r → tables.new ≡ tables.old) }
+    ensures whole { OnOk result (tables.new.broken ≡ false) }
+{
+    match precheck_members(alloc, rule, tables, session, members.as_slice()) {
+        Ok(Ok(())) => apply_all(tables, alloc, rule, session, members.into_vec()),
+        refused => refused,
+    }
+}
+
+/// Members are carried out in their order, up to the first one that is refused. What those before it did stays.
+fn apply_all(
+    tables: &mut Tables,
+    alloc: Global,
+    rule: NackRule,
+    session: u64,
+    members: Vec<Member>,
+) -> Result<Result<(), Fault>, AllocError>
+    requires few { length members.items ≤ 64 }
+    requires whole { tables.old.broken ≡ false }
+    ensures committed { IfOk result (λ r. committed rule tables.old.state session 0 members.items ≡ leaving r tables.new.state) }
+    ensures whole { OnOk result (tables.new.broken ≡ false) }
+{
+    let mut place = 0;
+    for member in members {
+        if let Err(fault) = apply(tables, alloc, rule, session, place, member)? {
+            return Ok(Err(fault));
+        }
+        place += 1;
+    }
+    Ok(Ok(()))
+}
+
+/// Carries out the command whose number is how many were carried out before it, and counts it. Its outputs, if they are kept,
+/// are the MESSAGEs that it hands out, and then what answers it. A NACK goes by that rule. If memory is refused, the tables may
+/// be broken.
+pub fn execute(
+    tables: &mut Tables,
+    alloc: Global,
+    rule: NackRule,
+    command: Command,
+    answers: &mut Answers,
+) -> Result<(), AllocError>
+    requires small { tables.old.state.count < 2 ^ 62 }
+    requires whole { tables.old.broken ≡ false }
+    requires due { tables.old.due ≡ 0 }
+    ensures state { OnOk result (tables.new.state ≡ step_by rule tables.old.state command) }
+    ensures outs { OnOk result (answers.new ≡ with_outs (outs_by rule tables.old.state command) answers.old) }
+    ensures whole { OnOk result (tables.new.broken ≡ false) }
+    ensures due { OnOk result (tables.new.due ≡ 0) }
+{
+    let number = tables.count();
+    let (session, op, receipt) = command.into_parts();
+    carry_out(tables, alloc, rule, session, op, receipt, answers)?;
+    tables.set_count(number + 1);
+    Ok(())
+}
+
+/// The same, before the command is counted. An operation other than an Open is carried out if its session is open.
+fn carry_out(
+    tables: &mut Tables,
+    alloc: Global,
+    rule: NackRule,
+    session: u64,
+    op: Op,
+    receipt: Option<HeaderText>,
+    answers: &mut Answers,
+) -> Result<(), AllocError>
+    requires form { IsOp op }
+    requires whole { tables.old.broken ≡ false }
+    requires due { tables.old.due ≡ 0 }
+    ensures state { OnOk result (tables.new.state ≡ (led_to rule tables.old.state session op).state) }
+    ensures outs { OnOk result (answers.new ≡ with_outs (outs_of rule tables.old.state session receipt op) answers.old) }
+    ensures whole { OnOk result (tables.new.broken ≡ false) }
+    ensures due { OnOk result (tables.new.due ≡ 0) }
+{
+    if let Op::Open { client_id } = op {
+        open(tables, alloc, client_id, answers)?;
+        return Ok(());
+    }
+    if !tables.sessions().contains_key(&session) {
+        return Ok(());
+    }
+    execute_in_session(tables, alloc, rule, session, op, receipt, answers)?;
+    Ok(())
+}
+
+/// A session is opened.
+fn open(
+    tables: &mut Tables,
+    alloc: Global,
+    client_id: Option<HeaderText>,
+    answers: &mut Answers,
+) -> Result<(), AllocError>
+    requires form { IsGiven client_id }
+    requires whole { tables.old.broken ≡ false }
+    ensures state { OnOk result (tables.new.state ≡ (settled (opened tables.old.state client_id)).state) }
+    ensures outs { OnOk result (answers.new ≡ with_outs ((settled (opened tables.old.state client_id)).outs ++ outs_to tables.old.state.count tables.old.state.count (connected tables.old.state.count ∷ [])) answers.old) }
+    ensures whole { OnOk result (tables.new.broken ≡ false) }
+    ensures due { OnOk result (tables.new.due ≡ 0) }
+{
+    let number = tables.count();
+    tables.open(client_id)?;
+    tables.settle(alloc, answers)?;
+    answer_open(alloc, number, answers)
+}
+
+/// An operation of an open session is carried out.
+fn execute_in_session(
+    tables: &mut Tables,
+    alloc: Global,
+    rule: NackRule,
+    session: u64,
+    op: Op,
+    receipt: Option<HeaderText>,
+    answers: &mut Answers,
+) -> Result<(), AllocError>
+    requires form { IsOp op }
+    requires other { is_opening op ≡ false }
+    requires whole { tables.old.broken ≡ false }
+    ensures state { OnOk result (tables.new.state ≡ (led_in_session rule tables.old.state session op).state) }
+    ensures outs { OnOk result (answers.new ≡ with_outs ((led_in_session rule tables.old.state session op).outs ++ outs_to tables.old.state.count session (replies rule tables.old.state session op receipt)) answers.old) }
+    ensures whole { OnOk result (tables.new.broken ≡ false) }
+    ensures due { OnOk result (tables.new.due ≡ 0) }
+{
+    let number = tables.count();
+    if let Op::End(end) = op {
+        end_and_settle(tables, alloc, session, answers)?;
+        answer_end(alloc, number, session, end, receipt, answers)?;
+        return Ok(());
+    }
+    match execute_and_settle(tables, alloc, rule, session, op, answers)? {
+        Ok(()) => answer_done(alloc, number, session, receipt, answers),
+        Err(fault) => {
+            end_and_settle(tables, alloc, session, answers)?;
+            answer_refused(alloc, number, session, fault, receipt, answers)?;
+            Ok(())
+        }
+    }
+}
+
+/// An operation of an open session other than its end is carried out, and what waits is handed out. If it is refused, the
+/// tables are as they were.
+fn execute_and_settle(
+    tables: &mut Tables,
+    alloc: Global,
+    rule: NackRule,
+    session: u64,
+    op: Op,
+    answers: &mut Answers,
+) -> Result<Result<(), Fault>, AllocError>
+    requires form { IsOp op }
+    requires other { (is_opening op ≡ false) × (is_end op ≡ false) }
+    requires whole { tables.old.broken ≡ false }
+    ensures executed { IfOk result (λ r. IsCarriedOut (executed rule tables.old.state session op) tables.old answers.old r tables.new answers.new) }
+    ensures whole { OnOk result (tables.new.broken ≡ false) }
+{
+    if let Op::Send(sending) = op {
+        return tables.send_out(alloc, sending, answers);
+    }
+    match execute_operation(tables, alloc, rule, session, op)? {
+        Ok(()) => {
+            tables.settle(alloc, answers)?;
+            Ok(Ok(()))
+        }
+        Err(fault) => Ok(Err(fault)),
+    }
+}
+
+/// A session ends, and what waits is handed out.
+fn end_and_settle(
+    tables: &mut Tables,
+    alloc: Global,
+    session: u64,
+    answers: &mut Answers,
+) -> Result<(), AllocError>
+    requires whole { tables.old.broken ≡ false }
+    ensures state { OnOk result (tables.new.state ≡ (settled (ended tables.old.state session)).state) }
+    ensures outs { OnOk result (answers.new ≡ with_outs (settled (ended tables.old.state session)).outs answers.old) }
+    ensures whole { OnOk result (tables.new.broken ≡ false) }
+    ensures due { OnOk result (tables.new.due ≡ 0) }
+{
+    tables.end(alloc, session)?;
+    tables.settle(alloc, answers)
+}
+
+/// An operation of an open session other than its end or a SEND is carried out, before anything is handed out. If it is
+/// refused, the tables are as they were.
+fn execute_operation(
+    tables: &mut Tables,
+    alloc: Global,
+    rule: NackRule,
+    session: u64,
+    op: Op,
+) -> Result<Result<(), Fault>, AllocError>
+    requires form { IsOp op }
+    requires other { (is_opening op ≡ false) × (is_end op ≡ false) × (is_send op ≡ false) }
+    requires whole { tables.old.broken ≡ false }
+    ensures executed { IfOk result (λ r. executed rule tables.old.state session op ≡ leaving r tables.new.state) }
+    ensures same { IfOk result (λ r. IsErr r → tables.new ≡ tables.old) }
+    ensures whole { OnOk result (tables.new.broken ≡ false) }
+{
+    match op {
+        Op::Ack(delivery) => tables.acknowledge(session, delivery),
+        Op::Nack(delivery) => tables.nack(alloc, rule, 0, session, delivery),
+        Op::Commit(members) => commit(tables, alloc, rule, session, members),
+        Op::Subscribe {
+            id,
+            destination,
+            mode,
+            durable,
+        } => tables.subscribe(alloc, session, id, destination, mode, durable),
+        Op::Unsubscribe { id, durable } => tables.unsubscribe(alloc, session, id, durable),
+        Op::Note | Op::Open { .. } | Op::End(_) | Op::Send(_) => Ok(Ok(())),
+    }
+}
+
+/// CONNECTED, to the session that the command of that number opens.
+pub fn answer_open(alloc: Global, number: u64, answers: &mut Answers) -> Result<(), AllocError>
+    ensures { OnOk result (answers.new ≡ with_outs (outs_to number number (connected number ∷ [])) answers.old) }
+{
+    if !answers.are_kept() {
+        return Ok(());
+    }
+    let frame = connected_reply(alloc, number)?;
+    let out = Out::new(alloc, number, number, frame)?;
+    answers.add(out)
+}
+
+/// RECEIPT, if one was asked for.
+pub fn answer_done(
+    alloc: Global,
+    number: u64,
+    session: u64,
+    receipt: Option<HeaderText>,
+    answers: &mut Answers,
+) -> Result<(), AllocError>
+    ensures { OnOk result (answers.new ≡ with_outs (outs_to number session (receipts receipt)) answers.old) }
+{
+    let Some(id) = receipt else {
+        return Ok(());
+    };
+    if !answers.are_kept() {
+        drop(id);
+        return Ok(());
+    }
+    let out = Out::receipt(alloc, number, session, id)?;
+    answers.add(out)
+}
+
+/// ERROR, with the receipt if one was asked for.
+pub fn answer_refused(
+    alloc: Global,
+    number: u64,
+    session: u64,
+    fault: Fault,
+    receipt: Option<HeaderText>,
+    answers: &mut Answers,
+) -> Result<(), AllocError>
+    ensures { OnOk result (answers.new ≡ with_outs (outs_to number session (error_frame fault receipt ∷ [])) answers.old) }
+{
+    if !answers.are_kept() {
+        drop(receipt);
+        return Ok(());
+    }
+    let frame = error_reply(alloc, fault, receipt)?;
+    let out = Out::new(alloc, number, session, frame)?;
+    answers.add(out)
+}
+
+/// What the end of a session answers.
+pub fn answer_end(
+    alloc: Global,
+    number: u64,
+    session: u64,
+    end: End,
+    receipt: Option<HeaderText>,
+    answers: &mut Answers,
+) -> Result<(), AllocError>
+    ensures { OnOk result (answers.new ≡ with_outs (outs_to number session (farewell end receipt)) answers.old) }
+{
+    match end {
+        End::Bye => answer_done(alloc, number, session, receipt, answers),
+        End::Lost => Ok(()),
+        End::Bad(fault) => answer_refused(alloc, number, session, fault, receipt, answers),
+    }
+}
+
+/// Why a broker did not carry out a command or a restart.
+#[derive(Debug, Drop, Error)]
+pub enum BrokerFault {
+    /// Memory was refused within this call: the broker is broken from now on.
+    #[error(transparent)]
+    Memory(#[from(alloc)] AllocError),
+    /// Memory was refused before, within a call.
+    #[error("broken broker")]
+    Broken,
 }

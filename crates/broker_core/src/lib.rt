@@ -2,12 +2,7 @@
 
 #![tactic(auto)]
 
-mod answers;
 mod broker;
-mod committing;
-mod executing;
-mod fault;
 mod precheck;
 
-pub use broker::Broker;
-pub use fault::BrokerFault;
+pub use broker::{Broker, BrokerFault};

@@ -3,8 +3,8 @@ use Rattle.std.specs.Prelude.{List, Result, Ok, Err, ℕ, codes, ◌≡◌}
 use Rattle.disk_core.specs.Faults.{IsOneMore}
 use Rattle.area_core.specs.declared.faults.AreaFault.{AreaFault}
 use Rattle.area_core.specs.declared.faults.AreaFault.TheVariants as area
-use Rattle.broker_core.specs.declared.fault.BrokerFault.{BrokerFault}
-use Rattle.broker_core.specs.declared.fault.BrokerFault.TheVariants as broker
+use Rattle.broker_core.specs.declared.broker.BrokerFault.{BrokerFault}
+use Rattle.broker_core.specs.declared.broker.BrokerFault.TheVariants as broker
 use Rattle.flush_core.specs.declared.faults.FlushFault.{FlushFault}
 use Rattle.flush_core.specs.declared.faults.FlushFault.TheVariants.{Device, Full, Broken, Memory}
 

@@ -16,7 +16,7 @@ use Rattle.broker_tables.specs.Tables.{TablesValue}
 use Rattle.broker_core.specs.Outcomes.{led_in_session}
 use Rattle.broker_core.proofs.Answering.{with_more}
 use Rattle.broker_core.proofs.Outcomes.{replies_of}
-use Rattle.broker_core.proofs.executing.execute_in_session.Goals as goal
+use Rattle.broker_core.proofs.broker.execute_in_session.Goals as goal
 
 pub returns-in-End-clause-outs : goal.returns-in-End-clause-outs
 returns-in-End-clause-outs c =

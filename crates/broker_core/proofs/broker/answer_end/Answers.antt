@@ -1,5 +1,5 @@
 use Rattle.std.proofs.Common.{rules}
-use Rattle.broker_core.proofs.answers.answer_end.Goals as goal
+use Rattle.broker_core.proofs.broker.answer_end.Goals as goal
 
 pub returns-in-Lost : goal.returns-in-Lost
 returns-in-Lost c = search rules

@@ -2,7 +2,7 @@ use Rattle.std.proofs.Common.{◌≡◌, ◌∷◌, ◌∙◌, ap, arith, length
 use Rattle.broker_state.specs.Executing.{committed}
 use Rattle.broker_state.specs.Parts.{leaving}
 use Rattle.broker_core.proofs.Transactions.{committed_more}
-use Rattle.broker_core.proofs.committing.apply_all.Goals as goal
+use Rattle.broker_core.proofs.broker.apply_all.Goals as goal
 
 pub loop-member-preserved : goal.loop-member-preserved
 loop-member-preserved c =

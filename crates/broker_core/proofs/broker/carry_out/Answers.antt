@@ -4,7 +4,7 @@ use Rattle.broker_state.specs.Steps.{outs_to, replies}
 use Rattle.broker_tables.specs.Answers.{with_outs}
 use Rattle.broker_core.specs.Outcomes.{led_in_session, outs_of}
 use Rattle.broker_core.proofs.Answering.{with_none}
-use Rattle.broker_core.proofs.executing.carry_out.Goals as goal
+use Rattle.broker_core.proofs.broker.carry_out.Goals as goal
 
 pub returns-then-not-contains_key-clause-outs : goal.returns-then-not-contains_key-clause-outs
 returns-then-not-contains_key-clause-outs c =

@@ -1,6 +1,6 @@
 use Rattle.std.proofs.Common.{◌≡◌, ◌≤◌, ◌+◌, false, length}
 use Rattle.broker_state.specs.Executing.{committed}
-use Rattle.broker_core.proofs.committing.apply_all.Given as goal
+use Rattle.broker_core.proofs.broker.apply_all.Given as goal
 
 abbrev pub invariant-loop-member : goal.invariant-loop-member
 invariant-loop-member l = record {
