@@ -3,8 +3,8 @@ use Rattle.std.specs.Prelude.{List, [], ◌∷◌, ℕ}
 use Rattle.std.specs.Int.{w32, w64, to_be_bytes}
 use Rattle.std.specs.List.{flat_map}
 use Rattle.command_core.specs.PartSpellings.{counted, sending}
-use Rattle.snapshot_core.specs.declared.part.Part.{Part}
-use Rattle.snapshot_core.specs.declared.part.Part.TheVariants.{Number, Count, Byte, Text, Destination, Sending}
+use Rattle.snapshot_core.specs.declared.writing.Part.{Part}
+use Rattle.snapshot_core.specs.declared.writing.Part.TheVariants.{Number, Count, Byte, Text, Destination, Sending}
 
 -- what one part spells
 abbrev pub spelled_by : Part → List ℕ

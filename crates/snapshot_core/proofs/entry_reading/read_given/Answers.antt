@@ -1,5 +1,0 @@
-use Rattle.std.proofs.Common.{rules}
-use Rattle.snapshot_core.proofs.entry_reading.read_given.Goals as goal
-
-pub new-requires : goal.new-requires
-new-requires c = search rules

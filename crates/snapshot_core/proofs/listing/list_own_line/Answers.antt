@@ -1,5 +1,0 @@
-use Rattle.std.proofs.Common.{rules}
-use Rattle.snapshot_core.proofs.listing.list_own_line.Goals as goal
-
-pub returns-clause-put : goal.returns-clause-put
-returns-clause-put c = search rules

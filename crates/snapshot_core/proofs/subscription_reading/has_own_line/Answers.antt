@@ -1,5 +1,0 @@
-use Rattle.std.proofs.Common.{rules}
-use Rattle.snapshot_core.proofs.subscription_reading.has_own_line.Goals as goal
-
-pub returns : goal.returns
-returns c = search rules
