@@ -3,7 +3,7 @@ use Rattle.std.specs.Prelude.{◌≡◌, ◌⊎◌, List, [], ◌∷◌, ◌++�
 use denote.RawPtr.{Ptr, null_ptr}
 use Rattle.command_core.specs.Outs.{OutValue}
 use Rattle.rtrb.specs.Shared.{Names}
-use Rattle.outbox_core.specs.declared.size.BoxSize.{BoxSize}
+use Rattle.outbox_core.specs.declared.sender.BoxSize.{BoxSize}
 
 -- which ring it is: where it lies, and its name
 pub record RingId : Type 0 where

@@ -1,6 +1,6 @@
 -- How long a box that fills is waited for.
 use Rattle.std.specs.Prelude.{◌==◌, ◌-◌, ℕ, Bool, true, false, nat_lt, if◌then◌else◌}
-use Rattle.outbox_core.specs.declared.crowding.Crowding.{Crowding}
+use Rattle.outbox_core.specs.declared.boxes.Crowding.{Crowding}
 
 -- how a box that is not over half full begins
 abbrev pub unhurried : Crowding

@@ -9,7 +9,7 @@ use Rattle.rtrb.specs.declared.consumer.Consumer.{Consumer}
 use Rattle.rtrb.specs.declared.end.End.{End}
 use Rattle.rtrb.specs.declared.finished.Finished.{Finished}
 use Rattle.rtrb.specs.declared.producer.Producer.{Producer}
-use Rattle.outbox_core.specs.declared.size.BoxSize.{BoxSize}
+use Rattle.outbox_core.specs.declared.sender.BoxSize.{BoxSize}
 use Rattle.outbox_core.specs.Boxes.{BoxId, GivenValue, RingId, TakerValue}
 use Rattle.outbox_core.specs.Weights.{weight}
 

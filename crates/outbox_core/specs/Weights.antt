@@ -2,7 +2,7 @@
 use Rattle.std.specs.Prelude.{◌+◌, ◌*◌, ◌<◌, ◌≤◌, ◌⊎◌, List, ℕ, length}
 use Rattle.std.specs.List.{sum_by}
 use Rattle.command_core.specs.Outs.{OutValue, weight_of}
-use Rattle.outbox_core.specs.declared.size.BoxSize.{BoxSize}
+use Rattle.outbox_core.specs.declared.sender.BoxSize.{BoxSize}
 
 -- the bytes that several outputs count for
 abbrev pub weight : List OutValue → ℕ

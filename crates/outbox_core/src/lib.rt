@@ -6,18 +6,10 @@
 
 mod bell;
 mod boxes;
-mod crowding;
-mod finished;
-mod open_end;
-mod opening;
 mod sender;
-mod size;
 mod taker;
 
 pub use bell::{Bell, Silent};
 pub use boxes::Boxes;
-pub use finished::Finished;
-pub use opening::outbox;
-pub use sender::OutSender;
-pub use size::BoxSize;
+pub use sender::{BoxSize, Finished, OutSender, outbox};
 pub use taker::{OutTaker, Taken};

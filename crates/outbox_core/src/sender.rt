@@ -1,17 +1,29 @@
 //! The sending end of an outbox.
 
-ghost use Rattle.std.specs.Prelude.{◌≡◌, ◌⊎◌, ◌++◌, ◌∷◌, [], OnOk, IfErr, IfSome, true, false};
+ghost use Rattle.std.specs.Prelude.{◌≡◌, ◌⊎◌, ◌++◌, ◌∷◌, [], OnOk, IfErr, IfSome, true, false, ◌+◌, ◌-◌, ◌≤◌, SomeIff, IfOk};
+ghost use Rattle.std.specs.List.{sum};
+ghost use Rattle.rtrb.specs.Ring.{SameConsumer, received};
+ghost use Rattle.command_core.specs.Outs.{weight_of};
 ghost use Rattle.outbox_core.specs.Boxes.{CutsOff, with_given};
 ghost use Rattle.outbox_core.specs.Senders.{sender_value};
 ghost use Rattle.outbox_core.specs.Weights.{Overfill};
 
 use crate::bell::Bell;
-use crate::crowding::Crowding;
-use crate::finished::Finished;
-use crate::open_end::OpenEnd;
+use crate::boxes::Crowding;
+use crate::taker::OutTaker;
 use command_core::Out;
+use rtrb::{Consumer, Producer, PushError, RingBuffer};
+use std::alloc::{AllocError, Global};
 use std::marker::Model;
 use std::mem::replace;
+use std::sync::Arc;
+use std::sync::atomic::{AtomicU64, Ordering};
+
+/// How many credits there is room for.
+pub(crate) const CREDITS: usize = 64;
+
+/// How many bytes a waiting output takes beside its own, for its list of headers.
+pub(crate) const OUTPUT_BYTES: u64 = 512;
 
 // The open end; once the box is cut, what is left of it, or nothing if the taker was gone by then.
 #[derive(Drop)]
@@ -175,4 +187,190 @@ impl<B: Bell> Drop for OutSender<B> {
         drop(end);
         bell.ring();
     }
+}
+
+/// How many bytes are free once all credits that are there are added, at most `bytes`.
+fn collect(credits: &mut Consumer<u64>, free: u64, bytes: u64) -> u64
+    requires { free ≤ bytes }
+    ensures ring { SameConsumer credits.old credits.new }
+    ensures free { (free ≤ result) × (result ≤ bytes) }
+    ensures counted { result + sum (received credits.old) ≤ free + sum (received credits.new) }
+{
+    let mut sum = free;
+    for _ in 0..CREDITS {
+        let Ok(credit) = credits.pop() else {
+            return sum;
+        };
+        sum = sum.saturating_add(credit).min(bytes);
+    }
+    sum
+}
+
+/// What is left of `free` bytes once an output takes its own, or `None` if it counts for more.
+fn without(free: u64, out: &Out) -> Option<u64>
+    ensures { SomeIff result (weight_of out.now ≤ free) (free - weight_of out.now) }
+{
+    free.checked_sub(out.weight()?)
+}
+
+/// The sending end of a box that is not cut. Contracts see which box it is of, the box's size, and what was given.
+#[derive(Drop)]
+pub(crate) struct OpenEnd {
+    pub(crate) outputs: Producer<Out>,
+    // Through it the taker reports how much it took.
+    pub(crate) credits: Consumer<u64>,
+    pub(crate) size: BoxSize,
+    // How many of the box's bytes are free, as far as this end knows.
+    pub(crate) free: u64,
+    // How many bytes were given; the taker reads this.
+    pub(crate) given: Arc<AtomicU64>,
+}
+
+impl Model for OpenEnd {
+    ghost use Rattle.outbox_core.specs.Boxes.{GivenValue};
+    ghost use Rattle.outbox_core.specs.Ends.{HasFree, open_value};
+
+    ghost Value = { GivenValue };
+
+    ghost view = { λ a. open_value a.outputs a.credits a.size };
+
+    ghost invariant = { λ a. HasFree a.outputs a.credits a.size a.free };
+}
+
+impl OpenEnd {
+    /// Puts an output in as the last, or hands it back if there is no room for it. It takes no memory.
+    pub(crate) fn put(&mut self, out: Out) -> Result<(), Out>
+        ensures given { OnOk result (self.new ≡ record self.old { given = self.old.given ++ out ∷ [] }) }
+        ensures back { IfErr result (λ same. (same ≡ out) × (self.new ≡ self.old)) }
+        ensures full { IfErr result (λ _. Overfill self.old.size (self.old.given ++ out ∷ [])) }
+    {
+        self.free = collect(&mut self.credits, self.free, self.size.bytes);
+        let Some(left) = without(self.free, &out) else {
+            return Err(out);
+        };
+        match self.outputs.push(out) {
+            Ok(()) => {
+                let kept = (self.free - left).saturating_add(OUTPUT_BYTES);
+                self.given.fetch_add(kept, Ordering::SeqCst);
+                self.free = left;
+                Ok(())
+            }
+            Err(PushError::Full(out)) => Err(out),
+        }
+    }
+
+    /// For how many outputs there is room now.
+    pub(crate) fn room(&mut self) -> usize
+        ensures { self.new ≡ self.old }
+    {
+        self.outputs.slots()
+    }
+
+    /// Whether less than half of the box's room is left, in outputs or in bytes, if it has room for so many outputs.
+    pub(crate) fn is_over_half(&mut self, room: usize) -> bool
+        ensures { self.new ≡ self.old }
+    {
+        self.free = collect(&mut self.credits, self.free, self.size.bytes);
+        room < self.size.outputs / 2 || self.free < self.size.bytes / 2
+    }
+
+    /// Ends the box, and shows what was given; `None` if the taker is gone.
+    pub(crate) fn finish(self) -> Option<Finished>
+        ensures { IfSome result (λ all. all ≡ self) }
+    {
+        let OpenEnd {
+            outputs,
+            credits,
+            size,
+            free: _,
+            given,
+        } = self;
+        drop(given);
+        let Some(outputs) = outputs.finish() else {
+            return None;
+        };
+        Some(Finished {
+            outputs,
+            credits,
+            size,
+        })
+    }
+}
+
+/// What is left of a sending end that has finished. It can move to the taker's thread. Contracts see which box it is of, the box's size,
+/// and all that was given.
+#[derive(Drop)]
+pub struct Finished {
+    pub(crate) outputs: rtrb::Finished<Out>,
+    pub(crate) credits: Consumer<u64>,
+    pub(crate) size: BoxSize,
+}
+
+impl Model for Finished {
+    ghost use Rattle.outbox_core.specs.Boxes.{GivenValue};
+    ghost use Rattle.outbox_core.specs.Ends.{HadRoom, finished_value};
+
+    ghost Value = { GivenValue };
+
+    ghost view = { λ a. finished_value a.outputs a.credits a.size };
+
+    ghost invariant = { λ a. HadRoom a.outputs a.credits a.size };
+}
+
+/// A new box, open and empty, of that size: the end that gives, which rings that bell, and the end that takes. It takes the memory for all
+/// its places at once; no other call of a box takes memory.
+pub fn outbox<B: Bell>(
+    alloc: Global,
+    bell: B,
+    size: BoxSize,
+) -> Result<(OutSender<B>, OutTaker), AllocError>
+    ensures one_box { IfOk result (λ ends. ends.0.box ≡ ends.1.box) }
+    ensures size { IfOk result (λ ends. (ends.0.size ≡ size) × (ends.1.size ≡ size)) }
+    ensures sender { IfOk result (λ ends. (ends.0.given ≡ []) × (ends.0.cut ≡ false)) }
+    ensures taker { IfOk result (λ ends. (ends.1.taken ≡ []) × (ends.1.seen ≡ [])) }
+{
+    let (outputs, taken) = RingBuffer::new(alloc, size.outputs)?;
+    let (told, credits) = RingBuffer::new(alloc, CREDITS)?;
+    let given = Arc::new(alloc, AtomicU64::new(0))?;
+    let seen: Arc<AtomicU64> = given.clone()?;
+    let open = OpenEnd {
+        outputs,
+        credits,
+        size,
+        free: size.bytes,
+        given,
+    };
+    let sender = OutSender {
+        end: BoxEnd::Open(open),
+        bell,
+        noted_in: 0,
+        crowding: Crowding::none(),
+    };
+    let taker = OutTaker {
+        outputs: taken,
+        credits: told,
+        owed: 0,
+        bytes: size.bytes,
+        given: seen,
+        took: 0,
+    };
+    Ok((sender, taker))
+}
+
+/// How much may wait in a box.
+#[derive(Clone, Copy)]
+pub struct BoxSize {
+    /// How many outputs.
+    pub outputs: usize,
+    /// How many bytes of outputs. An output counts for those of its body and of its headers' names and values.
+    pub bytes: u64,
+}
+
+impl BoxSize {
+    /// What a server's box has room for: all that its broker can hold, which is 4,096 messages and 16 MiB, and 512 more outputs and 16 MiB
+    /// more.
+    pub const SERVER: BoxSize = BoxSize {
+        outputs: 4_608,
+        bytes: 33_554_432,
+    };
 }

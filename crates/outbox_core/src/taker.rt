@@ -6,9 +6,7 @@ ghost use Rattle.outbox_core.specs.Takes.{Takes};
 ghost use Rattle.outbox_core.specs.Weights.{Fits, most_waiting};
 
 use crate::bell::Bell;
-use crate::finished::Finished;
-use crate::sender::{BoxEnd, OutSender};
-use crate::size::OUTPUT_BYTES;
+use crate::sender::{BoxEnd, Finished, OUTPUT_BYTES, OutSender};
 use command_core::Out;
 use rtrb::{Consumer, Producer};
 use std::marker::Model;

@@ -1,7 +1,7 @@
 use Rattle.std.proofs.Common.{◌+◌, ◌≤◌}
 use Rattle.std.specs.List.{sum}
 use Rattle.rtrb.specs.Ring.{SameConsumer, received}
-use Rattle.outbox_core.proofs.open_end.collect.Given as goal
+use Rattle.outbox_core.proofs.sender.collect.Given as goal
 
 abbrev pub invariant-loop : goal.invariant-loop
 invariant-loop l = record {
