@@ -4,8 +4,8 @@ use Rattle.std.specs.Int.{w64, to_be_bytes}
 use Rattle.disk_core.specs.declared.disk.Disk.{Ghosts}
 use Rattle.disk_core.specs.Faults.{IsOneMore}
 use Rattle.disk_core.specs.Images.{Only, Torn}
-use Rattle.area_core.specs.declared.making.MakeFault.{MakeFault}
-use Rattle.area_core.specs.declared.making.MakeFault.TheVariants.{TooSmall, Full, Device, Memory}
+use Rattle.area_core.specs.declared.formatting.MakeFault.{MakeFault}
+use Rattle.area_core.specs.declared.formatting.MakeFault.TheVariants.{TooSmall, Full, Device, Memory}
 use Rattle.area_core.specs.declared.version.Version.TheVariants.{Two}
 use Rattle.area_core.specs.Areas.{IsArea}
 use Rattle.area_core.specs.Damage.{IsNoJournal, IsOtherVersion}

@@ -1,10 +1,31 @@
 //! The live area of a journal.
 
-ghost use Rattle.std.specs.Prelude.{◌≡◌, ◌+◌, ◌*◌, ◌%◌, ◌<◌, ◌≤◌, ◌^◌, ◌↔◌, IsTrue};
-ghost use Rattle.area_core.specs.Areas.{number};
-ghost use Rattle.area_core.specs.Journals.{is_odd, other, start};
+ghost use Rattle.std.specs.Prelude.{◌≡◌, ◌+◌, ◌*◌, ◌%◌, ◌<◌, ◌≤◌, ◌^◌, ◌↔◌, IsTrue, ◌≢◌, [], length, OnOk, false, take, drop, IfErr, IfOk, OnErr, IsErrOf, ℕ, List};
+ghost use Rattle.std.specs.Int.{w64, to_be_bytes};
+ghost use Rattle.disk_core.specs.Calls.{Lasts, Throughout};
+ghost use Rattle.disk_core.specs.Images.{Torn};
+ghost use Rattle.disk_core.specs.declared.file.TheConstants.{SLACK_AT, SLACK_BYTES};
+ghost use Rattle.command_core.specs.Commands.{CommandValue};
+ghost use Rattle.area_core.specs.Areas.{number, commands, word_of};
+ghost use Rattle.area_core.specs.Journals.{is_odd, other, start, Reads};
+ghost use Rattle.area_core.specs.Calls.{Adds, Breaks, InPlace, RefusesBlock, BreaksWhole, InPlaceTo, IsReady, NeedsNothing, Overwrites, WritesClosed, WritesNext, Switches, WritesIdle};
+ghost use Rattle.area_core.specs.Steps.{IsBeforeOrAfter, HasNoRoom};
+ghost use Rattle.area_core.specs.Closing.{closing};
+ghost use Rattle.area_core.specs.Switches.{KeepsRest, IsSwitching, IsWriting};
+ghost use Rattle.area_core.specs.Damage.{IsBlockTold, IsFrontTold, IsLengthTold, IsReadCaused, IsWordTold};
+ghost use Rattle.area_core.specs.Held.{LiesOn, gate_at};
+ghost use Rattle.area_core.specs.Reading.{GoesOn, IsPast, MovesGate, ReadsNext, ReadsOnly};
+ghost use Rattle.area_core.specs.declared.version.Version.{Version};
 
-use crate::Version;
+use crate::batch::{block_of, commands_of, records_len};
+use crate::closing::next_closed;
+use crate::header::{fetch, fetch_bytes, fetch_number, header};
+use crate::pieces::Pieces;
+use crate::put::{COUNTED, put, put_behind_gate};
+use crate::{AreaFault, ReadFault, Version};
+use command_core::{Command, Entry};
+use disk_core::Disk;
+use std::alloc::Global;
 
 /// The live area of a journal, with the place of its first closed gate. It does not hold the disk.
 #[derive(Drop)]
@@ -102,4 +123,305 @@ impl Area {
     {
         self.gate + 1
     }
+
+    /// Adds the commands of a batch, as one block.
+    ///
+    /// A stop at any moment leaves the old commands, or the old ones and then all of the new. After a refusal every
+    /// later call answers `Broken`.
+    pub fn append<B, D: Disk>(
+        &mut self,
+        alloc: Global,
+        disk: &mut D,
+        batch: &[Entry<B>],
+    ) -> Result<(), AreaFault>
+        requires some { batch.now ≢ [] }
+        requires room { 32 + 2 * self.old.size ≤ length (D.content disk.old) }
+        ensures any_moment { Throughout D.Disk disk.old disk.new
+            (IsBeforeOrAfter (D.images disk.old) self.old (commands batch.now)) }
+        ensures adds { OnOk result (Adds D.Disk self.old self.new disk.old disk.new (commands batch.now)) }
+        ensures refuses { RefusesBlock self.old disk.old disk.new (commands batch.now) result }
+        ensures breaks { Breaks D.Disk self.old self.new disk.old disk.new result }
+        ensures place { InPlace self.old self.new }
+        ensures lasts { Lasts D.Disk disk.old disk.new }
+    {
+        if self.broken {
+            return Err(AreaFault::Broken);
+        }
+        self.broken = true;
+        let Some(records) = records_len(batch) else {
+            return Err(AreaFault::Full);
+        };
+        if !self.fits(records) {
+            return Err(AreaFault::Full);
+        }
+        let block = block_of(alloc, batch, records)?;
+        let gate = self.begins() + self.gate;
+        put_behind_gate(disk, gate, &block)?;
+        self.gate += 9 + records;
+        self.broken = false;
+        Ok(())
+    }
+
+    /// Writes a piece into the area that is not live, from its offset `at` on: one call of the disk, without a sync. A stop at any moment
+    /// leaves every other byte as it was. It takes no memory.
+    pub fn write_piece<D: Disk>(
+        &mut self,
+        disk: &mut D,
+        at: u64,
+        piece: &[u8],
+    ) -> Result<(), AreaFault>
+        requires room { 32 + 2 * self.old.size ≤ length (D.content disk.old) }
+        requires within { at + length piece.now ≤ self.old.size }
+        ensures outside { Throughout D.Disk disk.old disk.new (KeepsRest (D.images disk.old) self.old) }
+        ensures overwrites { D.honest disk.old →
+            Overwrites self.old at piece.now (D.content disk.old) (D.content disk.new) result }
+        ensures needs { NeedsNothing result }
+        ensures breaks { Breaks D.Disk self.old self.new disk.old disk.new result }
+        ensures place { InPlaceTo self.old self.new }
+        ensures lasts { Lasts D.Disk disk.old disk.new }
+    {
+        if self.broken {
+            return Err(AreaFault::Broken);
+        }
+        self.broken = true;
+        disk.write_at(self.idle_begins() + at, piece)?;
+        self.broken = false;
+        Ok(())
+    }
+
+    // Writes the next piece of a snapshot, once `at` bytes are written, and answers how many bytes the piece has.
+    fn write_next<D: Disk, P: Pieces>(
+        &mut self,
+        alloc: Global,
+        disk: &mut D,
+        pieces: &mut P,
+        at: u64,
+        total: u64,
+    ) -> Result<u64, AreaFault>
+        requires ready { IsReady self.old (D.content disk.old) }
+        requires seven { total < 2 ^ 56 }
+        requires within { at + length (closing at total (P.coming pieces.old)) ≤ self.old.size }
+        ensures outside { Throughout D.Disk disk.old disk.new (KeepsRest (D.images disk.old) self.old) }
+        ensures next { WritesNext D.Disk self.old disk.old disk.new at total (P.coming pieces.old) (P.coming pieces.new) result }
+        ensures breaks { BreaksWhole D.Disk self.new disk.old disk.new result }
+        ensures place { InPlaceTo self.old self.new }
+        ensures lasts { Lasts D.Disk disk.old disk.new }
+    {
+        match next_closed(alloc, pieces, at, total) {
+            Ok(piece) => {
+                self.write_piece(disk, at, &piece)?;
+                Ok(piece.len() as u64)
+            }
+            Err(refused) => {
+                self.broken = true;
+                Err(AreaFault::Memory(refused))
+            }
+        }
+    }
+
+    // Writes the snapshot into the area that is not live, from its first byte on, between the area's first word and a closed gate.
+    pub(crate) fn write_closed<D: Disk, P: Pieces>(
+        &mut self,
+        alloc: Global,
+        disk: &mut D,
+        pieces: &mut P,
+    ) -> Result<(), AreaFault>
+        requires ready { IsReady self.old (D.content disk.old) }
+        requires fits { length (P.coming pieces.old) + 9 ≤ self.old.size }
+        requires seven { length (P.coming pieces.old) < 2 ^ 56 }
+        ensures outside { Throughout D.Disk disk.old disk.new (KeepsRest (D.images disk.old) self.old) }
+        ensures content { D.honest disk.old → OnOk result (
+            WritesClosed self.old (P.coming pieces.old) (D.content disk.old) (D.content disk.new)) }
+        ensures breaks { BreaksWhole D.Disk self.new disk.old disk.new result }
+        ensures place { InPlaceTo self.old self.new }
+        ensures lasts { Lasts D.Disk disk.old disk.new }
+    {
+        let total = pieces.len();
+        let mut at = 0;
+        while at < total + 9 {
+            at += self.write_next(alloc, disk, pieces, at, total)?;
+        }
+        Ok(())
+    }
+
+    /// The live area at its first gate, before any block is read, and the bytes of its snapshot. Nothing is written.
+    pub fn front<D: Disk>(alloc: Global, disk: &mut D) -> Result<(Area, Vec<u8>), ReadFault>
+        ensures front { D.honest disk.old →
+            IfOk result (λ r. IsPast r.0 r.1.items [] (D.content disk.old)) }
+        ensures refused { D.honest disk.old → IfErr result (λ fault. IsFrontTold fault (D.content disk.old)) }
+        ensures whole { IfOk result (λ r. r.0.broken ≡ false) }
+        ensures least { IfOk result (λ r. 4096 ≤ r.0.size) }
+        ensures room { IfOk result (λ r. 32 + 2 * r.0.size ≤ length (D.content disk.new)) }
+        ensures reads { ReadsOnly D.Disk disk.old disk.new }
+        ensures cause { IsReadCaused (D.failures disk.old) (D.failures disk.new) result }
+    {
+        let (size, selector) = header(disk)?;
+        let mut area = Area {
+            version: Version::Two,
+            size,
+            selector,
+            gate: 8,
+            written: 0,
+            broken: false,
+        };
+        let base = area.begins();
+        let (version, length) = first_word(disk, base, size)?;
+        let snapshot = fetch_bytes(alloc, disk, base + 8, length)?;
+        area.version = version;
+        area.gate = 8 + length;
+        Ok((area, snapshot))
+    }
+
+    // How many bytes the records behind the gate at that place of the disk have. The gate is open.
+    fn block_len<D: Disk>(&self, disk: &mut D, at: u64) -> Result<u64, ReadFault>
+        requires room { LiesOn self.now (D.content disk.old) }
+        requires place { at ≡ gate_at self.now }
+        ensures told { D.honest disk.old →
+            IfOk result (λ n. take 8 (drop (at + 1) (D.content disk.old)) ≡ to_be_bytes w64 n) }
+        ensures some { IfOk result (λ n. 1 ≤ n) }
+        ensures fits { IfOk result (λ n. self.now.gate + 10 + n ≤ self.now.size) }
+        ensures refused { D.honest disk.old → IfErr result (λ fault. IsLengthTold fault self.now (D.content disk.old)) }
+        ensures reads { ReadsOnly D.Disk disk.old disk.new }
+        ensures cause { IsReadCaused (D.failures disk.old) (D.failures disk.new) result }
+    {
+        let left = self.size - self.gate;
+        if left < 10 {
+            return Err(ReadFault::Damaged(at + 1));
+        }
+        let count = fetch_number(disk, at + 1)?;
+        if count == 0 || count > left - 10 {
+            return Err(ReadFault::Damaged(at + 1));
+        }
+        Ok(count)
+    }
+
+    /// The commands of the next block, or `None` at the first closed gate. Nothing is written. After a refusal the area is where it was.
+    pub fn next_block<D: Disk>(
+        &mut self,
+        alloc: Global,
+        disk: &mut D,
+    ) -> Result<Option<Vec<Command>>, ReadFault>
+        requires room { LiesOn self.old (D.content disk.old) }
+        ensures block { D.honest disk.old →
+            IfOk result (ReadsNext (λ commands. commands.items) self.old self.new (D.content disk.old)) }
+        ensures refused { D.honest disk.old → IfErr result (λ fault. IsBlockTold fault self.old (D.content disk.old)) }
+        ensures same { OnErr result (self.new ≡ self.old) }
+        ensures grows { IfOk result (MovesGate self.old self.new) }
+        ensures place { GoesOn self.old self.new }
+        ensures reads { ReadsOnly D.Disk disk.old disk.new }
+        ensures cause { IsReadCaused (D.failures disk.old) (D.failures disk.new) result }
+    {
+        let at = self.begins() + self.gate;
+        let mut gate = [0];
+        fetch(disk, at, &mut gate)?;
+        if gate[0] != 1 {
+            return Ok(None);
+        }
+        let count = self.block_len(disk, at)?;
+        let bytes = fetch_bytes(alloc, disk, at + 9, count)?;
+        let commands = commands_of(alloc, &bytes, at + 9)?;
+        self.gate += 9 + count;
+        Ok(Some(commands))
+    }
+
+    /// Writes a snapshot into the area that is not live, which is then of the second version, whatever it was before. It writes pieces of
+    /// 65,536 bytes, each by one call of the disk, and then syncs. A stop at any moment leaves every byte outside that area as it was, and
+    /// so the live area too. `Full` comes before the first call, if the snapshot doesn't fit or has 2^56 bytes or more. If memory is
+    /// refused, some pieces may have been written.
+    pub fn write_snapshot<D: Disk, P: Pieces>(
+        &mut self,
+        alloc: Global,
+        disk: &mut D,
+        snapshot: &mut P,
+    ) -> Result<(), AreaFault>
+        requires room { 32 + 2 * self.old.size ≤ length (D.content disk.old) }
+        ensures any_moment { Throughout D.Disk disk.old disk.new
+            (IsWriting (D.images disk.old) self.old) }
+        ensures writes { OnOk result (WritesIdle D.Disk self.new disk.old disk.new (P.coming snapshot.old)) }
+        ensures full { IsErrOf result AreaFault.Full →
+            HasNoRoom self.old.size (length (P.coming snapshot.old)) × (disk.new ≡ disk.old) }
+        ensures breaks { Breaks D.Disk self.old self.new disk.old disk.new result }
+        ensures place { InPlaceTo self.old self.new }
+        ensures lasts { Lasts D.Disk disk.old disk.new }
+    {
+        if self.broken {
+            return Err(AreaFault::Broken);
+        }
+        let size = snapshot.len();
+        if size > self.size - 9 || size >= COUNTED {
+            self.broken = true;
+            return Err(AreaFault::Full);
+        }
+        self.write_closed(alloc, disk, snapshot)?;
+        self.broken = true;
+        disk.sync()?;
+        self.written = size;
+        self.broken = false;
+        Ok(())
+    }
+
+    /// Makes the other area, which has the snapshot last written, the live one. The selector goes up by one, and from 255 to 0.
+    ///
+    /// A stop at any moment leaves every byte but the selector as it was. So both areas stay as they are, and one of them is live. It takes
+    /// no memory.
+    pub fn switch<D: Disk>(&mut self, disk: &mut D) -> Result<(), AreaFault>
+        requires room { 32 + 2 * self.old.size ≤ length (D.content disk.old) }
+        ensures any_moment { Throughout D.Disk disk.old disk.new
+            (IsSwitching (D.images disk.old) self.old) }
+        ensures switches { OnOk result (Switches D.Disk self.old self.new disk.old disk.new) }
+        ensures size { self.new.size ≡ self.old.size }
+        ensures version { OnErr result (self.new.version ≡ self.old.version) }
+        ensures needs { NeedsNothing result }
+        ensures breaks { Breaks D.Disk self.old self.new disk.old disk.new result }
+        ensures lasts { Lasts D.Disk disk.old disk.new }
+    {
+        if self.broken {
+            return Err(AreaFault::Broken);
+        }
+        self.broken = true;
+        let selector = self.selector.wrapping_add(1);
+        put(disk, 16, &[selector])?;
+        self.selector = selector;
+        self.version = Version::Two;
+        self.gate = 8 + self.written;
+        self.broken = false;
+        Ok(())
+    }
 }
+
+// The version of the area of `size` bytes that begins at that place, and how many bytes its snapshot has. It reports an unknown version
+// before it looks whether the snapshot fits.
+fn first_word<D: Disk>(disk: &mut D, at: u64, size: u64) -> Result<(Version, u64), ReadFault>
+    requires room { at + 8 ≤ length (D.content disk.old) }
+    requires least { 9 ≤ size }
+    ensures told { D.honest disk.old →
+        IfOk result (λ r. take 8 (drop at (D.content disk.old)) ≡ to_be_bytes w64 (word_of r.0 r.1)) }
+    ensures seven { IfOk result (λ r. r.1 < 2 ^ 56) }
+    ensures fits { IfOk result (λ r. r.1 + 9 ≤ size) }
+    ensures refused { D.honest disk.old → IfErr result (λ fault. IsWordTold fault at size (D.content disk.old)) }
+    ensures reads { ReadsOnly D.Disk disk.old disk.new }
+    ensures cause { IsReadCaused (D.failures disk.old) (D.failures disk.new) result }
+{
+    let word = fetch_number(disk, at)?;
+    let Some(version) = Version::of(word / COUNTED) else {
+        return Err(ReadFault::Damaged(at));
+    };
+    let length = word % COUNTED;
+    if length > size - 9 {
+        return Err(ReadFault::Damaged(at));
+    }
+    Ok((version, length))
+}
+
+/// An image has at most one reading: one version, one length of areas, one live area, one snapshot, the same blocks. The function does
+/// nothing.
+pub fn an_image_has_one_reading()
+    ensures { (v w : Version) (a b i j : ℕ) (s t : List ℕ) (xs ys : List (List CommandValue)) (image : List ℕ) →
+        Reads v a i s xs image → Reads w b j t ys image → (v ≡ w) × (a ≡ b) × (i ≡ j) × (s ≡ t) × (xs ≡ ys) }
+{}
+
+/// The bytes that a file's disk writes back with its first sync mean nothing: with any bytes in their place an image reads as the same journal.
+/// The function does nothing.
+pub fn bytes_that_are_written_back_are_not_read()
+    ensures { (version : Version) (size selector : ℕ) (snapshot : List ℕ) (blocks : List (List CommandValue)) (image torn : List ℕ) → Torn SLACK_AT SLACK_BYTES image torn → Reads version size selector snapshot blocks image → Reads version size selector snapshot blocks torn }
+{}

@@ -2,29 +2,20 @@
 
 #![tactic(auto)]
 
-mod append;
 mod area;
 mod batch;
 mod closing;
 mod faults;
 mod formatting;
 mod header;
-mod law;
-mod making;
 mod naming;
-mod piece;
 mod pieces;
 mod put;
-mod reading;
-mod records;
-mod switch;
 mod version;
 
-pub use area::Area;
+pub use area::{Area, an_image_has_one_reading, bytes_that_are_written_back_are_not_read};
 pub use faults::{AreaFault, FormatFault, ReadFault};
-pub use formatting::{format, header_of};
-pub use law::{an_image_has_one_reading, bytes_that_are_written_back_are_not_read};
-pub use making::{MakeFault, make};
+pub use formatting::{MakeFault, format, header_of, make};
 pub use pieces::{LentBytes, Pieces};
 pub use put::{closed, closed_snapshot};
 pub use version::Version;

@@ -1,8 +1,8 @@
 -- What a copy of a journal is.
 use Rattle.std.specs.Prelude.{List, ℕ, codes}
 use Rattle.area_core.specs.declared.faults.FormatFault.TheVariants as formats
-use Rattle.area_core.specs.declared.making.MakeFault.{MakeFault}
-use Rattle.area_core.specs.declared.making.MakeFault.TheVariants as makes
+use Rattle.area_core.specs.declared.formatting.MakeFault.{MakeFault}
+use Rattle.area_core.specs.declared.formatting.MakeFault.TheVariants as makes
 use Rattle.area_core.specs.Texts.{format_text}
 use Rattle.broker_core.specs.States.{State}
 use Rattle.recover_core.specs.Standing.{StandFor, Stands}

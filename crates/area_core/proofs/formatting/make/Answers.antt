@@ -5,7 +5,7 @@ use Rattle.area_core.specs.declared.version.Version.TheVariants.{Two}
 use Rattle.area_core.specs.Journals.{Reads}
 use Rattle.area_core.specs.Making.{IsMaking, IsUnnamed, IsUnnaming}
 use Rattle.area_core.proofs.Named.{behind, filled, made, unnaming}
-use Rattle.area_core.proofs.making.make.Goals as goal
+use Rattle.area_core.proofs.formatting.make.Goals as goal
 
 pub returns-in_err-begin-clause-any_moment : goal.returns-in_err-begin-clause-any_moment
 returns-in_err-begin-clause-any_moment g c only honest =

@@ -2,7 +2,7 @@ use Rattle.std.proofs.Common.{rules, ◌≡◌, ◌-◌, ◌++◌, List, ℕ, le
 use Rattle.area_core.specs.Areas.{records}
 use Rattle.area_core.specs.Damage.{IsRecordTold}
 use Rattle.area_core.proofs.RecordsRead.{all_read, each_more, less_left, record_more, some_rest, told_so}
-use Rattle.area_core.proofs.records.commands_of.Goals as goal
+use Rattle.area_core.proofs.batch.commands_of.Goals as goal
 
 pub loop-rest-smaller : goal.loop-rest-smaller
 loop-rest-smaller c =

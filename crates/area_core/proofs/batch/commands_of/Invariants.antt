@@ -1,7 +1,7 @@
 use Rattle.std.proofs.Common.{◌≡◌, ◌++◌, length}
 use Rattle.std.specs.List.{AllByRecursion}
 use Rattle.area_core.specs.Areas.{HasRecord, records}
-use Rattle.area_core.proofs.records.commands_of.Given as goal
+use Rattle.area_core.proofs.batch.commands_of.Given as goal
 
 abbrev pub invariant-loop-rest : goal.invariant-loop-rest
 invariant-loop-rest l = record {
