@@ -2,19 +2,14 @@
 
 #![tactic(auto)]
 
-mod compacting;
 mod faults;
-mod folding;
 mod law;
 mod making;
 mod opening;
 mod reading;
 mod seen;
-mod size_law;
 mod snapshot;
 mod store;
-mod stored;
-mod storing;
 
 pub use faults::OpenFault;
 pub use law::{
@@ -23,7 +18,7 @@ pub use law::{
 };
 pub use making::make_holding;
 pub use opening::open;
+pub use reading::stored_broker;
 pub use seen::{Seen, read};
-pub use size_law::restarts_fit_large_areas;
+pub use snapshot::restarts_fit_large_areas;
 pub use store::Store;
-pub use stored::stored_broker;

@@ -1,8 +1,10 @@
 //! The snapshot of a state, in pieces.
 
-ghost use Rattle.std.specs.Prelude.{◌≡◌, ◌<◌, ◌^◌, false, length, IfOk};
+ghost use Rattle.std.specs.Prelude.{◌≡◌, ◌<◌, ◌^◌, false, length, IfOk, ℕ, List};
 ghost use Rattle.broker_core.specs.Operations.{restarted};
 ghost use Rattle.snapshot_core.specs.Snapshots.{Spells, snapshot_of};
+ghost use Rattle.broker_core.specs.States.{State};
+ghost use Rattle.recover_core.specs.Told.{IsTooLong, IsTooLongFor};
 
 use area_core::Pieces;
 use broker_core::Broker;
@@ -61,3 +63,11 @@ impl<'a> Pieces for Snapshot<'a> {
         Ok(piece)
     }
 }
+
+/// What a restart leaves of a state has a snapshot of less than 24,100,000 bytes. So a journal whose areas have 32 MiB
+/// (33,554,432 bytes) or more is never refused because that snapshot does not fit. The function does nothing.
+pub fn restarts_fit_large_areas()
+    ensures bound { (s : State) (snapshot : List ℕ) → Spells snapshot (restarted s) → length snapshot < 24100000 }
+    ensures never { (content : List ℕ) → (long : IsTooLong content) → long.size < 33554432 }
+    ensures never_by_any { (bytes : ℕ) → (long : IsTooLongFor bytes) → long.size < 33554432 }
+{}

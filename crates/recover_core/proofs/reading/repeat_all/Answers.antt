@@ -1,7 +1,7 @@
 use Rattle.std.proofs.Common.{inr, arith}
 use Rattle.recover_core.specs.Standing.{rule_of}
 use Rattle.recover_core.proofs.Folded.{left_out}
-use Rattle.recover_core.proofs.folding.repeat_all.Goals as goal
+use Rattle.recover_core.proofs.reading.repeat_all.Goals as goal
 
 pub returns-then-count-gt-MOST_COUNTED-clause-state : goal.returns-then-count-gt-MOST_COUNTED-clause-state
 returns-then-count-gt-MOST_COUNTED-clause-state c =

@@ -1,7 +1,7 @@
 use Rattle.std.proofs.Common.{◌≡◌, ◌++◌, false}
 use Rattle.broker_core.specs.Steps.{state_after_by}
 use Rattle.recover_core.specs.Standing.{rule_of}
-use Rattle.recover_core.proofs.folding.repeat_all.Given as goal
+use Rattle.recover_core.proofs.reading.repeat_all.Given as goal
 
 abbrev pub invariant-loop-command : goal.invariant-loop-command
 invariant-loop-command l = record {

@@ -1,6 +1,6 @@
 use Rattle.std.proofs.Common.{arith}
 use Rattle.recover_core.proofs.Sizes.{restart_fits}
-use Rattle.recover_core.proofs.size_law.restarts_fit_large_areas.Goals as goal
+use Rattle.recover_core.proofs.snapshot.restarts_fit_large_areas.Goals as goal
 
 pub returns : goal.returns
 returns c = record {
