@@ -3,7 +3,7 @@ use Rattle.std.proofs.Common.{◌≡◌, ℕ, zero, suc, ◌+◌, List, [], ◌�
 use mathlib.Core.Option.{some, some-injective, some-ne-none}
 use lib.ListN.{get_elem?, length-map}
 use Rattle.command_core.specs.Commands.{CommandValue}
-use Rattle.claim_core.specs.declared.ending.RingEnd.{RingEnd}
+use Rattle.claim_core.specs.declared.ring.RingEnd.{RingEnd}
 use Rattle.claim_core.specs.declared.views.Claimer.{Claimer}
 use Rattle.claim_core.specs.Counts.{sum_of, times}
 use Rattle.atomic_table.specs.Seated.{TableId}

@@ -3,7 +3,7 @@ use Rattle.std.specs.Prelude.{◌≡◌, ℕ, ◌+◌, ◌<◌, ◌≤◌, List,
 use mathlib.Core.Option.{some}
 use lib.ListN.{get_elem?}
 use Rattle.command_core.specs.Commands.{CommandValue}
-use Rattle.claim_core.specs.declared.ending.RingEnd.{RingEnd}
+use Rattle.claim_core.specs.declared.ring.RingEnd.{RingEnd}
 use Rattle.claim_core.specs.Counts.{sum_of, times}
 use Rattle.claim_core.specs.Rule.{IsRising, IsOwnOf}
 use Rattle.claim_core.specs.Seats.{SessionSeatValue, FlushSeatValue, next_ticket}

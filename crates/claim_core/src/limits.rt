@@ -1,5 +1,8 @@
 //! The limits of the ring between sessions and the flusher. Code that speaks of one of these numbers takes its name from here.
 
+use crate::ring::Ring;
+use crate::seats::SessionSeat;
+
 /// How many seats the ring has. A server's desk has one, and so has each connection of a script, whose number is less than this.
 pub const SEATS: usize = 64;
 
@@ -11,3 +14,9 @@ pub const WINDOW: usize = 16;
 pub const PLACES: usize = 1_024;
 
 const _: () = prove!(SEATS * WINDOW <= PLACES);
+
+/// The ring of the broker.
+pub type BrokerRing<B> = Ring<B, SEATS, WINDOW, PLACES>;
+
+/// A session's seat at the broker's ring.
+pub type BrokerSeat<B> = SessionSeat<B, WINDOW>;

@@ -8,7 +8,7 @@ ghost use Rattle.claim_core.specs.Rule.{far};
 ghost use Rattle.claim_core.specs.Steps.{IsAt, IsLast, owning};
 ghost use Rattle.claim_core.specs.Seats.{waiting, with_seen, with_stop, with_own, next_ticket, with_taken, with_mark, when_stopped, with_seat, new_session, new_flushing, claimer_from};
 
-use crate::ending::RingEnd;
+use crate::ring::RingEnd;
 use crate::steps::{
     claim, deal, free, gather, hand_back, hold, load_mark, load_stop, load_tail, raise, ready,
     stand_in, stop,

@@ -7,7 +7,7 @@ use lib.ListN.{get_elem?}
 use Rattle.atomic_table.specs.Seated.{TableId}
 use Rattle.command_core.specs.Commands.{CommandValue}
 use Rattle.broker_core.specs.States.{State}
-use Rattle.claim_core.specs.declared.ending.RingEnd.{RingEnd}
+use Rattle.claim_core.specs.declared.ring.RingEnd.{RingEnd}
 use Rattle.claim_core.specs.Endings.{Ends}
 use Rattle.claim_core.specs.Seats.{SessionSeatValue, FlushSeatValue, new_session}
 use Rattle.flush_core.specs.Flushed.{Flushed, AfterSome, HoldBetween, IsFlusher}

@@ -1,7 +1,7 @@
 -- What a hub shows at its end, and what is promised of that.
 use Rattle.std.specs.Prelude.{◌≡◌, ◌-◌, ◌≤◌, ℕ, List, [], ◌∷◌, Bool, true, false, length, map, max, replicate}
 use Rattle.command_core.specs.Commands.{CommandValue}
-use Rattle.claim_core.specs.declared.ending.RingEnd.{RingEnd}
+use Rattle.claim_core.specs.declared.ring.RingEnd.{RingEnd}
 use Rattle.claim_core.specs.Counts.{Pair}
 use Rattle.claim_core.specs.Endings.{Ends}
 use Rattle.claim_core.specs.Seats.{SessionSeatValue, next_ticket}

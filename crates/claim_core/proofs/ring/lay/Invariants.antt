@@ -1,5 +1,5 @@
 use Rattle.claim_core.specs.Laid.{IsLaid}
-use Rattle.claim_core.proofs.opening.lay.Given as goal
+use Rattle.claim_core.proofs.ring.lay.Given as goal
 
 abbrev pub invariant-loop-i : goal.invariant-loop-i
 invariant-loop-i l = IsLaid l.row l.places l.base l.i
