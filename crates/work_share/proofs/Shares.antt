@@ -2,7 +2,7 @@
 use Rattle.std.proofs.Common.{◌≡◌, ◌≤◌, ◌<◌, ◌+◌, ◌*◌, ℕ, suc, zero, Bool, true, false, List, [], ◌∷◌, cond, length, nat_eq, nat_lt, refl, ap, ◌∙◌, arith}
 use Rattle.std.specs.List.{AllByRecursion}
 use Rattle.std.proofs.lemmas.Bool.{eqb-true, eqb-false, ltb-true, ltb-false}
-use Rattle.work_share.specs.declared.granting.TheConstants.{GREEDY, SHARE}
+use Rattle.work_share.specs.declared.costs.TheConstants.{GREEDY, SHARE}
 use Rattle.work_share.specs.declared.load.TheConstants.{CHEAP}
 use Rattle.work_share.specs.Grants.{AreOf, Grant, KeepShares, granted, granted_to}
 

@@ -4,8 +4,8 @@ use Rattle.std.proofs.lemmas.Bool.{eqb-true, eqb-false}
 use Rattle.work_share.specs.LineSteps.{TakeTurns, Waits, load_after}
 use Rattle.work_share.specs.Loads.{appended, number_of, without}
 use Rattle.work_share.specs.declared.load.Load.{Load}
-use Rattle.work_share.specs.declared.line_step.LineStep.{LineStep}
-use Rattle.work_share.specs.declared.line_step.LineStep.TheVariants.{Asks, Counts, Stands, Appends, Leaves}
+use Rattle.work_share.specs.declared.load.LineStep.{LineStep}
+use Rattle.work_share.specs.declared.load.LineStep.TheVariants.{Asks, Counts, Stands, Appends, Leaves}
 
 -- the number of a client once another, or itself, stands in line no more
 of_without : (c d : ℕ) (l : Load) → number_of c (without d l) ≡ cond (nat_eq c d) 0 (number_of c l)

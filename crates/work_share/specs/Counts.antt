@@ -7,8 +7,8 @@ use Rattle.command_core.specs.declared.command.Member.{Member}
 use Rattle.command_core.specs.declared.command.Member.TheVariants as members
 use Rattle.command_core.specs.Destinations.{is_queue}
 use Rattle.work_share.specs.declared.audiences.TheConstants.{MOST_COPIES}
-use Rattle.work_share.specs.declared.sample.Sample.{Sample}
-use Rattle.work_share.specs.declared.sample.Sample.TheVariants.{Nothing, Joins, Sent}
+use Rattle.work_share.specs.declared.audiences.Sample.{Sample}
+use Rattle.work_share.specs.declared.audiences.Sample.TheVariants.{Nothing, Joins, Sent}
 
 -- the greatest number that is counted
 abbrev pub most : ℕ

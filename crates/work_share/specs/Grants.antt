@@ -1,7 +1,7 @@
 -- What desks are granted while another waits in line.
 use Rattle.std.specs.Prelude.{◌+◌, ◌≤◌, ◌<◌, ℕ, List, [], ◌∷◌, ⊤, cond, nat_eq}
 use Rattle.std.specs.List.{AllByRecursion}
-use Rattle.work_share.specs.declared.granting.TheConstants.{SHARE}
+use Rattle.work_share.specs.declared.costs.TheConstants.{SHARE}
 
 -- a command that was granted, with its desk and what it costs
 pub record Grant : Type 0 where

@@ -2,8 +2,8 @@
 use Rattle.std.specs.Prelude.{◌≡◌, ◌≢◌, ◌⊎◌, ℕ, List, [], ◌∷◌, ⊤}
 use Rattle.work_share.specs.Loads.{appended, asked, none, with_number, without}
 use Rattle.work_share.specs.declared.load.Load.{Load}
-use Rattle.work_share.specs.declared.line_step.LineStep.{LineStep}
-use Rattle.work_share.specs.declared.line_step.LineStep.TheVariants.{Asks, Counts, Stands, Appends, Leaves}
+use Rattle.work_share.specs.declared.load.LineStep.{LineStep}
+use Rattle.work_share.specs.declared.load.LineStep.TheVariants.{Asks, Counts, Stands, Appends, Leaves}
 
 -- a load after one step more
 abbrev pub load_with : LineStep → Load → Load

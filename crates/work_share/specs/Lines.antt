@@ -2,8 +2,8 @@
 use Rattle.std.specs.Prelude.{◌&&◌, ◌||◌, ℕ, Bool, List, cond, eqb, nat_lt}
 use Rattle.std.specs.List.{list_any}
 use Rattle.work_share.specs.declared.load.Load.{Load}
-use Rattle.work_share.specs.declared.standing.Standing.{Standing}
-use Rattle.work_share.specs.declared.standing.Standing.TheVariants.{Alone, First, Behind}
+use Rattle.work_share.specs.declared.costs.Standing.{Standing}
+use Rattle.work_share.specs.declared.costs.Standing.TheVariants.{Alone, First, Behind}
 
 -- a desk with the number `line` waits, and stands before a command that has the number `own`, or none yet
 abbrev pub is_before : (own line : ℕ) → Bool

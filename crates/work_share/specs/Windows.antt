@@ -3,9 +3,9 @@ use Rattle.std.specs.Prelude.{◌≡◌, ◌⊎◌, ◌≤◌, ◌<◌, ◌+◌,
 use Rattle.work_share.specs.Lines.{standing}
 use Rattle.work_share.specs.Loads.{all_under_way, load_at, number_of, others_than}
 use Rattle.work_share.specs.declared.load.Load.{Load}
-use Rattle.work_share.specs.declared.granting.TheConstants.{BUDGET, GREEDY, SHARE, WIDEST}
-use Rattle.work_share.specs.declared.standing.Standing.{Standing}
-use Rattle.work_share.specs.declared.standing.Standing.TheVariants.{Alone, First, Behind}
+use Rattle.work_share.specs.declared.costs.TheConstants.{BUDGET, GREEDY, SHARE, WIDEST}
+use Rattle.work_share.specs.declared.costs.Standing.{Standing}
+use Rattle.work_share.specs.declared.costs.Standing.TheVariants.{Alone, First, Behind}
 
 -- a dear command, which no share holds, finds room in the whole budget
 abbrev pub FitsBudget : (cost all : ℕ) → Type 0

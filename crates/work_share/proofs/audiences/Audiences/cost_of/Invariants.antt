@@ -1,6 +1,6 @@
 use Rattle.std.proofs.Common.{◌≤◌, ◌*◌, ◌+◌, length}
 use Rattle.work_share.specs.declared.audiences.TheConstants.{OPERATION}
-use Rattle.work_share.specs.declared.granting.TheConstants.{GREEDY}
+use Rattle.work_share.specs.declared.costs.TheConstants.{GREEDY}
 use Rattle.work_share.proofs.audiences.Audiences.cost_of.Given as goal
 
 abbrev pub invariant-loop-member : goal.invariant-loop-member

@@ -1,5 +1,5 @@
 use Rattle.work_share.proofs.Waiting.{keeps, stands}
-use Rattle.work_share.proofs.laws.whoever_stands_in_line_waits.Goals as goal
+use Rattle.work_share.proofs.costs.whoever_stands_in_line_waits.Goals as goal
 
 pub returns-clause-stands : goal.returns-clause-stands
 returns-clause-stands c = stands

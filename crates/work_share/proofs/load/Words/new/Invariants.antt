@@ -1,5 +1,5 @@
 use Rattle.std.proofs.Common.{◌≡◌, length}
-use Rattle.work_share.proofs.words.Words.new.Given as goal
+use Rattle.work_share.proofs.load.Words.new.Given as goal
 
 abbrev pub invariant-loop-place : goal.invariant-loop-place
 invariant-loop-place l = length l.all.items ≡ l._place

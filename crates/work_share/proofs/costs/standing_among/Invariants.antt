@@ -1,6 +1,6 @@
 use Rattle.std.proofs.Common.{◌≡◌, take}
 use Rattle.work_share.specs.Lines.{does_one_wait, is_one_before}
-use Rattle.work_share.proofs.standing.standing_among.Given as goal
+use Rattle.work_share.proofs.costs.standing_among.Given as goal
 
 abbrev pub invariant-loop-other : goal.invariant-loop-other
 invariant-loop-other l = record {
