@@ -2,26 +2,13 @@
 
 #![tactic(auto)]
 
-mod backlog;
-mod compacting;
-mod due;
-mod executing;
+mod batch;
+mod compaction;
 mod faults;
-mod fitting;
 mod flusher;
-mod gathering;
-mod marking;
 mod outlet;
-mod portions;
-mod publishing;
-mod sizing;
-mod stopping;
-mod storing;
-mod tally;
-mod turning;
-mod width;
 
+pub use batch::Width;
 pub use faults::FlushFault;
 pub use flusher::Flusher;
-pub use tally::{ERRORS, Tally, code_of};
-pub use width::Width;
+pub use outlet::{ERRORS, Tally, code_of};

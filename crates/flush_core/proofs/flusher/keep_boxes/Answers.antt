@@ -4,7 +4,7 @@ use Rattle.outbox_core.specs.Boxes.{SenderValue}
 use Rattle.flush_core.specs.Sessions.{opened}
 use Rattle.flush_core.proofs.Sessions.{boxes_entries}
 use Rattle.flush_core.proofs.Taken.{commands_more}
-use Rattle.flush_core.proofs.executing.keep_boxes.Goals as goal
+use Rattle.flush_core.proofs.flusher.keep_boxes.Goals as goal
 
 pub loop-entry-preserved : goal.loop-entry-preserved
 loop-entry-preserved g c =

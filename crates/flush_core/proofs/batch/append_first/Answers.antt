@@ -14,7 +14,7 @@ use Rattle.recover_core.specs.Stores.{disk_of, size_of, used_of}
 use Rattle.flush_core.specs.Calls.{RefusesFirst}
 use Rattle.flush_core.specs.Room.{Fits}
 use Rattle.flush_core.proofs.Calls.{lasts_same}
-use Rattle.flush_core.proofs.fitting.append_first.Goals as goal
+use Rattle.flush_core.proofs.batch.append_first.Goals as goal
 
 module _ {D : Type 0} (disk : Ghosts D) where
   -- a store stands for what it did if its disk is not called

@@ -1,7 +1,7 @@
 use Rattle.std.proofs.Common.{arith, ap, flat_map, length, refl, take, ◌≡◌, List, ℕ}
 use Rattle.std.proofs.lemmas.List.{take_all}
 use Rattle.area_core.proofs.Batches.{batch_records, entry_record, total_more}
-use Rattle.flush_core.proofs.backlog.bytes_of.Goals as goal
+use Rattle.flush_core.proofs.compaction.bytes_of.Goals as goal
 
 pub loop-entry-preserved : goal.loop-entry-preserved
 loop-entry-preserved g c =

@@ -1,5 +1,5 @@
 use Rattle.std.proofs.Common.{arith}
-use Rattle.flush_core.proofs.fitting.records_room.Goals as goal
+use Rattle.flush_core.proofs.batch.records_room.Goals as goal
 
 pub returns-clause-fits : goal.returns-clause-fits
 returns-clause-fits c = λ cs some few. omega (arith, some, few)

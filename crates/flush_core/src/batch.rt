@@ -1,6 +1,6 @@
 //! Which of the entries that wait go into one block.
 
-ghost use Rattle.std.specs.Prelude.{◌≡◌, ◌+◌, ◌-◌, ◌<◌, ◌≤◌, List, take, IfOk, length};
+ghost use Rattle.std.specs.Prelude.{◌≡◌, ◌+◌, ◌-◌, ◌<◌, ◌≤◌, List, take, IfOk, length, ℕ};
 ghost use Rattle.disk_core.specs.Calls.{Lasts};
 ghost use Rattle.command_core.specs.Commands.{CommandValue};
 ghost use Rattle.area_core.specs.Areas.{commands, records};
@@ -95,4 +95,18 @@ pub(crate) fn append_first<D: Disk, B: Drop>(
             Err(fault)
         }
     }
+}
+
+/// How wide a flusher's blocks are: two numbers that the program chooses, with a type to stand for them. Both must be at least 1; otherwise
+/// a flusher takes no command.
+pub trait Width {
+    /// How many commands a block has at most.
+    const COMMANDS: usize;
+
+    /// A block whose records have this many bytes takes no further command.
+    const BYTES: u64;
+
+    ghost COMMANDS: { ℕ };
+
+    ghost BYTES: { ℕ };
 }

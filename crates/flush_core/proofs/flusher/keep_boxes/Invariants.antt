@@ -1,7 +1,7 @@
 use Rattle.std.proofs.Common.{◌≡◌, ◌+◌, length}
 use Rattle.area_core.specs.Areas.{commands}
 use Rattle.flush_core.specs.Sessions.{boxes_after}
-use Rattle.flush_core.proofs.executing.keep_boxes.Given as goal
+use Rattle.flush_core.proofs.flusher.keep_boxes.Given as goal
 
 abbrev pub invariant-loop-entry : goal.invariant-loop-entry
 invariant-loop-entry g l = record {

@@ -1,6 +1,6 @@
 use Rattle.std.proofs.Common.{◌≡◌, ◌+◌, flat_map, length, take}
 use Rattle.area_core.proofs.Batches.{entry_record}
-use Rattle.flush_core.proofs.fitting.count_within.Given as goal
+use Rattle.flush_core.proofs.batch.count_within.Given as goal
 
 abbrev pub invariant-loop-entry : goal.invariant-loop-entry
 invariant-loop-entry g l = record {
