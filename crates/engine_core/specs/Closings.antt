@@ -6,9 +6,9 @@ use Rattle.claim_core.specs.Counts.{Pair}
 use Rattle.claim_core.specs.Endings.{Ends}
 use Rattle.claim_core.specs.Seats.{SessionSeatValue, next_ticket}
 use Rattle.flush_core.specs.Flushed.{Flushed}
-use Rattle.world_core.specs.declared.place.Period.TheVariants.{Running}
-use Rattle.world_core.specs.declared.place.LastCall.{LastCall}
-use Rattle.world_core.specs.declared.place.LastCall.TheVariants.{Rest, Broken}
+use Rattle.world_core.specs.declared.parts.Period.TheVariants.{Running}
+use Rattle.world_core.specs.declared.parts.LastCall.{LastCall}
+use Rattle.world_core.specs.declared.parts.LastCall.TheVariants.{Rest, Broken}
 use Rattle.world_core.specs.declared.seat.Seat.{Seat}
 use Rattle.world_core.specs.Promises.{HoldsOn, numbers}
 use Rattle.world_core.specs.Schedules.{life_of}

@@ -5,8 +5,8 @@ use Rattle.command_core.specs.Commands.{CommandValue}
 use Rattle.disk_core.specs.Memory.{none_held}
 use Rattle.broker_core.specs.States.{State, empty_state}
 use Rattle.world_core.specs.declared.event.Event.{Event}
-use Rattle.world_core.specs.declared.place.Period.TheVariants.{Running}
-use Rattle.world_core.specs.declared.place.LastCall.TheVariants.{Rest}
+use Rattle.world_core.specs.declared.parts.Period.TheVariants.{Running}
+use Rattle.world_core.specs.declared.parts.LastCall.TheVariants.{Rest}
 use Rattle.world_core.specs.declared.seat.Seat.{Seat}
 use Rattle.world_core.specs.Answers.{Answers, IsTold}
 use Rattle.world_core.specs.Keeping.{IsKept}

@@ -17,10 +17,10 @@ use Rattle.world_core.specs.declared.event.CallKind.TheVariants.{Read, Write, Sy
 use Rattle.world_core.specs.declared.event.CallList.{CallList}
 use Rattle.world_core.specs.declared.event.CallList.TheVariants.{Append, Snapshot, Switch, Open}
 use Rattle.world_core.specs.declared.event.Event.TheVariants.{Device, Open as Opens}
-use Rattle.world_core.specs.declared.patches.Patch.{Patch as Patched}
-use Rattle.world_core.specs.declared.place.Period.TheVariants.{Running, Crashed}
-use Rattle.world_core.specs.declared.place.LastCall.{LastCall}
-use Rattle.world_core.specs.declared.place.LastCall.TheVariants.{Rest, Broken, BlockWritten, BlockSynced, GateWritten, Copying, CopySynced, SwitchWritten, OpenSynced, OpenRead, SnapshotWriting, SnapshotSynced, SelectorWritten, Opened}
+use Rattle.world_core.specs.declared.parts.Patch.{Patch as Patched}
+use Rattle.world_core.specs.declared.parts.Period.TheVariants.{Running, Crashed}
+use Rattle.world_core.specs.declared.parts.LastCall.{LastCall}
+use Rattle.world_core.specs.declared.parts.LastCall.TheVariants.{Rest, Broken, BlockWritten, BlockSynced, GateWritten, Copying, CopySynced, SwitchWritten, OpenSynced, OpenRead, SnapshotWriting, SnapshotSynced, SelectorWritten, Opened}
 use Rattle.world_core.specs.declared.seat.Seat.{Seat}
 use Rattle.world_core.specs.Answers.{IsTold}
 use Rattle.world_core.specs.Calls.{CanCopy, CanRestart, MayLead, Patch, append_syncs, append_writes, as_many, batch, called, copy_of, copy_syncs, copy_writes, done_at, fitting, leads, open_reads, open_syncs, open_writes, patch, phase_after, piece_end, place_after, rest_of, stored_after, switch_syncs, switch_writes, synced, with_disk, wrote}

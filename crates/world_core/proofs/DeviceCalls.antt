@@ -24,10 +24,10 @@ use Rattle.world_core.specs.declared.event.CallKind.TheVariants.{Read, Write, Sy
 use Rattle.world_core.specs.declared.event.CallList.{CallList}
 use Rattle.world_core.specs.declared.event.CallList.TheVariants.{Append, Snapshot, Switch, Open}
 use Rattle.world_core.specs.declared.event.Event.TheVariants.{Device, Crash, Open as Opens}
-use Rattle.world_core.specs.declared.place.Period.{Period}
-use Rattle.world_core.specs.declared.place.Period.TheVariants.{Running, Reopening, Crashed}
-use Rattle.world_core.specs.declared.place.LastCall.{LastCall}
-use Rattle.world_core.specs.declared.place.LastCall.TheVariants.{Rest, Broken, BlockWritten, BlockSynced, GateWritten, Copying, CopySynced, SwitchWritten, OpenSynced, OpenRead, SnapshotWriting, SnapshotSynced, SelectorWritten, Opened}
+use Rattle.world_core.specs.declared.parts.Period.{Period}
+use Rattle.world_core.specs.declared.parts.Period.TheVariants.{Running, Reopening, Crashed}
+use Rattle.world_core.specs.declared.parts.LastCall.{LastCall}
+use Rattle.world_core.specs.declared.parts.LastCall.TheVariants.{Rest, Broken, BlockWritten, BlockSynced, GateWritten, Copying, CopySynced, SwitchWritten, OpenSynced, OpenRead, SnapshotWriting, SnapshotSynced, SelectorWritten, Opened}
 use Rattle.world_core.specs.declared.seat.Seat.{Seat}
 use Rattle.world_core.specs.Calls.{CanCopy, CanRestart, MayLead, MayStore, Patch, append_syncs, append_writes, batch, called, fitting, copy_of, copy_syncs, copy_writes, done_at, gate_of, idle_of, leads, open_reads, open_syncs, open_writes, patch_to, phase_after, piece, piece_end, place_after, rest_of, switch_syncs, switch_writes, synced, wrote}
 use Rattle.world_core.specs.Events.{Possible, after, with_image}

@@ -11,9 +11,9 @@ use Rattle.area_core.specs.Areas.{HasRecord, IsBlock, closed, records}
 use Rattle.area_core.specs.Journals.{is_odd, start}
 use Rattle.recover_core.proofs.Folded.{count_after}
 use Rattle.recover_core.proofs.Stores.{after-append}
-use Rattle.world_core.specs.declared.place.Period.TheVariants.{Running}
-use Rattle.world_core.specs.declared.place.LastCall.{LastCall}
-use Rattle.world_core.specs.declared.place.LastCall.TheVariants.{Rest, Broken, BlockWritten, BlockSynced, GateWritten, Copying, CopySynced, SwitchWritten, OpenSynced, OpenRead, SnapshotWriting, SnapshotSynced, SelectorWritten, Opened}
+use Rattle.world_core.specs.declared.parts.Period.TheVariants.{Running}
+use Rattle.world_core.specs.declared.parts.LastCall.{LastCall}
+use Rattle.world_core.specs.declared.parts.LastCall.TheVariants.{Rest, Broken, BlockWritten, BlockSynced, GateWritten, Copying, CopySynced, SwitchWritten, OpenSynced, OpenRead, SnapshotWriting, SnapshotSynced, SelectorWritten, Opened}
 use Rattle.world_core.specs.Keeping.{Copied, Exact, HasCopy, HasPrefix, IsAt, Log, Staged, upto}
 use Rattle.world_core.specs.Worlds.{DiskValue, between, state_under}
 

@@ -9,9 +9,9 @@ use Rattle.area_core.specs.Areas.{closed, closed_snapshot, commands, records}
 use Rattle.area_core.specs.Journals.{is_odd, other, start}
 use Rattle.area_core.proofs.Areas.{length-closed, length-sealed}
 use Rattle.area_core.proofs.Journals.{start_most}
-use Rattle.world_core.specs.declared.patches.Patch.{Patch}
-use Rattle.world_core.specs.declared.place.LastCall.{LastCall}
-use Rattle.world_core.specs.declared.place.LastCall.TheVariants.{Rest, Broken, BlockWritten, BlockSynced, GateWritten, Copying, CopySynced, SwitchWritten, OpenSynced, OpenRead, SnapshotWriting, SnapshotSynced, SelectorWritten, Opened}
+use Rattle.world_core.specs.declared.parts.Patch.{Patch}
+use Rattle.world_core.specs.declared.parts.LastCall.{LastCall}
+use Rattle.world_core.specs.declared.parts.LastCall.TheVariants.{Rest, Broken, BlockWritten, BlockSynced, GateWritten, Copying, CopySynced, SwitchWritten, OpenSynced, OpenRead, SnapshotWriting, SnapshotSynced, SelectorWritten, Opened}
 use Rattle.world_core.specs.Calls.{CanCopy, CanRestart, MayLead, batch, copy_of, done_at, gate_of, idle_of, patch, patch_to, rest_of}
 use Rattle.world_core.specs.Keeping.{IsKept}
 use Rattle.world_core.specs.Readings.{IsRead, Reading}

@@ -7,9 +7,9 @@ use Rattle.area_core.specs.Areas.{HasRecord}
 use Rattle.broker_core.specs.States.{State}
 use Rattle.world_core.specs.declared.event.Event.{Event}
 use Rattle.world_core.specs.declared.event.Event.TheVariants.{Look, Claim, Ready, Take, Device, Raise, Release, Stop, Crash, Open}
-use Rattle.world_core.specs.declared.place.Period.{Period}
-use Rattle.world_core.specs.declared.place.Period.TheVariants.{Running, Reopening, Crashed}
-use Rattle.world_core.specs.declared.place.LastCall.TheVariants.{Rest, Broken, Opened}
+use Rattle.world_core.specs.declared.parts.Period.{Period}
+use Rattle.world_core.specs.declared.parts.Period.TheVariants.{Running, Reopening, Crashed}
+use Rattle.world_core.specs.declared.parts.LastCall.TheVariants.{Rest, Broken, Opened}
 use Rattle.world_core.specs.declared.seat.Seat.{Seat}
 use Rattle.world_core.specs.Calls.{MayLead, called, leads}
 use Rattle.world_core.specs.Limits.{far}

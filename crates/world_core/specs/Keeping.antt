@@ -10,10 +10,10 @@ use Rattle.area_core.specs.Journals.{is_odd, start}
 use Rattle.broker_core.specs.Operations.{restarted}
 use Rattle.broker_core.specs.States.{State}
 use Rattle.snapshot_core.specs.Snapshots.{snapshot_of}
-use Rattle.world_core.specs.declared.place.Period.{Period}
-use Rattle.world_core.specs.declared.place.Period.TheVariants.{Running}
-use Rattle.world_core.specs.declared.place.LastCall.{LastCall}
-use Rattle.world_core.specs.declared.place.LastCall.TheVariants.{Rest, Broken, BlockWritten, BlockSynced, GateWritten, Copying, CopySynced, SwitchWritten, OpenSynced, OpenRead, SnapshotWriting, SnapshotSynced, SelectorWritten, Opened}
+use Rattle.world_core.specs.declared.parts.Period.{Period}
+use Rattle.world_core.specs.declared.parts.Period.TheVariants.{Running}
+use Rattle.world_core.specs.declared.parts.LastCall.{LastCall}
+use Rattle.world_core.specs.declared.parts.LastCall.TheVariants.{Rest, Broken, BlockWritten, BlockSynced, GateWritten, Copying, CopySynced, SwitchWritten, OpenSynced, OpenRead, SnapshotWriting, SnapshotSynced, SelectorWritten, Opened}
 use Rattle.world_core.specs.declared.seat.Seat.{Seat}
 use Rattle.world_core.specs.Calls.{CanCopy, CanRestart, copy_of, idle_of, rest_of}
 use Rattle.world_core.specs.Limits.{most_counted}

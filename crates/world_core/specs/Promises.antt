@@ -4,8 +4,8 @@ use Rattle.command_core.specs.Commands.{CommandValue}
 use Rattle.broker_core.specs.Operations.{restarted}
 use Rattle.broker_core.specs.States.{State}
 use Rattle.recover_core.specs.Standing.{Stands}
-use Rattle.world_core.specs.declared.place.Period.{Period}
-use Rattle.world_core.specs.declared.place.Period.TheVariants.{Running}
+use Rattle.world_core.specs.declared.parts.Period.{Period}
+use Rattle.world_core.specs.declared.parts.Period.TheVariants.{Running}
 use Rattle.world_core.specs.Worlds.{state_under}
 
 -- A life, as far as the promises speak of it: its first number, its opening state, and the claimed commands. Then the number under which

@@ -11,8 +11,8 @@ use Rattle.area_core.specs.Journals.{header}
 use Rattle.broker_core.specs.States.{State, empty_state}
 use Rattle.broker_core.specs.Steps.{state_after_v1}
 use Rattle.world_core.specs.declared.event.Event.{Event}
-use Rattle.world_core.specs.declared.place.Period.TheVariants.{Crashed, Running}
-use Rattle.world_core.specs.declared.place.LastCall.TheVariants.{Broken, Rest}
+use Rattle.world_core.specs.declared.parts.Period.TheVariants.{Crashed, Running}
+use Rattle.world_core.specs.declared.parts.LastCall.TheVariants.{Broken, Rest}
 use Rattle.world_core.specs.Answers.{Answers}
 use Rattle.world_core.specs.Promises.{HoldsOn, Life}
 use Rattle.world_core.specs.Worlds.{WorldValue}

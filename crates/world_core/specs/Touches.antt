@@ -7,8 +7,8 @@ use Rattle.world_core.specs.declared.event.CallKind.{CallKind}
 use Rattle.world_core.specs.declared.event.CallKind.TheVariants.{Write}
 use Rattle.world_core.specs.declared.event.CallList.{CallList}
 use Rattle.world_core.specs.declared.event.CallList.TheVariants.{Append, Snapshot, Open}
-use Rattle.world_core.specs.declared.place.LastCall.{LastCall}
-use Rattle.world_core.specs.declared.place.LastCall.TheVariants.{BlockWritten, Copying, SnapshotWriting}
+use Rattle.world_core.specs.declared.parts.LastCall.{LastCall}
+use Rattle.world_core.specs.declared.parts.LastCall.TheVariants.{BlockWritten, Copying, SnapshotWriting}
 use Rattle.world_core.specs.Calls.{MayLead, copy_of, disk_after, done_at, fitting, leads, patch, patch_to, rest_of, with_disk}
 use Rattle.world_core.specs.Events.{reopened}
 use Rattle.world_core.specs.Readings.{IsRead, Reading}

@@ -4,8 +4,8 @@ use Rattle.command_core.specs.Commands.{CommandValue}
 use Rattle.broker_core.specs.States.{State}
 use Rattle.broker_core.specs.Steps.{state_after}
 use Rattle.world_core.specs.declared.seat.Seat.{Seat}
-use Rattle.world_core.specs.declared.place.LastCall.{LastCall}
-use Rattle.world_core.specs.declared.place.Period.{Period}
+use Rattle.world_core.specs.declared.parts.LastCall.{LastCall}
+use Rattle.world_core.specs.declared.parts.Period.{Period}
 
 -- A disk: the bytes of each of its two areas, what a read gives, and what each byte that was written since the last
 -- sync held then.

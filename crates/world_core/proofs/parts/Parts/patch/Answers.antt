@@ -1,4 +1,4 @@
-use Rattle.world_core.specs.declared.place.LastCall.TheVariants.{BlockWritten, GateWritten, Copying, SwitchWritten, SnapshotWriting, SelectorWritten}
+use Rattle.world_core.specs.declared.parts.LastCall.TheVariants.{BlockWritten, GateWritten, Copying, SwitchWritten, SnapshotWriting, SelectorWritten}
 use Rattle.world_core.specs.Parts.{value_of}
 use Rattle.world_core.proofs.Patching.{due_taken, none_moves, patch_moves, some_moves}
 use Rattle.world_core.proofs.parts.Parts.patch.Goals as goal

@@ -1,5 +1,5 @@
 use Rattle.std.proofs.Common.{◌≡◌, refl, arith}
-use Rattle.world_core.specs.declared.place.Period.TheVariants.{Running}
+use Rattle.world_core.specs.declared.parts.Period.TheVariants.{Running}
 use Rattle.world_core.proofs.Telling.{fails_where, holds_where}
 use Rattle.world_core.proofs.parts.Parts.raise.Goals.{then-not-is_running-via-then-not-is_running, then-not-is_running-via-else-not-is_running+then-n-self, then-not-is_running-via-else-not-is_running+else-n-self+then-self-n}
 use Rattle.world_core.proofs.parts.Parts.raise.Goals as goal

@@ -1,5 +1,0 @@
-use Rattle.world_core.proofs.Schedules.{every}
-use Rattle.world_core.proofs.laws.every_schedule.Goals as goal
-
-pub returns : goal.returns
-returns c = every
