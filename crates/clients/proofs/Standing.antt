@@ -25,7 +25,7 @@ use Rattle.clients.specs.Histories.{Idles}
 use Rattle.clients.specs.Places.{ChangedAt, IsChanged, PingedAt, ServedAt, UnservedAt, counted_at, progress_at}
 use Rattle.clients.specs.Clients.{IsNew, Unserved}
 use Rattle.ws_core.specs.Sending.{IsPinged}
-use Rattle.ws_core.specs.declared.fault.LinkFault.{LinkFault}
+use Rattle.ws_core.specs.declared.link.LinkFault.{LinkFault}
 use Rattle.clients.proofs.Lists.{cond_same}
 use Rattle.clients.proofs.Going.{heeds_none}
 use Rattle.clients.proofs.Talking.{beside}

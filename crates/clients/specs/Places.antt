@@ -18,7 +18,7 @@ use Rattle.clients.specs.declared.stage.Stage.{Stage}
 use Rattle.clients.specs.declared.stage.Stage.TheVariants.{Running, GivingUp, Closing, Parting, Leaving, Over}
 use Rattle.clients.specs.Clients.{Served, Unserved, number_at}
 use Rattle.ws_core.specs.Sending.{IsPinged}
-use Rattle.ws_core.specs.declared.fault.LinkFault.{LinkFault}
+use Rattle.ws_core.specs.declared.link.LinkFault.{LinkFault}
 
 -- how far the conversation has come of what sits at a place
 abbrev pub progress_at : {B L : Type 0} → Option (Seated B L) → Progress

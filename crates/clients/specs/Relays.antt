@@ -8,8 +8,8 @@ use Rattle.outbox_core.specs.Boxes.{TakerValue}
 use Rattle.outbox_core.specs.Takes.{Takes, TakesNothing}
 use Rattle.outbox_core.specs.declared.taker.Taken.TheVariants as took
 use Rattle.ws_core.specs.Sending.{with_message}
-use Rattle.ws_core.specs.declared.fault.LinkFault.{LinkFault}
-use Rattle.ws_core.specs.declared.fault.LinkFault.TheVariants.{Memory}
+use Rattle.ws_core.specs.declared.link.LinkFault.{LinkFault}
+use Rattle.ws_core.specs.declared.link.LinkFault.TheVariants.{Memory}
 use Rattle.clients.specs.declared.kept.Kept.{Kept}
 use Rattle.clients.specs.declared.kept.Kept.TheVariants as kept
 use Rattle.clients.specs.declared.kept.Relayed.{Relayed}

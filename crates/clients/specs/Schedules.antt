@@ -22,7 +22,7 @@ use Rattle.clients.specs.declared.clients.Scheduled.{Scheduled}
 use Rattle.clients.specs.declared.clients.Clients.{Clients}
 use Rattle.clients.specs.declared.read_budget.ReadBudget.{ReadBudget}
 use Rattle.mio.specs.declared.net.stream.TcpStream.{TcpStream}
-use Rattle.ws_core.specs.declared.farewell.Farewell.{Farewell}
+use Rattle.ws_core.specs.declared.refusal.Farewell.{Farewell}
 use Rattle.clients.specs.declared.limits.TheConstants.{CLIENTS, SHORTAGE}
 use Rattle.clients.specs.declared.timers.TheConstants.{NEVER}
 

@@ -4,8 +4,8 @@ use Rattle.std.specs.List.{All, slice_index_or}
 use Rattle.server_core.specs.declared.handing.Coming.{Coming}
 use Rattle.server_core.specs.declared.handing.Coming.TheVariants.{HandedOut, LetGo, Last}
 use Rattle.server_core.specs.declared.handing.TheConstants.{ANSWERED, KEPT}
-use Rattle.ws_core.specs.declared.vacancy.Vacancy.{Vacancy}
-use Rattle.ws_core.specs.declared.vacancy.Vacancy.TheVariants.{Any, Ping, Nobody}
+use Rattle.ws_core.specs.declared.handshake.Vacancy.{Vacancy}
+use Rattle.ws_core.specs.declared.handshake.Vacancy.TheVariants.{Any, Ping, Nobody}
 
 -- no count is less than the one at that place
 abbrev pub IsFewest : List ℕ → ℕ → Type 0

@@ -4,8 +4,8 @@ use Rattle.httparse.specs.Spans.{IsRequestOf, name_and_value, span_bytes}
 use Rattle.httparse.specs.declared.spans.HeaderSpan.{HeaderSpan}
 use Rattle.httparse.specs.declared.spans.RequestSpans.{RequestSpans}
 use Rattle.websocket.specs.Headers.{Fields, fields_of}
-use Rattle.ws_core.specs.declared.answer.Answer.{Answer}
-use Rattle.ws_core.specs.declared.answer.Answer.TheVariants.{Accept, Refuse}
+use Rattle.ws_core.specs.declared.handshake.Answer.{Answer}
+use Rattle.ws_core.specs.declared.handshake.Answer.TheVariants.{Accept, Refuse}
 use Rattle.ws_core.specs.Greetings.{Greeter, Tells, answer_at, shuts_out}
 use Rattle.ws_core.specs.Handshakes.{IsAccepted, IsAnswer, IsAnswerTo, IsHead, accepting, as_refusal}
 

@@ -2,8 +2,8 @@
 use Rattle.std.proofs.Common.{◌≡◌, ◌∙◌, ◌≤◌, Bool, List, [], ℕ, Option, None, Some, IfSome, ap, arith, false, is_some, length, refl, subst, sym, take}
 use Rattle.std.specs.Io.KnownBytes.{Appends, Consumes}
 use Rattle.std.proofs.lemmas.List.{append-nil, take_all}
-use Rattle.ws_core.specs.declared.answer.Answer.{Answer}
-use Rattle.ws_core.specs.declared.saying.Saying.{Saying}
+use Rattle.ws_core.specs.declared.handshake.Answer.{Answer}
+use Rattle.ws_core.specs.declared.refusal.Saying.{Saying}
 use Rattle.ws_core.specs.Greetings.{Greeter, IsUnderWay, Says, Tells, answer_at, shuts_out}
 use Rattle.ws_core.specs.Handshakes.{IsAnswerTo, ReadsOn, WritesOn, is_head, response_to}
 

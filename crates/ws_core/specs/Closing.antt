@@ -5,8 +5,8 @@ use Rattle.tungstenite.specs.declared.error.Error.{Error}
 use Rattle.tungstenite.specs.declared.error.Error.TheVariants.{Protocol, Utf8, Capacity}
 use Rattle.websocket.specs.declared.error.ProtocolError.TheVariants.{ResetWithoutClosingHandshake}
 use Rattle.websocket.specs.declared.protocol.frame.coding.CloseCode.{CloseCode}
-use Rattle.ws_core.specs.declared.closing.CloseReason.{CloseReason}
-use Rattle.ws_core.specs.declared.closing.CloseReason.TheVariants.{NormalClosure, GoingAway, ProtocolError}
+use Rattle.ws_core.specs.declared.link.CloseReason.{CloseReason}
+use Rattle.ws_core.specs.declared.link.CloseReason.TheVariants.{NormalClosure, GoingAway, ProtocolError}
 
 -- RFC 6455, section 7.4.1
 abbrev pub code_of : CloseReason → ℕ

@@ -1,8 +1,8 @@
 -- What a handshake comes to.
 use Rattle.std.specs.Prelude.{◌≡◌, ℕ, List, Bool, false, Option, ⊤}
-use Rattle.ws_core.specs.declared.answer.Answer.TheVariants.{Refuse}
-use Rattle.ws_core.specs.declared.greeting.Greeted.{Greeted}
-use Rattle.ws_core.specs.declared.greeting.Greeted.TheVariants as outcomes
+use Rattle.ws_core.specs.declared.handshake.Answer.TheVariants.{Refuse}
+use Rattle.ws_core.specs.declared.handshake.Greeted.{Greeted}
+use Rattle.ws_core.specs.declared.handshake.Greeted.TheVariants as outcomes
 use Rattle.ws_core.specs.Greetings.{Greeter, Tells, shuts_out}
 use Rattle.ws_core.specs.Handshakes.{IsAccepted, is_head, refusal_bytes}
 use Rattle.ws_core.specs.Links.{IsReady}

@@ -2,11 +2,11 @@
 use Rattle.std.specs.Prelude.{◌≡◌, ◌≤◌, ℕ, List, Bool, codes, false, true, nat_eq, not, [], Option, None, Some, cond, length, take, ⊤}
 use Rattle.std.specs.List.{starts_with}
 use Rattle.std.specs.Io.KnownBytes.{Appends, Consumes}
-use Rattle.ws_core.specs.declared.answer.Answer.{Answer}
-use Rattle.ws_core.specs.declared.answer.Answer.TheVariants.{Refuse}
-use Rattle.ws_core.specs.declared.saying.Saying.{Saying}
-use Rattle.ws_core.specs.declared.vacancy.Vacancy.{Vacancy}
-use Rattle.ws_core.specs.declared.vacancy.Vacancy.TheVariants.{Any, Ping, Nobody}
+use Rattle.ws_core.specs.declared.handshake.Answer.{Answer}
+use Rattle.ws_core.specs.declared.handshake.Answer.TheVariants.{Refuse}
+use Rattle.ws_core.specs.declared.refusal.Saying.{Saying}
+use Rattle.ws_core.specs.declared.handshake.Vacancy.{Vacancy}
+use Rattle.ws_core.specs.declared.handshake.Vacancy.TheVariants.{Any, Ping, Nobody}
 use Rattle.ws_core.specs.Handshakes.{IsAnswerTo, as_full, is_head, response_to}
 
 -- the head is that of a ping

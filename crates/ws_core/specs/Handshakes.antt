@@ -9,10 +9,10 @@ use Rattle.websocket.specs.Handshake.{Answers, requested_key}
 use Rattle.websocket.specs.Headers.{Fields, crlf, field_line}
 use Rattle.websocket.specs.declared.handshake.failure.HandshakeError.{HandshakeError}
 use Rattle.websocket.specs.declared.handshake.failure.HandshakeError.TheVariants.{WrongHttpMethod, WrongHttpVersion, MissingConnectionUpgradeHeader, MissingUpgradeWebSocketHeader, MissingSecWebSocketVersionHeader}
-use Rattle.ws_core.specs.declared.answer.Answer.{Answer}
-use Rattle.ws_core.specs.declared.answer.Answer.TheVariants.{Accept, Refuse}
-use Rattle.ws_core.specs.declared.offers.Choice.{Choice}
-use Rattle.ws_core.specs.declared.offers.Choice.TheVariants as choices
+use Rattle.ws_core.specs.declared.handshake.Answer.{Answer}
+use Rattle.ws_core.specs.declared.handshake.Answer.TheVariants.{Accept, Refuse}
+use Rattle.ws_core.specs.declared.handshake.Choice.{Choice}
+use Rattle.ws_core.specs.declared.handshake.Choice.TheVariants as choices
 use Rattle.ws_core.specs.declared.refusal.Refusal.{Refusal}
 use Rattle.ws_core.specs.declared.refusal.Refusal.TheVariants.{Malformed, OtherProtocol, Foreign, Method, NoUpgrade, Version, TooLarge, Full}
 use Rattle.ws_core.specs.Fields.{values}

@@ -4,9 +4,9 @@ use Rattle.std.specs.Coded.{Coded, code_by, coded×, coded_bool, coded_list, cod
 use Rattle.websocket.specs.declared.protocol.config.Role.TheVariants.{Server}
 use Rattle.tungstenite.specs.Connection.{close_step}
 use Rattle.tungstenite.specs.Socket.{Socket, socket_code, IsFresh, Writes}
-use Rattle.ws_core.specs.declared.closing.CloseReason.{CloseReason}
-use Rattle.ws_core.specs.declared.phase.LinkPhase.{LinkPhase}
-use Rattle.ws_core.specs.declared.phase.LinkPhase.TheVariants.{Open, Closing, Failed, Shut, Over}
+use Rattle.ws_core.specs.declared.link.CloseReason.{CloseReason}
+use Rattle.ws_core.specs.declared.link.LinkPhase.{LinkPhase}
+use Rattle.ws_core.specs.declared.link.LinkPhase.TheVariants.{Open, Closing, Failed, Shut, Over}
 use Rattle.ws_core.specs.Closing.{close_of}
 use Rattle.ws_core.specs.Holdings.{HoldingValue, held_by, holding_code, nothing_held}
 

@@ -1,7 +1,7 @@
 -- What a link in memory holds, and what its calls do.
 use Rattle.std.specs.Prelude.{◌≡◌, ℕ, List, [], ◌∷◌, ◌++◌, ◌-◌, Bool, true, false, drop, flat_map, length, take}
-use Rattle.ws_core.specs.declared.fault.LinkFault.{LinkFault}
-use Rattle.ws_core.specs.declared.fault.LinkFault.TheVariants as faults
+use Rattle.ws_core.specs.declared.link.LinkFault.{LinkFault}
+use Rattle.ws_core.specs.declared.link.LinkFault.TheVariants as faults
 use Rattle.ws_core.specs.declared.link.Received.{Received}
 use Rattle.ws_core.specs.declared.link.Received.TheVariants.{Bytes, Skipped, Nothing, Failed, Closed}
 

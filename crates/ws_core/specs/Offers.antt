@@ -1,8 +1,8 @@
 -- Which subprotocol a handshake answers.
 use Rattle.std.specs.Prelude.{List, [], ◌∷◌, ℕ, Bool, ◌==◌, ◌&&◌, ◌||◌, cond, if◌then◌else◌, codes, drop, length, nat_eq}
 use Rattle.std.specs.List.{list_any, list_all, slice_split, starts_with}
-use Rattle.ws_core.specs.declared.offers.Choice.{Choice}
-use Rattle.ws_core.specs.declared.offers.Choice.TheVariants.{Stomp, Nothing, Refuse}
+use Rattle.ws_core.specs.declared.handshake.Choice.{Choice}
+use Rattle.ws_core.specs.declared.handshake.Choice.TheVariants.{Stomp, Nothing, Refuse}
 
 -- the items between commas
 abbrev pub items_of : List ℕ → List (List ℕ)

@@ -13,8 +13,8 @@ use Rattle.websocket.specs.declared.protocol.frame.coding.CloseCode.{CloseCode}
 use Rattle.ws_core.specs.Closing.{breach_code}
 use Rattle.ws_core.specs.declared.link.Received.{Received}
 use Rattle.ws_core.specs.declared.link.Received.TheVariants.{Bytes, Skipped, Nothing, Failed, Closed}
-use Rattle.ws_core.specs.declared.phase.LinkPhase.{LinkPhase}
-use Rattle.ws_core.specs.declared.phase.LinkPhase.TheVariants as phases
+use Rattle.ws_core.specs.declared.link.LinkPhase.{LinkPhase}
+use Rattle.ws_core.specs.declared.link.LinkPhase.TheVariants as phases
 use Rattle.ws_core.specs.Holdings.{HoldingValue, settled, with_read}
 use Rattle.ws_core.specs.Links.{HasFailed, Linked}
 use Rattle.ws_core.specs.Pieces.{IsPiece}

@@ -4,9 +4,9 @@ use Rattle.std.specs.Str.{IsUtf8}
 use Rattle.tungstenite.specs.Content.{Content, text, binary, ping, pong, close}
 use Rattle.tungstenite.specs.Connection.{write_step}
 use Rattle.tungstenite.specs.Socket.{Flushed, Writes}
-use Rattle.ws_core.specs.declared.fault.LinkFault.{LinkFault}
-use Rattle.ws_core.specs.declared.fault.LinkFault.TheVariants.{Memory, Gone}
-use Rattle.ws_core.specs.declared.phase.LinkPhase.TheVariants as phases
+use Rattle.ws_core.specs.declared.link.LinkFault.{LinkFault}
+use Rattle.ws_core.specs.declared.link.LinkFault.TheVariants.{Memory, Gone}
+use Rattle.ws_core.specs.declared.link.LinkPhase.TheVariants as phases
 use Rattle.ws_core.specs.Holdings.{settled, with_put}
 use Rattle.ws_core.specs.Links.{Linked}
 

@@ -2,35 +2,14 @@
 
 #![tactic(auto)]
 
-mod answer;
-mod closing;
-mod farewell;
-mod fault;
-mod fields;
-mod greeting;
 mod handshake;
-mod holding;
 mod link;
 mod mem_link;
-mod messages;
-mod offers;
-mod phase;
 mod refusal;
-mod saying;
-mod stream;
-mod unfed;
-mod vacancy;
 mod ws_link;
 
-pub use answer::{Answer, answer_to};
-pub use closing::CloseReason;
-pub use farewell::Farewell;
-pub use fault::LinkFault;
-pub use greeting::{Greeted, Greeting};
-pub use link::{Link, Outgoing, Received};
+pub use handshake::{Answer, Greeted, Greeting, Vacancy, answer_to};
+pub use link::{CloseReason, Link, LinkFault, LinkPhase, Outgoing, Received};
 pub use mem_link::MemLink;
-pub use phase::LinkPhase;
-pub use refusal::Refusal;
-pub use stream::Ending;
-pub use vacancy::Vacancy;
-pub use ws_link::WsLink;
+pub use refusal::{Farewell, Refusal};
+pub use ws_link::{Ending, WsLink};

@@ -3,9 +3,7 @@
 ghost use Rattle.std.specs.Prelude.{◌≡◌, [], map, false};
 ghost use Rattle.ws_core.specs.Memory.{remembered};
 
-use crate::closing::CloseReason;
-use crate::fault::LinkFault;
-use crate::link::{Link, Outgoing, Received};
+use crate::link::{CloseReason, Link, LinkFault, Outgoing, Received};
 use claim_core::Released;
 use frame_core::write_frame;
 use session_core::Notice;

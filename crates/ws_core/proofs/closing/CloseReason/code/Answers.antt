@@ -1,5 +1,0 @@
-use Rattle.std.proofs.Common.{rules}
-use Rattle.ws_core.proofs.closing.CloseReason.code.Goals as goal
-
-pub returns-in-GoingAway : goal.returns-in-GoingAway
-returns-in-GoingAway c = search rules
