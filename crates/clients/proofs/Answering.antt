@@ -10,13 +10,13 @@ use Rattle.claim_core.specs.declared.refusals.Refused.{Refused}
 use Rattle.claim_core.specs.declared.refusals.Refused.TheVariants as refusals
 use Rattle.command_core.specs.Commands.{CommandValue}
 use Rattle.clients.specs.declared.progress.Progress.{Progress}
-use Rattle.clients.specs.declared.stage.Stage.{Stage}
-use Rattle.clients.specs.declared.stage.Stage.TheVariants.{Running}
+use Rattle.clients.specs.declared.progress.Stage.{Stage}
+use Rattle.clients.specs.declared.progress.Stage.TheVariants.{Running}
 use Rattle.clients.specs.Answers.{Appended, Awaits, AwaitsBy, GoesOnYet, Grows, Heard, IsPressing, IsQuiet, IsRest, IsSatisfied, IsSeen, Leaves}
 use Rattle.clients.specs.Refusals.{WaitsIfFull}
 use Rattle.clients.specs.Steps.{SaysNext, TakesStep}
-use Rattle.clients.specs.declared.outcome.Outcome.{Outcome}
-use Rattle.clients.specs.declared.outcome.Outcome.TheVariants as steps
+use Rattle.clients.specs.declared.turned.Outcome.{Outcome}
+use Rattle.clients.specs.declared.turned.Outcome.TheVariants as steps
 use Rattle.clients.specs.Boxes.{BoxEntry}
 use Rattle.clients.specs.declared.client.Client.{Client}
 use Rattle.clients.specs.declared.turned.Next.{Next}

@@ -5,7 +5,7 @@ use Rattle.std.proofs.lemmas.Bool.{cases_eq, cases_lt}
 use Rattle.std.proofs.lemmas.List.{get_or_past}
 use Rattle.std.proofs.lemmas.Option.{get_or_from_slice_get, slice_get-get_or}
 use Rattle.clients.specs.Connections.{evicted}
-use Rattle.clients.specs.declared.place.Seated.{Seated}
+use Rattle.clients.specs.declared.desk.Seated.{Seated}
 use Rattle.clients.specs.Chains.{AreTaken, Calls, Chain, Lived, deeds_at, deeds_of, last_of}
 use Rattle.clients.specs.Effects.{Effect}
 use Rattle.clients.specs.Desks.{Admits, DeskValue, SitsAt, seated_at}

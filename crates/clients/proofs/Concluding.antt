@@ -10,11 +10,11 @@ use Rattle.clients.specs.Concluding.{Concludes, IsError, SendsError, follow}
 use Rattle.clients.specs.Connections.{ConnectionValue}
 use Rattle.clients.specs.Progress.{after, role_of}
 use Rattle.clients.specs.declared.progress.Progress.{Progress}
-use Rattle.clients.specs.declared.kept.Relayed.{Relayed}
-use Rattle.clients.specs.declared.kept.Relayed.TheVariants as relayed
+use Rattle.clients.specs.declared.relaying.Relayed.{Relayed}
+use Rattle.clients.specs.declared.relaying.Relayed.TheVariants as relayed
 use Rattle.clients.specs.Relays.{Passage, Relays}
 use Rattle.clients.specs.Stages.{CanTell}
-use Rattle.clients.specs.declared.stage.Stage.TheVariants.{Running}
+use Rattle.clients.specs.declared.progress.Stage.TheVariants.{Running}
 
 follow_append : (p : Progress) (a b : List Pair) → follow p (a ++ b) ≡ follow (follow p a) b
 follow_append p [] b = refl

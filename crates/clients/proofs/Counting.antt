@@ -7,7 +7,7 @@ use Rattle.std.proofs.lemmas.Option.{get_or_from_slice_get}
 use Rattle.claim_core.specs.Seats.{SessionSeatValue}
 use Rattle.clients.specs.Connections.{ConnectionValue, connection_of, unheard, with_room}
 use Rattle.clients.specs.Footprints.{FootprintValue}
-use Rattle.clients.specs.declared.place.Seated.{Seated}
+use Rattle.clients.specs.declared.desk.Seated.{Seated}
 use Rattle.clients.specs.declared.client.Client.{Client}
 use Rattle.clients.specs.declared.turned.Turned.{Turned}
 use Rattle.clients.specs.Answers.{Answers}

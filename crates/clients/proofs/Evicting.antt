@@ -7,9 +7,9 @@ use Rattle.clients.specs.Connections.{ConnectionValue, connection_of, evicted, w
 use Rattle.clients.specs.Stages.{Executes, lost}
 use Rattle.clients.specs.Tasks.{all_of, tasks}
 use Rattle.clients.specs.declared.footprint.Cut.TheVariants as cuts
-use Rattle.clients.specs.declared.ended.Ended.TheVariants.{Bye, Bad, Lost, Stopped}
-use Rattle.clients.specs.declared.stage.Stage.{Stage}
-use Rattle.clients.specs.declared.stage.Stage.TheVariants.{Running, GivingUp, Closing, Parting, Leaving, Over}
+use Rattle.clients.specs.declared.turned.Ended.TheVariants.{Bye, Bad, Lost, Stopped}
+use Rattle.clients.specs.declared.progress.Stage.{Stage}
+use Rattle.clients.specs.declared.progress.Stage.TheVariants.{Running, GivingUp, Closing, Parting, Leaving, Over}
 use Rattle.clients.specs.Effects.{Effect}
 use Rattle.clients.specs.Histories.{Heeds, IsLoss, Lives, LivesAt, Undone, act_of, undone_of}
 use Rattle.clients.specs.Spending.{Spends, waiting_of}

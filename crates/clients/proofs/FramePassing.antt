@@ -4,8 +4,8 @@ use Rattle.std.proofs.Math.Seq.{drop-append_seam, take-append_seam}
 use Rattle.std.proofs.lemmas.Bool.{lt-ltb}
 use Rattle.std.proofs.lemmas.List.{append-nil, append_assoc, length-take-le, take-append-drop}
 use Rattle.clients.specs.Frames.{Passes, ended, is_front, passed, step}
-use Rattle.clients.specs.declared.frames.FrameProgress.{FrameProgress}
-use Rattle.clients.specs.declared.frames.FrameProgress.TheVariants.{Front, Payload}
+use Rattle.clients.specs.declared.read_budget.FrameProgress.{FrameProgress}
+use Rattle.clients.specs.declared.read_budget.FrameProgress.TheVariants.{Front, Payload}
 
 -- one byte
 one : (old new : FrameProgress) (before left : ℕ) (bytes : List ℕ) → bytes ≢ [] → new ≡ step old (get_or bytes 0 0) → cond (is_front new) 1 0 + left ≡ before → Passes old new before left bytes 1

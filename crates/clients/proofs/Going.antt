@@ -16,8 +16,8 @@ use Rattle.clients.specs.Footprints.{FootprintValue, IsFootprint, charged, settl
 use Rattle.clients.specs.Concluding.{Concludes, follow}
 use Rattle.clients.specs.Stages.{CanTell, Executes, IsEnding, rested, stopped}
 use Rattle.clients.specs.declared.progress.Progress.{Progress}
-use Rattle.clients.specs.declared.stage.Stage.{Stage}
-use Rattle.clients.specs.declared.stage.Stage.TheVariants.{Running, GivingUp}
+use Rattle.clients.specs.declared.progress.Stage.{Stage}
+use Rattle.clients.specs.declared.progress.Stage.TheVariants.{Running, GivingUp}
 use Rattle.session_core.specs.declared.session.Act.TheVariants.{Direct, Do, Close}
 use Rattle.session_core.specs.declared.session.CloseCode.{CloseCode}
 use Rattle.clients.specs.Continues.{Continues}

@@ -6,7 +6,7 @@ use Rattle.session_core.proofs.Hearings.{heard_as_one, pieces_as_one}
 use Rattle.frame_core.specs.Parts.{IsUnfinished}
 use Rattle.clients.specs.Connections.{ConnectionValue, HearsBytes, Listens}
 use Rattle.clients.specs.Tasks.{all_of}
-use Rattle.clients.specs.declared.stage.Stage.TheVariants.{Running}
+use Rattle.clients.specs.declared.progress.Stage.TheVariants.{Running}
 
 -- These bytes were heard, however they were cut. Of all that they ask for these acts were taken, the first ones: the others wait.
 -- While the connection runs, its session stands where those bytes bring one.

@@ -7,7 +7,7 @@ use Rattle.std.proofs.lemmas.Bool.{cases_lt, lt-ltb, ltb-true}
 use Rattle.std.proofs.lemmas.Bool.Decides.{eqb_tells}
 use Rattle.clients.specs.Lines.{times, IsLine, may_join}
 use Rattle.clients.specs.Kept.{reported, IsKept}
-use Rattle.clients.specs.declared.limits.TheConstants.{CLIENTS}
+use Rattle.clients.specs.declared.wakers.TheConstants.{CLIENTS}
 
 -- one where the numbers are the same
 abbrev pub same : ℕ → ℕ → ℕ

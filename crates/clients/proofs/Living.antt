@@ -20,8 +20,8 @@ use Rattle.clients.specs.declared.footprint.Cut.{Cut}
 use Rattle.clients.specs.declared.footprint.Cut.TheVariants as cuts
 use Rattle.clients.specs.Stages.{CanTell, Executes, IsEnding, IsOwnEnd, given_up, lost, parted, rested, stopped}
 use Rattle.clients.specs.Tasks.{Tasks, all_of}
-use Rattle.clients.specs.declared.ended.Ended.{Ended}
-use Rattle.clients.specs.declared.ended.Ended.TheVariants.{Bye, Lost, Bad, Stopped}
+use Rattle.clients.specs.declared.turned.Ended.{Ended}
+use Rattle.clients.specs.declared.turned.Ended.TheVariants.{Bye, Lost, Bad, Stopped}
 use Rattle.frame_core.specs.declared.frame.Verb.{Verb}
 use Rattle.frame_core.specs.declared.frame.Verb.TheVariants as verbs
 use Rattle.std.proofs.lemmas.Bool.{and_parts, cases_eq, eqb-true}
@@ -30,8 +30,8 @@ use Rattle.clients.specs.declared.progress.Role.{Role}
 use Rattle.clients.specs.declared.progress.Role.TheVariants.{Opens, Talks, Ends}
 use Rattle.clients.specs.declared.progress.Progress.{Progress}
 use Rattle.clients.specs.declared.progress.Progress.TheVariants.{New, Open, Ended as Finished, Gone}
-use Rattle.clients.specs.declared.stage.Stage.{Stage}
-use Rattle.clients.specs.declared.stage.Stage.TheVariants.{Running, GivingUp, Closing, Parting, Leaving, Over}
+use Rattle.clients.specs.declared.progress.Stage.{Stage}
+use Rattle.clients.specs.declared.progress.Stage.TheVariants.{Running, GivingUp, Closing, Parting, Leaving, Over}
 use Rattle.claim_core.specs.Counts.{Pair}
 use Rattle.clients.proofs.Footprints.{nothing_by_end}
 use Rattle.clients.proofs.Hearing.{HasHeard, hears_on, nothing_heard_yet}

@@ -12,13 +12,13 @@ use Rattle.session_core.specs.declared.session.Act.{Act}
 use Rattle.clients.specs.Connections.{ConnectionValue, Takes}
 use Rattle.clients.specs.Progress.{number_in}
 use Rattle.clients.specs.declared.progress.Progress.{Progress}
-use Rattle.clients.specs.declared.stage.Stage.TheVariants.{Running}
+use Rattle.clients.specs.declared.progress.Stage.TheVariants.{Running}
 use Rattle.clients.specs.Conversations.{StaysOrEnds}
 use Rattle.clients.specs.Keeping.{KeepsOwn}
-use Rattle.clients.specs.declared.kept.Kept.{Kept}
-use Rattle.clients.specs.declared.kept.Kept.TheVariants as kept
-use Rattle.clients.specs.declared.kept.Relayed.{Relayed}
-use Rattle.clients.specs.declared.kept.Relayed.TheVariants as relayed
+use Rattle.clients.specs.declared.relaying.Kept.{Kept}
+use Rattle.clients.specs.declared.relaying.Kept.TheVariants as kept
+use Rattle.clients.specs.declared.relaying.Relayed.{Relayed}
+use Rattle.clients.specs.declared.relaying.Relayed.TheVariants as relayed
 use Rattle.clients.specs.declared.client.Client.{Client}
 use Rattle.clients.specs.Relays.{FindsNone, Handles, IsRefused, Passage, Relays, passage}
 use Rattle.clients.specs.Clients.{IsOwn, IsTakerOf, Message, Passed, Passes, Served, Stays, Unserved, bytes_of, frames_of, kept_of, number_at, outs_of, passed, taken_of}

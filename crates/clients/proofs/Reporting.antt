@@ -10,11 +10,11 @@ use Rattle.clients.specs.Relays.{Passage, Relays}
 use Rattle.clients.specs.Answers.{AwaitsBy, IsSeen}
 use Rattle.clients.specs.Reports.{IsUnsent, MayRead, Reports, ReportsAt, SendsFew}
 use Rattle.clients.specs.Tasks.{all_of}
-use Rattle.clients.specs.declared.kept.Relayed.{Relayed}
-use Rattle.clients.specs.declared.kept.Relayed.TheVariants as relayed
-use Rattle.clients.specs.declared.outcome.Outcome.{Outcome}
-use Rattle.clients.specs.declared.outcome.Outcome.TheVariants as steps
-use Rattle.clients.specs.declared.place.Seated.{Seated}
+use Rattle.clients.specs.declared.relaying.Relayed.{Relayed}
+use Rattle.clients.specs.declared.relaying.Relayed.TheVariants as relayed
+use Rattle.clients.specs.declared.turned.Outcome.{Outcome}
+use Rattle.clients.specs.declared.turned.Outcome.TheVariants as steps
+use Rattle.clients.specs.declared.desk.Seated.{Seated}
 use Rattle.clients.specs.declared.client.Client.{Client}
 use Rattle.clients.specs.declared.turned.Next.{Next}
 use Rattle.clients.specs.declared.turned.Next.TheVariants as next

@@ -15,8 +15,8 @@ use Rattle.clients.specs.Footprints.{FootprintValue, IsFootprint, IsWithin, char
 use Rattle.clients.specs.Stages.{Executes, IsEnding, given_up}
 use Rattle.clients.specs.Tasks.{all_of}
 use Rattle.clients.specs.declared.footprint.Part.{Part}
-use Rattle.clients.specs.declared.stage.Stage.{Stage}
-use Rattle.clients.specs.declared.stage.Stage.TheVariants.{Running, GivingUp, Closing, Parting, Leaving, Over}
+use Rattle.clients.specs.declared.progress.Stage.{Stage}
+use Rattle.clients.specs.declared.progress.Stage.TheVariants.{Running, GivingUp, Closing, Parting, Leaving, Over}
 use Rattle.clients.proofs.Footprints.{charges, within_less, within_more, within_none}
 use Rattle.clients.specs.Effects.{Effect, Said, commands_of}
 use Rattle.clients.specs.Histories.{IsLoss, Lives, Nothing, Undone, Waits}

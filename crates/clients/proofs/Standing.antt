@@ -13,7 +13,7 @@ use Rattle.clients.specs.Connections.{ConnectionValue, connection_of}
 use Rattle.clients.specs.Progress.{number_in}
 use Rattle.clients.specs.declared.progress.Progress.{Progress}
 use Rattle.clients.specs.declared.progress.Progress.TheVariants.{New, Open, Ended, Gone}
-use Rattle.clients.specs.declared.place.Seated.{Seated}
+use Rattle.clients.specs.declared.desk.Seated.{Seated}
 use Rattle.clients.specs.declared.turned.Turned.{Turned}
 use Rattle.clients.specs.Answers.{Answers}
 use Rattle.clients.specs.Continues.{Continues}

@@ -8,7 +8,7 @@ use Rattle.std.proofs.lemmas.List.Sums.{sum_by_push}
 use Rattle.claim_core.specs.Seats.{SessionSeatValue}
 use Rattle.clients.specs.declared.progress.Progress.{Progress}
 use Rattle.clients.specs.declared.progress.Progress.TheVariants.{Gone}
-use Rattle.clients.specs.declared.place.Seated.{Seated}
+use Rattle.clients.specs.declared.desk.Seated.{Seated}
 use Rattle.clients.specs.Conversations.{holds, opens, part_of}
 use Rattle.clients.specs.Desks.{DeskValue, IsDesk, Leaves, Trims, desk, seated_at, stand_of}
 use Rattle.clients.specs.Places.{is_over_at, progress_at}

@@ -3,13 +3,13 @@ use Rattle.std.specs.Prelude.{◌≡◌, ◌<◌, ◌≤◌, ℕ, List, [], Bool
 use Rattle.command_core.specs.Outs.{OutValue}
 use Rattle.claim_core.specs.Seats.{SessionSeatValue}
 use Rattle.clients.specs.Tasks.{all_of}
-use Rattle.clients.specs.declared.ended.Ended.{Ended}
-use Rattle.clients.specs.declared.stage.Stage.{Stage}
-use Rattle.clients.specs.declared.stage.Stage.TheVariants.{Running, GivingUp, Closing, Parting, Leaving, Over}
-use Rattle.clients.specs.declared.outcome.Outcome.{Outcome}
-use Rattle.clients.specs.declared.outcome.Outcome.TheVariants as steps
-use Rattle.clients.specs.declared.kept.Kept.{Kept}
-use Rattle.clients.specs.declared.kept.Kept.TheVariants as kept
+use Rattle.clients.specs.declared.turned.Ended.{Ended}
+use Rattle.clients.specs.declared.progress.Stage.{Stage}
+use Rattle.clients.specs.declared.progress.Stage.TheVariants.{Running, GivingUp, Closing, Parting, Leaving, Over}
+use Rattle.clients.specs.declared.turned.Outcome.{Outcome}
+use Rattle.clients.specs.declared.turned.Outcome.TheVariants as steps
+use Rattle.clients.specs.declared.relaying.Kept.{Kept}
+use Rattle.clients.specs.declared.relaying.Kept.TheVariants as kept
 use Rattle.clients.specs.Boxes.{BoxEntry}
 use Rattle.clients.specs.declared.client.Client.{Client}
 use Rattle.clients.specs.declared.turned.Next.{Next}

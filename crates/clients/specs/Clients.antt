@@ -9,8 +9,8 @@ use Rattle.frame_core.specs.Written.{written}
 use Rattle.outbox_core.specs.Boxes.{TakerValue}
 use Rattle.clients.specs.Connections.{connection_of, unheard}
 use Rattle.clients.specs.Progress.{number_in}
-use Rattle.clients.specs.declared.kept.Kept.{Kept}
-use Rattle.clients.specs.declared.kept.Kept.TheVariants as kept
+use Rattle.clients.specs.declared.relaying.Kept.{Kept}
+use Rattle.clients.specs.declared.relaying.Kept.TheVariants as kept
 use Rattle.clients.specs.declared.client.Client.{Client}
 
 -- a connection that was not heard yet: nothing waits for the ring, and there is no outbox

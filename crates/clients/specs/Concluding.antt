@@ -7,8 +7,8 @@ use Rattle.claim_core.specs.Counts.{Pair}
 use Rattle.clients.specs.Connections.{ConnectionValue}
 use Rattle.clients.specs.Progress.{after, role_of}
 use Rattle.clients.specs.Stages.{CanTell}
-use Rattle.clients.specs.declared.kept.Relayed.{Relayed}
-use Rattle.clients.specs.declared.kept.Relayed.TheVariants as relayed
+use Rattle.clients.specs.declared.relaying.Relayed.{Relayed}
+use Rattle.clients.specs.declared.relaying.Relayed.TheVariants as relayed
 use Rattle.clients.specs.declared.progress.Progress.{Progress}
 
 -- how far a conversation has come with these commands

@@ -19,12 +19,12 @@ use Rattle.clients.specs.Weights.{weight_of_all}
 use Rattle.clients.specs.Footprints.{FootprintValue, none_standing, settled}
 use Rattle.clients.specs.declared.footprint.Cut.TheVariants as cuts
 use Rattle.clients.specs.declared.client.Client.{Client}
-use Rattle.clients.specs.declared.ended.Ended.TheVariants.{Bye, Bad}
+use Rattle.clients.specs.declared.turned.Ended.TheVariants.{Bye, Bad}
 use Rattle.clients.specs.declared.progress.Progress.{Progress}
 use Rattle.clients.specs.declared.progress.Progress.TheVariants.{New, Open, Ended, Gone}
 use Rattle.clients.specs.declared.progress.Role.{Role}
-use Rattle.clients.specs.declared.stage.Stage.{Stage}
-use Rattle.clients.specs.declared.stage.Stage.TheVariants.{Running, GivingUp, Closing, Leaving}
+use Rattle.clients.specs.declared.progress.Stage.{Stage}
+use Rattle.clients.specs.declared.progress.Stage.TheVariants.{Running, GivingUp, Closing, Leaving}
 
 -- Its session of STOMP; what that asked for that is still to be done; how far its conversation with the broker has come; what stands of
 -- its session in a snapshot; the number of the DISCONNECT whose RECEIPT is the last frame; and what is to be done with it.

@@ -5,9 +5,9 @@ use Rattle.claim_core.specs.Seats.{SessionSeatValue}
 use Rattle.clients.specs.Concluding.{Concludes}
 use Rattle.clients.specs.Connections.{ConnectionValue, connection_of}
 use Rattle.clients.specs.declared.progress.Progress.{Progress}
-use Rattle.clients.specs.declared.place.NotAdmitted.{NotAdmitted}
-use Rattle.clients.specs.declared.place.NotAdmitted.TheVariants.{Memory, Taken}
-use Rattle.clients.specs.declared.place.Seated.{Seated}
+use Rattle.clients.specs.declared.desk.NotAdmitted.{NotAdmitted}
+use Rattle.clients.specs.declared.desk.NotAdmitted.TheVariants.{Memory, Taken}
+use Rattle.clients.specs.declared.desk.Seated.{Seated}
 use Rattle.clients.specs.declared.turned.Turned.{Turned}
 use Rattle.clients.specs.Answers.{Answers}
 use Rattle.clients.specs.Continues.{AreSaid}

@@ -1,7 +1,7 @@
 -- How bytes are frames of a client (RFC 6455, section 5.2).
 use Rattle.std.specs.Prelude.{◌≡◌, ◌==◌, ◌+◌, ◌++◌, ◌*◌, ◌-◌, ◌^◌, ◌%◌, ℕ, Bool, true, false, List, [], ◌∷◌, cond, length, min, nat_lt}
-use Rattle.clients.specs.declared.frames.FrameProgress.{FrameProgress}
-use Rattle.clients.specs.declared.frames.FrameProgress.TheVariants.{Front, Second, Length, Payload}
+use Rattle.clients.specs.declared.read_budget.FrameProgress.{FrameProgress}
+use Rattle.clients.specs.declared.read_budget.FrameProgress.TheVariants.{Front, Second, Length, Payload}
 
 -- a number of 64 bits, or the greatest of them
 abbrev capped : ℕ → ℕ

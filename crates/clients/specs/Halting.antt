@@ -4,10 +4,10 @@ use Rattle.claim_core.specs.Rule.{far}
 use Rattle.claim_core.specs.Seats.{SessionSeatValue}
 use Rattle.claim_core.specs.declared.refusals.Refused.{Refused}
 use Rattle.claim_core.specs.declared.refusals.Refused.TheVariants as refusals
-use Rattle.clients.specs.declared.ended.Ended.{Ended}
-use Rattle.clients.specs.declared.ended.Ended.TheVariants.{Bye, Bad, Lost, Stopped}
-use Rattle.clients.specs.declared.stage.Stage.{Stage}
-use Rattle.clients.specs.declared.stage.Stage.TheVariants.{Running, GivingUp, Closing, Parting, Leaving, Over}
+use Rattle.clients.specs.declared.turned.Ended.{Ended}
+use Rattle.clients.specs.declared.turned.Ended.TheVariants.{Bye, Bad, Lost, Stopped}
+use Rattle.clients.specs.declared.progress.Stage.{Stage}
+use Rattle.clients.specs.declared.progress.Stage.TheVariants.{Running, GivingUp, Closing, Parting, Leaving, Over}
 
 abbrev pub IsStopped : Ended → Type 0
 IsStopped Bye = ⊥

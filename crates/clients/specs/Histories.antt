@@ -16,10 +16,10 @@ use Rattle.clients.specs.Stages.{CanTell, Executes, IsEnding}
 use Rattle.clients.specs.Tasks.{all_of}
 use Rattle.clients.specs.declared.progress.Progress.{Progress}
 use Rattle.clients.specs.declared.progress.Progress.TheVariants.{New}
-use Rattle.clients.specs.declared.ended.Ended.{Ended}
-use Rattle.clients.specs.declared.ended.Ended.TheVariants.{Bye, Lost, Bad, Stopped}
-use Rattle.clients.specs.declared.stage.Stage.{Stage}
-use Rattle.clients.specs.declared.stage.Stage.TheVariants.{Running, GivingUp, Closing, Parting, Leaving, Over}
+use Rattle.clients.specs.declared.turned.Ended.{Ended}
+use Rattle.clients.specs.declared.turned.Ended.TheVariants.{Bye, Lost, Bad, Stopped}
+use Rattle.clients.specs.declared.progress.Stage.{Stage}
+use Rattle.clients.specs.declared.progress.Stage.TheVariants.{Running, GivingUp, Closing, Parting, Leaving, Over}
 use Rattle.clients.specs.Boxes.{BoxEntry}
 use Rattle.clients.specs.Conversations.{StaysOrEnds}
 use Rattle.clients.specs.Effects.{Effect, Does, commands_of, told_of, untold_of}

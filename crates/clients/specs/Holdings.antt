@@ -5,7 +5,7 @@ use Rattle.clients.specs.Weights.{op_weight}
 use Rattle.outbox_core.specs.Boxes.{TakerValue}
 use Rattle.outbox_core.specs.Weights.{most_waiting}
 use Rattle.clients.specs.Boxes.{BoxEntry}
-use Rattle.clients.specs.declared.place.Seated.{Seated}
+use Rattle.clients.specs.declared.desk.Seated.{Seated}
 use Rattle.clients.specs.declared.client.Client.{Client}
 use Rattle.clients.specs.Places.{has_no_link}
 

@@ -4,14 +4,14 @@ use Rattle.command_core.specs.Commands.{CommandValue}
 use Rattle.command_core.specs.Outs.{OutValue}
 use Rattle.clients.specs.Progress.{number_in, role_of}
 use Rattle.clients.specs.Stages.{Executes}
-use Rattle.clients.specs.declared.stage.Stage.{Stage}
-use Rattle.clients.specs.declared.stage.Stage.TheVariants.{Running}
+use Rattle.clients.specs.declared.progress.Stage.{Stage}
+use Rattle.clients.specs.declared.progress.Stage.TheVariants.{Running}
 use Rattle.clients.specs.declared.progress.Progress.{Progress}
 use Rattle.clients.specs.declared.progress.Progress.TheVariants.{New, Open, Ended, Gone}
 use Rattle.clients.specs.declared.progress.Role.{Role}
 use Rattle.clients.specs.declared.progress.Role.TheVariants.{Opens, Talks, Ends}
-use Rattle.clients.specs.declared.kept.Kept.{Kept}
-use Rattle.clients.specs.declared.kept.Kept.TheVariants as kept
+use Rattle.clients.specs.declared.relaying.Kept.{Kept}
+use Rattle.clients.specs.declared.relaying.Kept.TheVariants as kept
 use Rattle.clients.specs.Boxes.{BoxEntry}
 
 -- While it runs, an output that it keeps and that may leave is of its own session. A connection whose outbox has another's is given up.

@@ -1,7 +1,7 @@
 -- How a line is kept: its order, and whether each number stands there.
 use Rattle.std.specs.Prelude.{◌≡◌, ℕ, ◌≤◌, Bool, false, List, cond, count_by, length, slice_index_or}
 use Rattle.clients.specs.Lines.{times}
-use Rattle.clients.specs.declared.limits.TheConstants.{CLIENTS}
+use Rattle.clients.specs.declared.wakers.TheConstants.{CLIENTS}
 
 -- once if it stands there, else not at all
 abbrev pub reported : ℕ → List Bool → ℕ

@@ -1,6 +1,6 @@
 -- The lines in which a worker's clients stand, by their numbers, the first ones first.
 use Rattle.std.specs.Prelude.{◌≡◌, ℕ, ◌≤◌, ◌&&◌, Bool, false, List, [], ◌∷◌, ◌++◌, Option, Some, None, cond, eqb, nat_lt, count_by, drop, slice_get, slice_index_or, slice_set}
-use Rattle.clients.specs.declared.limits.TheConstants.{CLIENTS}
+use Rattle.clients.specs.declared.wakers.TheConstants.{CLIENTS}
 
 -- how often a number stands in a line
 abbrev pub times : ℕ → List ℕ → ℕ

@@ -2,8 +2,8 @@
 use Rattle.std.specs.Prelude.{◌||◌, ◌+◌, ◌-◌, ◌^◌, ℕ, Bool, cond, length, min, nat_lt}
 use Rattle.clients.specs.Lines.{is_over}
 use Rattle.clients.specs.declared.clients.Clients.{Clients}
-use Rattle.clients.specs.declared.outlook.Outlook.{Outlook}
-use Rattle.clients.specs.declared.outlook.TheConstants.{LONGEST_LOOK, LONGEST_SLEEP}
+use Rattle.clients.specs.declared.clients.Outlook.{Outlook}
+use Rattle.clients.specs.declared.clients.TheConstants.{LONGEST_LOOK, LONGEST_SLEEP}
 
 -- a client of that desk stands in line for a turn, or goes on by itself
 abbrev pub is_ready : Clients → Bool

@@ -6,7 +6,7 @@ use Rattle.clients.specs.declared.footprint.Cut.{Cut}
 use Rattle.clients.specs.declared.footprint.Cut.TheVariants as cuts
 use Rattle.clients.specs.declared.progress.Progress.{Progress}
 use Rattle.clients.specs.declared.progress.Progress.TheVariants.{Gone}
-use Rattle.clients.specs.declared.place.Seated.{Seated}
+use Rattle.clients.specs.declared.desk.Seated.{Seated}
 use Rattle.claim_core.specs.Seats.{SessionSeatValue}
 use Rattle.clients.specs.declared.turned.Turned.{Turned}
 use Rattle.clients.specs.Answers.{Answers}
@@ -14,8 +14,8 @@ use Rattle.clients.specs.Effects.{Effect, commands_of, told_of}
 use Rattle.clients.specs.Halting.{FindsEnd, HasHalted}
 use Rattle.clients.specs.Histories.{Heeds, Idles}
 use Rattle.clients.specs.Spending.{IsEvicted}
-use Rattle.clients.specs.declared.stage.Stage.{Stage}
-use Rattle.clients.specs.declared.stage.Stage.TheVariants.{Running, GivingUp, Closing, Parting, Leaving, Over}
+use Rattle.clients.specs.declared.progress.Stage.{Stage}
+use Rattle.clients.specs.declared.progress.Stage.TheVariants.{Running, GivingUp, Closing, Parting, Leaving, Over}
 use Rattle.clients.specs.Clients.{Served, Unserved, number_at}
 use Rattle.ws_core.specs.Sending.{IsPinged}
 use Rattle.ws_core.specs.declared.link.LinkFault.{LinkFault}

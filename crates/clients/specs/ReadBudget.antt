@@ -8,7 +8,7 @@ use Rattle.clients.specs.Supplies.{drained, is_dry, with_reported}
 use Rattle.clients.specs.declared.read_budget.Flow.{Flow}
 use Rattle.clients.specs.declared.read_budget.ReadBudget.{ReadBudget}
 use Rattle.clients.specs.declared.read_budget.TheConstants.{READS}
-use Rattle.clients.specs.declared.supply.Reported.{Reported}
+use Rattle.clients.specs.declared.read_budget.Reported.{Reported}
 
 -- how many bytes a socket gave in all, with one read more: 2^64 - 1 if they are more
 abbrev pub counted_by : Result ℕ Error → ℕ → ℕ

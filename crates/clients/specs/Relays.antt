@@ -10,10 +10,10 @@ use Rattle.outbox_core.specs.declared.taker.Taken.TheVariants as took
 use Rattle.ws_core.specs.Sending.{with_message}
 use Rattle.ws_core.specs.declared.link.LinkFault.{LinkFault}
 use Rattle.ws_core.specs.declared.link.LinkFault.TheVariants.{Memory}
-use Rattle.clients.specs.declared.kept.Kept.{Kept}
-use Rattle.clients.specs.declared.kept.Kept.TheVariants as kept
-use Rattle.clients.specs.declared.kept.Relayed.{Relayed}
-use Rattle.clients.specs.declared.kept.Relayed.TheVariants as relayed
+use Rattle.clients.specs.declared.relaying.Kept.{Kept}
+use Rattle.clients.specs.declared.relaying.Kept.TheVariants as kept
+use Rattle.clients.specs.declared.relaying.Relayed.{Relayed}
+use Rattle.clients.specs.declared.relaying.Relayed.TheVariants as relayed
 
 -- The seat has read the ring's mark, which never falls, and nothing else has changed.
 pub record ReadsMark (old new : SessionSeatValue) : Type 0 where

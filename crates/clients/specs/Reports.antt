@@ -1,12 +1,12 @@
 -- What a turn reports of its link and its seat, beside its effects.
 use Rattle.std.specs.Prelude.{◌≡◌, ◌≤◌, ◌⊎◌, ◌++◌, ℕ, List, Bool, true, false, Option, Some, None, length, option_map}
 use Rattle.claim_core.specs.Seats.{SessionSeatValue}
-use Rattle.clients.specs.declared.ended.Ended.{Ended}
-use Rattle.clients.specs.declared.kept.Kept.{Kept}
-use Rattle.clients.specs.declared.kept.Kept.TheVariants as kept
-use Rattle.clients.specs.declared.place.Seated.{Seated}
+use Rattle.clients.specs.declared.turned.Ended.{Ended}
+use Rattle.clients.specs.declared.relaying.Kept.{Kept}
+use Rattle.clients.specs.declared.relaying.Kept.TheVariants as kept
+use Rattle.clients.specs.declared.desk.Seated.{Seated}
 use Rattle.clients.specs.declared.client.Client.{Client}
-use Rattle.clients.specs.declared.stage.Stage.TheVariants.{Running, Parting}
+use Rattle.clients.specs.declared.progress.Stage.TheVariants.{Running, Parting}
 use Rattle.clients.specs.declared.turned.Next.TheVariants as next
 use Rattle.clients.specs.declared.turned.Turned.{Turned}
 use Rattle.clients.specs.Answers.{IsSatisfied}

@@ -10,8 +10,8 @@ use Rattle.clients.specs.declared.deadlines.Due.TheVariants as dues
 use Rattle.clients.specs.declared.deadlines.Deadlines.{Deadlines}
 use Rattle.clients.specs.declared.deadlines.Opening.{Opening}
 use Rattle.clients.specs.declared.deadlines.Opening.TheVariants.{Open}
-use Rattle.clients.specs.declared.supply.Reported.{Reported}
-use Rattle.clients.specs.declared.supply.Reported.TheVariants.{Bytes, End}
+use Rattle.clients.specs.declared.read_budget.Reported.{Reported}
+use Rattle.clients.specs.declared.read_budget.Reported.TheVariants.{Bytes, End}
 use Rattle.clients.specs.declared.clients.ClientState.{ClientState}
 use Rattle.clients.specs.declared.clients.ClientState.TheVariants.{Greeting, Refused, Seated, Away}
 use Rattle.clients.specs.declared.lines.Lines.{Lines}
@@ -23,7 +23,7 @@ use Rattle.clients.specs.declared.clients.Clients.{Clients}
 use Rattle.clients.specs.declared.read_budget.ReadBudget.{ReadBudget}
 use Rattle.mio.specs.declared.net.stream.TcpStream.{TcpStream}
 use Rattle.ws_core.specs.declared.refusal.Farewell.{Farewell}
-use Rattle.clients.specs.declared.limits.TheConstants.{CLIENTS, SHORTAGE}
+use Rattle.clients.specs.declared.wakers.TheConstants.{CLIENTS, SHORTAGE}
 use Rattle.clients.specs.declared.timers.TheConstants.{NEVER}
 
 -- the client that has a number

@@ -1,8 +1,8 @@
 -- How a connection comes from one stage to another.
-use Rattle.clients.specs.declared.ended.Ended.{Ended}
-use Rattle.clients.specs.declared.ended.Ended.TheVariants.{Bye, Bad, Lost, Stopped}
-use Rattle.clients.specs.declared.stage.Stage.{Stage}
-use Rattle.clients.specs.declared.stage.Stage.TheVariants.{Running, GivingUp, Closing, Parting, Leaving, Over}
+use Rattle.clients.specs.declared.turned.Ended.{Ended}
+use Rattle.clients.specs.declared.turned.Ended.TheVariants.{Bye, Bad, Lost, Stopped}
+use Rattle.clients.specs.declared.progress.Stage.{Stage}
+use Rattle.clients.specs.declared.progress.Stage.TheVariants.{Running, GivingUp, Closing, Parting, Leaving, Over}
 
 -- what was asked for is still to be appended
 abbrev pub Executes : Stage → Type 0

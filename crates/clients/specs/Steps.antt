@@ -18,7 +18,7 @@ use Rattle.clients.specs.Halting.{FindsEnd, HasHalted}
 use Rattle.clients.specs.Histories.{DoesUndone, Heeds, LivesOn, Taken, Undone}
 use Rattle.clients.specs.Clients.{Served}
 use Rattle.clients.specs.Spending.{KeepsRoom}
-use Rattle.clients.specs.declared.outcome.Outcome.{Outcome}
+use Rattle.clients.specs.declared.turned.Outcome.{Outcome}
 use Rattle.clients.specs.declared.progress.Progress.{Progress}
 use Rattle.clients.specs.Boxes.{BoxEntry, HasBox}
 use Rattle.clients.specs.declared.client.Client.{Client}

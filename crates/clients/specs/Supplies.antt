@@ -6,10 +6,10 @@ use Rattle.std.specs.declared.io.ErrorKind.{ErrorKind}
 use Rattle.std.specs.declared.io.ErrorKind.TheVariants as kinds
 use Rattle.mio.specs.Event.{is_error, is_read_closed, is_readable, is_write_closed}
 use Rattle.mio.specs.declared.event.event.Event.{Event}
-use Rattle.clients.specs.declared.supply.Supply.{Supply}
-use Rattle.clients.specs.declared.supply.Supply.TheVariants.{Unknown, Dry, Ending}
-use Rattle.clients.specs.declared.supply.Reported.{Reported}
-use Rattle.clients.specs.declared.supply.Reported.TheVariants.{Nothing, Bytes, End}
+use Rattle.clients.specs.declared.read_budget.Supply.{Supply}
+use Rattle.clients.specs.declared.read_budget.Supply.TheVariants.{Unknown, Dry, Ending}
+use Rattle.clients.specs.declared.read_budget.Reported.{Reported}
+use Rattle.clients.specs.declared.read_budget.Reported.TheVariants.{Nothing, Bytes, End}
 
 -- what the poll tells of a socket that is to be read: its end or a failure, or else bytes
 abbrev pub reported_by : Event → Reported

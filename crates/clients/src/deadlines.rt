@@ -1,8 +1,9 @@
 //! For how long a worker waits for a client.
 
-ghost use Rattle.std.specs.Prelude.{◌≡◌, ◌<◌, ℕ, true, false};
+ghost use Rattle.std.specs.Prelude.{◌≡◌, ◌<◌, ℕ, true, false, ◌+◌, ◌-◌, ◌^◌, min};
 ghost use Rattle.std.specs.Option.{is_some};
 ghost use Rattle.clients.specs.Deadlines.{IsDue, IsGivenUp, IsPingDue, IsQuiet, IsSilent, IsWriteDue, NeverCloses, OpensNothing, Overstays, Passed, SaysNoPart, TakesNothing, Until, counts, fresh, freed_by, heard_by, held_up_by, parting_by, pinged_by, taken_by, unread_by, wait_of};
+ghost use Rattle.clients.specs.Watches.{counted};
 
 /// For how many milliseconds a client may send nothing between two parts of its handshake.
 const LONGEST_PART: u64 = 20_000;
@@ -33,6 +34,9 @@ const LONGEST_WRITE: u64 = 60_000;
 
 /// For how many milliseconds a client's close is waited for, once it was sent that its connection is being closed.
 const LONGEST_CLOSE: u64 = 10_000;
+
+/// By how many milliseconds a round may take longer than it was allowed to wait, before that counts as a pause.
+const SPARE: u64 = 1_000;
 
 /// How far a client has come in opening its session.
 #[derive(Clone, Copy)]
@@ -343,4 +347,48 @@ fn left_of(span: u64, since: u64, now: u64) -> u64
         return 0;
     }
     since.saturating_add(span).saturating_sub(now).max(1)
+}
+
+/// A clock that counts a second at most of a pause of the whole process of over a second: no client is to be given up for pauses, also if
+/// there are several. Moments are in milliseconds, and begin with that of the system's clock.
+#[derive(Clone, Copy)]
+pub struct Watch {
+    // What the system's clock showed last, and what this one shows.
+    seen: u64,
+    shown: u64,
+}
+
+impl Watch {
+    /// A clock that shows what the system's clock does.
+    pub fn new(real: u64) -> Watch
+        ensures { (result.seen ≡ real) × (result.shown ≡ real) }
+    {
+        Watch {
+            seen: real,
+            shown: real,
+        }
+    }
+
+    /// What it shows.
+    pub fn now(&self) -> u64
+        ensures { result ≡ self.now.shown }
+    {
+        self.shown
+    }
+
+    /// A round is over for which a wait of `allowed` was allowed, and the system's clock shows this. If the round was longer by more than
+    /// a second, what was allowed counts, but no more than a second of it: how much of it came before the pause is unknown.
+    pub fn go_on(&mut self, real: u64, allowed: u64)
+        ensures seen { self.new.seen ≡ real }
+        ensures shown { self.new.shown ≡ min (self.old.shown + counted allowed (real - self.old.seen)) (2 ^ 64 - 1) }
+    {
+        let passed = real.saturating_sub(self.seen);
+        let counted = if passed <= allowed.saturating_add(SPARE) {
+            passed
+        } else {
+            allowed.min(SPARE)
+        };
+        self.seen = real;
+        self.shown = self.shown.saturating_add(counted);
+    }
 }

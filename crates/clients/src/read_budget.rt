@@ -1,12 +1,13 @@
 //! The socket of a client, which is read in portions, and never in vain.
 
-ghost use Rattle.std.specs.Prelude.{◌≡◌, ◌≤◌, ◌+◌, ◌-◌, ◌^◌, [], false, true, IfOk, OnErr, length, min};
+ghost use Rattle.std.specs.Prelude.{◌≡◌, ◌≤◌, ◌+◌, ◌-◌, ◌^◌, [], false, true, IfOk, OnErr, length, min, ◌≢◌, ◌<◌, take};
 ghost use Rattle.std.specs.Io.{ReadsAtMost, WritesAtMost};
 ghost use Rattle.std.specs.Io.KnownBytes.{Keeps, ReadConsumes, WriteAppends};
 ghost use Rattle.clients.specs.declared.read_budget.TheConstants.{FRAMES, READS};
+ghost use Rattle.clients.specs.Supplies.{drained, is_dry, leaves_nothing, reported_after, reported_by, with_reported};
+ghost use Rattle.clients.specs.Frames.{Passes, behind_second, ended, is_front, passed, step};
 
-use crate::frames::{FrameProgress, front_of};
-use crate::supply::{Reported, Supply, is_dry, reported_after, supply_behind, supply_with};
+use mio::event::Event;
 use mio::net::TcpStream;
 use std::alloc::{AllocError, Global};
 use std::cell::Cell;
@@ -25,6 +26,9 @@ const FRAMES: u32 = 64;
 
 /// How many bytes are dropped at a time that come after a close.
 const DROPPED: usize = 16_384;
+
+/// How many bytes the mask of a client's frame has (RFC 6455, section 5.3).
+const MASK: u64 = 4;
 
 /// What the stream of a client reports after a turn.
 #[derive(Clone, Copy)]
@@ -86,7 +90,7 @@ pub struct ReadBudget<S> {
 }
 
 impl<S: Drop> ReadBudget<S> {
-    ghost use Rattle.clients.specs.declared.supply.Supply.{Supply};
+    ghost use Rattle.clients.specs.declared.read_budget.Supply.{Supply};
 
     /// A budget over that socket, of which nothing is known yet.
     pub fn new(alloc: Global, socket: S) -> ReadBudget<S>
@@ -302,7 +306,7 @@ impl<S> ReadBudget<S> {
 
 impl<S: Read> Read for ReadBudget<S> {
     ghost use Rattle.clients.specs.ReadBudget.{Reads, left_in};
-    ghost use Rattle.clients.specs.declared.supply.Reported.{Reported};
+    ghost use Rattle.clients.specs.declared.read_budget.Reported.{Reported};
 
     ghost remaining = { λ p. left_in S.remaining p };
 
@@ -360,4 +364,195 @@ impl Ending for ReadBudget<TcpStream> {
     fn given(&self) -> u64 {
         self.given
     }
+}
+
+/// What the poll has reported of a socket since it was read last.
+#[derive(Clone, Copy)]
+pub enum Reported {
+    /// Nothing that a read would find.
+    Nothing,
+    /// That there are bytes.
+    Bytes,
+    /// That its peer sends no more, or that it has failed. A read finds that after the bytes that came before.
+    End,
+}
+
+/// What there may be to read.
+#[derive(Clone, Copy)]
+pub enum Supply {
+    /// Perhaps bytes, which the poll need not report again.
+    Unknown,
+    /// Nothing, until the poll reports some.
+    Dry,
+    /// Bytes, and then the end. The poll reports neither again.
+    Ending,
+}
+
+/// What the poll reports of a socket that is to be read. Each flag that a read may answer to counts, whether or not it reports that there
+/// are bytes.
+pub fn reported_by(event: &Event) -> Reported
+    ensures { result ≡ reported_by event.now }
+{
+    if event.is_read_closed() || event.is_write_closed() || event.is_error() {
+        Reported::End
+    } else if event.is_readable() {
+        Reported::Bytes
+    } else {
+        Reported::Nothing
+    }
+}
+
+/// What the poll has reported since the last read, once it has reported this after that. An end that was reported stays.
+pub(crate) fn reported_after(before: Reported, reported: Reported) -> Reported
+    ensures { result ≡ reported_after before reported }
+{
+    match (before, reported) {
+        (Reported::End, _) | (_, Reported::Nothing) => before,
+        (_, reported) => reported,
+    }
+}
+
+/// What there may be to read once the poll has reported this.
+pub(crate) fn supply_with(supply: Supply, reported: Reported) -> Supply
+    ensures { result ≡ with_reported reported supply }
+{
+    match (supply, reported) {
+        (Supply::Ending, _) | (_, Reported::End) => Supply::Ending,
+        (_, Reported::Bytes) => Supply::Unknown,
+        (supply, Reported::Nothing) => supply,
+    }
+}
+
+/// Whether a read does not ask the socket.
+pub(crate) fn is_dry(supply: Supply) -> bool
+    ensures { result ≡ is_dry supply }
+{
+    matches!(supply, Supply::Dry)
+}
+
+/// What there may be to read after a read that asked for `asked` bytes and came to this.
+pub(crate) fn supply_behind(supply: Supply, asked: usize, outcome: &io::Result<usize>) -> Supply
+    ensures { result ≡ drained asked outcome.now supply }
+{
+    if matches!(supply, Supply::Unknown) && leaves_nothing(asked, outcome) {
+        Supply::Dry
+    } else {
+        supply
+    }
+}
+
+// Whether a read that asked for `asked` bytes has found that there are no more now. One that gave none has found the end.
+fn leaves_nothing(asked: usize, outcome: &io::Result<usize>) -> bool
+    ensures { result ≡ leaves_nothing asked outcome.now }
+{
+    match outcome {
+        Ok(count) => 0 < *count && *count < asked,
+        Err(error) => matches!(error.kind(), ErrorKind::WouldBlock),
+    }
+}
+
+/// How far a stream has come in a frame of a client (section 5.2).
+#[derive(Clone, Copy)]
+pub enum FrameProgress {
+    /// Before a frame.
+    Front,
+    /// Behind its first byte. The next one is the length of its payload, or of that length.
+    Second,
+    /// In its length: that many bytes of it are to come, and those before have this value.
+    Length(u32, u64),
+    /// Before that many bytes of its mask and its payload.
+    Payload(u64),
+}
+
+/// How many of these bytes come up to the end of the frame of number `most`: all, if fewer frames end there.
+pub(crate) fn front_of(place: &mut FrameProgress, most: u32, bytes: &[u8]) -> usize
+    ensures within { result ≤ length bytes.now }
+    ensures place { place.new ≡ passed place.old (take result bytes.now) }
+    ensures most { ended place.old (take result bytes.now) ≤ most }
+    ensures all { ended place.old (take result bytes.now) < most → result ≡ length bytes.now }
+{
+    let mut rest = bytes;
+    let mut left = most;
+    while !rest.is_empty() && left > 0 {
+        let count = pass(place, &mut left, rest);
+        rest = &rest[count..];
+    }
+    bytes.len() - rest.len()
+}
+
+// Passes what there is of a payload, or else a byte, and answers how many bytes these are.
+fn pass(place: &mut FrameProgress, left: &mut u32, bytes: &[u8]) -> usize
+    requires some { bytes.now ≢ [] }
+    requires left { 0 < left.old }
+    ensures some { 0 < result }
+    ensures passes { Passes place.old place.new left.old left.new bytes.now result }
+{
+    match *place {
+        FrameProgress::Payload(count) if count > 1 => pass_payload(place, count, left, bytes),
+        _ => {
+            *place = step(*place, bytes[0]);
+            if is_front(*place) {
+                *left -= 1;
+            }
+            1
+        }
+    }
+}
+
+// Passes what there is of `count` bytes.
+fn pass_payload(place: &mut FrameProgress, count: u64, left: &mut u32, bytes: &[u8]) -> usize
+    requires some { bytes.now ≢ [] }
+    requires left { 0 < left.old }
+    requires place { place.old ≡ FrameProgress.Payload count }
+    requires count { 1 < count }
+    ensures some { 0 < result }
+    ensures passes { Passes place.old place.new left.old left.new bytes.now result }
+{
+    let there = bytes.len() as u64;
+    if there < count {
+        *place = FrameProgress::Payload(count - there);
+        return bytes.len();
+    }
+    *place = FrameProgress::Front;
+    *left -= 1;
+    count as usize
+}
+
+// Behind one byte more.
+fn step(place: FrameProgress, byte: u8) -> FrameProgress
+    ensures { result ≡ step place byte }
+{
+    match place {
+        FrameProgress::Front => FrameProgress::Second,
+        FrameProgress::Second => behind_second(byte % 128),
+        FrameProgress::Length(count, before) => {
+            let length = before.saturating_mul(256).saturating_add(u64::from(byte));
+            if count > 1 {
+                FrameProgress::Length(count - 1, length)
+            } else {
+                FrameProgress::Payload(length.saturating_add(MASK))
+            }
+        }
+        FrameProgress::Payload(count) if count > 1 => FrameProgress::Payload(count - 1),
+        FrameProgress::Payload(_) => FrameProgress::Front,
+    }
+}
+
+// Behind the second byte, which has this for the length.
+fn behind_second(length: u8) -> FrameProgress
+    requires { length < 128 }
+    ensures { result ≡ behind_second length }
+{
+    match length {
+        126 => FrameProgress::Length(2, 0),
+        127 => FrameProgress::Length(8, 0),
+        length => FrameProgress::Payload(MASK + u64::from(length)),
+    }
+}
+
+// Whether a frame has just ended.
+fn is_front(place: FrameProgress) -> bool
+    ensures { result ≡ is_front place }
+{
+    matches!(place, FrameProgress::Front)
 }

@@ -1,6 +1,7 @@
 //! What a turn of a connection came to.
 
-use crate::ended::Ended;
+ghost use Rattle.claim_core.specs.Seats.{SessionSeatValue};
+ghost use Rattle.clients.specs.Answers.{Appended, Grows};
 
 /// What a turn of a connection came to, and what it waits for.
 #[derive(Clone, Copy)]
@@ -31,4 +32,42 @@ pub enum Next {
     Close,
     /// It has ended.
     Over(Ended),
+}
+
+/// Why a connection is over.
+#[derive(Clone, Copy, Debug, PartialEq, Eq)]
+pub enum Ended {
+    /// It was closed after the client's DISCONNECT.
+    Bye,
+    /// It is gone, or was given up.
+    Lost,
+    /// It was closed once an ERROR was sent.
+    Bad,
+    /// It was closed because the broker takes nothing more.
+    Stopped,
+}
+
+/// What an act came to, or another part of a turn.
+#[derive(Clone, Copy)]
+pub enum Outcome {
+    /// A command was appended, and more may be done at once.
+    Appended,
+    /// No command was appended, and more may be done at once.
+    Done,
+    /// The window is full at that mark; the entry waits for room.
+    Room(u64),
+    /// Memory was refused; the next turn tries again.
+    Memory,
+    /// Nothing is left to be done.
+    Rest,
+}
+
+// Whether a command was appended by that step, or before.
+pub(crate) fn also_appended(appended: bool, step: Outcome) -> bool
+    ensures { (s t u : SessionSeatValue) → Appended appended s t → Grows step t u → Appended result s u }
+{
+    match step {
+        Outcome::Appended => true,
+        _ => appended,
+    }
 }

@@ -9,6 +9,13 @@ use outbox_core::{Bell, Silent};
 use session_core::Notice;
 use std::alloc::AllocError;
 
+/// How many clients a worker has at a time at most, counting those that are only answered that the server is full. Each has a
+/// number at its worker, which is under this.
+pub const CLIENTS: usize = 512;
+
+/// For how many milliseconds clients to which memory was refused wait before they try again.
+pub(crate) const SHORTAGE: u64 = 20;
+
 /// Makes the bell that the outbox of a worker's session rings. It is for a worker that waits within its link's `receive`,
 /// and is to hear of outputs there.
 pub trait Wakers<B: Bell> {

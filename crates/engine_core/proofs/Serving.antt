@@ -5,11 +5,11 @@ use Rattle.claim_core.specs.Counts.{Pair}
 use Rattle.claim_core.specs.Seats.{SessionSeatValue}
 use Rattle.clients.specs.Connections.{ConnectionValue}
 use Rattle.clients.specs.Progress.{number_in}
-use Rattle.clients.specs.declared.ended.Ended as connections
-use Rattle.clients.specs.declared.ended.Ended.TheVariants as ends
+use Rattle.clients.specs.declared.turned.Ended as connections
+use Rattle.clients.specs.declared.turned.Ended.TheVariants as ends
 use Rattle.clients.specs.declared.progress.Progress.{Progress}
 use Rattle.clients.specs.declared.progress.Progress.TheVariants.{New}
-use Rattle.clients.specs.declared.stage.Stage.TheVariants.{Over}
+use Rattle.clients.specs.declared.progress.Stage.TheVariants.{Over}
 use Rattle.clients.specs.Answers.{Awaits, GoesOnYet}
 use Rattle.clients.specs.declared.turned.Next.{Next}
 use Rattle.clients.specs.declared.turned.Next.TheVariants as nexts

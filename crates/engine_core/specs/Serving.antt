@@ -2,9 +2,9 @@
 use Rattle.std.specs.Prelude.{◌≡◌, ◌++◌, ℕ, List, Option, Some, map, option_map}
 use Rattle.std.specs.List.{AllByRecursion}
 use Rattle.claim_core.specs.Seats.{SessionSeatValue}
-use Rattle.clients.specs.declared.ended.Ended as connections
-use Rattle.clients.specs.declared.ended.Ended.TheVariants as ends
-use Rattle.clients.specs.declared.stage.Stage.TheVariants.{Over}
+use Rattle.clients.specs.declared.turned.Ended as connections
+use Rattle.clients.specs.declared.turned.Ended.TheVariants as ends
+use Rattle.clients.specs.declared.progress.Stage.TheVariants.{Over}
 use Rattle.clients.specs.Answers.{GoesOnYet}
 use Rattle.clients.specs.Conversations.{IsConversation}
 use Rattle.clients.specs.Effects.{Effect, commands_of, told_of}

@@ -7,7 +7,7 @@ use Rattle.std.proofs.lemmas.List.{append-nil, get_or-set_other, get_or-set_same
 use Rattle.clients.specs.Lines.{joined, may_join, times}
 use Rattle.clients.specs.Turns.{woken}
 use Rattle.clients.specs.declared.lines.Lines.{Lines}
-use Rattle.clients.specs.declared.limits.TheConstants.{CLIENTS}
+use Rattle.clients.specs.declared.wakers.TheConstants.{CLIENTS}
 use Rattle.mio.specs.Event.{event_token}
 use Rattle.mio.specs.declared.event.event.Event.{Event}
 use Rattle.server_core.specs.Reporting.{IsReported, StandsInLine}

@@ -5,7 +5,7 @@ ghost use Rattle.clients.specs.Schedules.{client_at, is_greeted, is_seated, stat
 ghost use Rattle.clients.specs.Desks.{seated_at};
 ghost use Rattle.clients.specs.Holdings.{HeldAt};
 ghost use Rattle.wakeups.specs.Sums.{counted};
-ghost use Rattle.clients.specs.declared.limits.TheConstants.{CLIENTS};
+ghost use Rattle.clients.specs.declared.wakers.TheConstants.{CLIENTS};
 ghost use Rattle.server_core.specs.Keeping.{GivesUp, Keeps};
 ghost use Rattle.work_share.specs.Loads.{number_of};
 ghost use Rattle.ws_core.specs.Links.{IsCounted};

@@ -1,7 +1,7 @@
 //! The tokens by which a worker's poll reports its clients' sockets.
 
 ghost use Rattle.std.specs.Prelude.{◌≡◌, ◌<◌, ◌+◌, ◌*◌, ◌-◌, ◌^◌, min};
-ghost use Rattle.clients.specs.declared.limits.TheConstants.{CLIENTS};
+ghost use Rattle.clients.specs.declared.wakers.TheConstants.{CLIENTS};
 
 use clients::CLIENTS;
 use mio::Token;

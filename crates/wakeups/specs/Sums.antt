@@ -1,6 +1,6 @@
 -- The sum of what all clients hold.
 use Rattle.std.specs.Prelude.{ℕ, Bool, true, false, List, ◌+◌, ◌-◌, ◌≤◌, cond, nat_lt, slice_set}
-use Rattle.clients.specs.declared.limits.TheConstants.{CLIENTS}
+use Rattle.clients.specs.declared.wakers.TheConstants.{CLIENTS}
 use Rattle.wakeups.specs.declared.sum.Change.{Change}
 use Rattle.wakeups.specs.declared.sum.Change.TheVariants.{Same, More, Less}
 

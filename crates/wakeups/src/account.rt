@@ -19,7 +19,7 @@ pub struct Account {
 impl Model for Account {
     ghost use Rattle.std.specs.Prelude.{◌≡◌, ◌%◌, ◌^◌, List, ℕ, length, sum};
     ghost use Rattle.std.specs.List.{slice_index_or};
-    ghost use Rattle.clients.specs.declared.limits.TheConstants.{CLIENTS};
+    ghost use Rattle.clients.specs.declared.wakers.TheConstants.{CLIENTS};
 
     ghost Value = { List ℕ };
 

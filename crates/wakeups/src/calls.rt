@@ -1,7 +1,7 @@
 //! Which clients were called for.
 
 ghost use Rattle.std.specs.Prelude.{◌≡◌, ◌<◌, ◌*◌, ◌-◌, ◌^◌, IfSome, IsNone, min};
-ghost use Rattle.clients.specs.declared.limits.TheConstants.{CLIENTS};
+ghost use Rattle.clients.specs.declared.wakers.TheConstants.{CLIENTS};
 ghost use Rattle.wakeups.specs.Called.{IsBitOf, IsNextCall};
 
 use clients::CLIENTS;

@@ -28,7 +28,7 @@ impl ClientBytes {
     ghost use Rattle.std.specs.List.{All, slice_index_or};
     ghost use Rattle.wakeups.specs.Sums.{Applies, changed, is_more};
     ghost use Rattle.wakeups.specs.declared.sum.Change.TheVariants.{Same};
-    ghost use Rattle.clients.specs.declared.limits.TheConstants.{CLIENTS};
+    ghost use Rattle.clients.specs.declared.wakers.TheConstants.{CLIENTS};
 
     /// Nobody holds anything.
     pub fn new() -> ClientBytes

@@ -1,6 +1,6 @@
 use Rattle.std.proofs.Common.{◌≡◌, ◌∙◌, Some, None, inl, inr, ap, refl, sym, subst}
 use Rattle.clients.specs.Connections.{connection_of}
-use Rattle.clients.specs.declared.outcome.Outcome.TheVariants.{Rest}
+use Rattle.clients.specs.declared.turned.Outcome.TheVariants.{Rest}
 use Rattle.clients.specs.Halting.{IsFinal}
 use Rattle.clients.specs.Refusals.{WaitsIfFull}
 use Rattle.clients.proofs.Going.{stopped_so}

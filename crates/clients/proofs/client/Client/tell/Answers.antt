@@ -2,8 +2,8 @@ use Rattle.std.proofs.Common.{inr, refl, subst, ap}
 use Rattle.clients.specs.Connections.{connection_of}
 use Rattle.session_core.specs.declared.session.Act.TheVariants.{Direct}
 use Rattle.clients.specs.Histories.{HasTold, Taken}
-use Rattle.clients.specs.declared.ended.Ended.TheVariants.{Bad}
-use Rattle.clients.specs.declared.stage.Stage.TheVariants.{Closing}
+use Rattle.clients.specs.declared.turned.Ended.TheVariants.{Bad}
+use Rattle.clients.specs.declared.progress.Stage.TheVariants.{Closing}
 use Rattle.clients.proofs.Concluding.{concludes_by_error, concludes_quietly}
 use Rattle.clients.proofs.Going.{again_so, keeps_same, tells_later, tells_nobody, tells_told}
 use Rattle.clients.proofs.Living.{can_where, closes_over, loses, none_told_leaving, none_told_lost, same_stage, told_where}

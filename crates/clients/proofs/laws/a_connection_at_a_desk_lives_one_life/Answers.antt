@@ -1,5 +1,0 @@
-use Rattle.clients.proofs.Chaining.{lives}
-use Rattle.clients.proofs.laws.a_connection_at_a_desk_lives_one_life.Goals as goal
-
-pub returns : goal.returns
-returns g c = λ old first link place others chain admits taken is sits. lives g.L.Outgoing.sent g.L.Outgoing.received old first link place others chain admits taken is sits

@@ -1,5 +1,0 @@
-use Rattle.clients.proofs.Keeping.{first_is_client}
-use Rattle.clients.proofs.line.ClientLine.first.Goals as goal
-
-pub returns-clause-client : goal.returns-clause-client
-returns-clause-client c = first_is_client _ _ _ _ c.self.invariant c.front_of.ensures
