@@ -6,7 +6,7 @@ use Rattle.std.proofs.lemmas.List.{append_assoc}
 use Rattle.command_core.specs.Commands.{CommandValue}
 use Rattle.claim_core.specs.Seats.{FlushSeatValue, SessionSeatValue}
 use Rattle.engine_core.specs.Placed.{AgreeAll, ArePlaced, IsOwn, commands_of}
-use Rattle.engine_core.specs.declared.waiting.Waiting.{Waiting}
+use Rattle.engine_core.specs.declared.command_queue.Waiting.{Waiting}
 use Rattle.engine_core.proofs.Placing.{command_at}
 
 module _ {A : Type 0} where

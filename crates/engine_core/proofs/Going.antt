@@ -23,7 +23,7 @@ use Rattle.flush_core.proofs.Taken.{all_at}
 use Rattle.engine_core.specs.Going.{HasCome, HasFilled, HasGone, HasGoneFront, HasGoneSomeWay, IsIdle}
 use Rattle.engine_core.specs.Journals.{IsFull}
 use Rattle.engine_core.specs.Placed.{AgreeAll, ArePlaced, commands_of}
-use Rattle.engine_core.specs.declared.waiting.Waiting.{Waiting}
+use Rattle.engine_core.specs.declared.command_queue.Waiting.{Waiting}
 use Rattle.engine_core.proofs.Fronts.{took_front}
 
 outs_append : (xs : List CommandValue) (s : State) (ys : List CommandValue) → outs_of s (xs ++ ys) ≡ outs_of s xs ++ outs_of (state_after s xs) ys

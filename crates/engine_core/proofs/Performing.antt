@@ -12,7 +12,7 @@ use Rattle.recover_core.specs.Standing.{Stands}
 use Rattle.recover_core.proofs.Single.{stands_one}
 use Rattle.engine_core.specs.Journals.{IsFull, StandsAfterFront}
 use Rattle.engine_core.specs.Placed.{commands_of}
-use Rattle.engine_core.specs.declared.waiting.Waiting.{Waiting}
+use Rattle.engine_core.specs.declared.command_queue.Waiting.{Waiting}
 use Rattle.engine_core.specs.Queues.{LacksRoom, QueueValue}
 use Rattle.engine_core.specs.Running.{ScriptValue}
 use Rattle.engine_core.specs.Scripts.{Opens, Crashes, GoesBy, GoesOn, IsNotUnderstood, IsOpenedAs, IsStopped, OnRunning, Prints, Reopens, RunsOn, StandsAs, StandsWithin, disk_of}

@@ -8,7 +8,7 @@ use Rattle.atomic_table.proofs.Lists.{at_last, at_longer, at_set, set_else, set_
 use Rattle.command_core.specs.Commands.{CommandValue}
 use Rattle.claim_core.specs.Endings.{Agree}
 use Rattle.claim_core.specs.Seats.{FlushSeatValue, SessionSeatValue}
-use Rattle.engine_core.specs.declared.waiting.Waiting.{Waiting}
+use Rattle.engine_core.specs.declared.command_queue.Waiting.{Waiting}
 use Rattle.engine_core.specs.Placed.{AreOwn, ArePlaced, AreSeatsOf, IsOwn, commands_of}
 
 module _ {A : Type 0} where

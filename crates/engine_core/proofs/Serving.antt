@@ -23,8 +23,8 @@ use Rattle.clients.specs.declared.client.Client.{Client}
 use Rattle.clients.proofs.Lists.{all_weaker, cond_same}
 use Rattle.clients.proofs.Going.{lives_anew}
 use Rattle.engine_core.specs.Serving.{IsEndAt, Serves, end_of}
-use Rattle.engine_core.specs.declared.ended.Ended.{Ended}
-use Rattle.engine_core.specs.declared.ended.Ended.TheVariants.{Stopped}
+use Rattle.engine_core.specs.declared.working.Ended.{Ended}
+use Rattle.engine_core.specs.declared.working.Ended.TheVariants.{Stopped}
 
 -- ── how it ended ──
 

@@ -4,7 +4,7 @@ use Rattle.std.proofs.lemmas.Bool.{cases_lt}
 use Rattle.std.proofs.Math.Nat.{mul-div-le}
 use Rattle.clients.specs.declared.footprint.TheConstants.{SESSION_BYTES}
 use Rattle.engine_core.specs.Desks.{limit_of}
-use Rattle.engine_core.specs.declared.limit.TheConstants.{HELD_BYTES}
+use Rattle.engine_core.specs.declared.hub.TheConstants.{HELD_BYTES}
 
 shares_fit : (desks held least area shared : ℕ) → shared ≤ area - held → held + desks * least ≤ area → held + desks * max (shared / desks) least ≤ area
 shares_fit desks held least area shared few large = elim (cases_lt (shared / desks) least) [

@@ -13,7 +13,7 @@ use Rattle.world_core.specs.declared.seat.Seat.{Seat}
 use Rattle.world_core.specs.Promises.{HoldsOn, numbers}
 use Rattle.world_core.specs.Schedules.{life_of}
 use Rattle.world_core.specs.Worlds.{DiskValue, WorldValue, claimed}
-use Rattle.engine_core.specs.declared.closed.Closed.{Closed}
+use Rattle.engine_core.specs.declared.hub.Closed.{Closed}
 
 -- a session's seat: its own numbers, and the mark that it read last
 abbrev pub seat_shown : SessionSeatValue → Seat

@@ -7,7 +7,7 @@ use Rattle.clients.specs.declared.footprint.TheConstants.{SESSION_BYTES}
 use Rattle.clients.specs.Footprints.{footprint}
 use Rattle.broker_state.specs.Steps.{is_opening}
 use Rattle.broker_state.specs.States.{State}
-use Rattle.engine_core.specs.declared.limit.TheConstants.{HELD_BYTES}
+use Rattle.engine_core.specs.declared.hub.TheConstants.{HELD_BYTES}
 
 -- the session of the command with this number: an Open's session has the number of the command
 abbrev pub session_of : ℕ → CommandValue → ℕ

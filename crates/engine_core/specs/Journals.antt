@@ -13,7 +13,7 @@ use Rattle.flush_core.specs.declared.faults.FlushFault.TheVariants.{Full}
 use Rattle.flush_core.specs.Flushed.{Flushed}
 use Rattle.flush_core.specs.Room.{HasNoRoomLeft}
 use Rattle.recover_core.specs.Standing.{Stands}
-use Rattle.engine_core.specs.declared.waiting.Waiting.{Waiting}
+use Rattle.engine_core.specs.declared.command_queue.Waiting.{Waiting}
 use Rattle.engine_core.specs.Faults.{IsCausedBy}
 use Rattle.engine_core.specs.Going.{HasGone, HasGoneFront, IsIdle}
 use Rattle.engine_core.specs.Placed.{AreOwn, AreSeatsOf, commands_of}

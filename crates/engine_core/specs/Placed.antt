@@ -6,7 +6,7 @@ use Rattle.atomic_table.specs.Seated.{TableId}
 use Rattle.command_core.specs.Commands.{CommandValue}
 use Rattle.claim_core.specs.Seats.{FlushSeatValue, SessionSeatValue, with_seen}
 use Rattle.claim_core.specs.Endings.{Agree}
-use Rattle.engine_core.specs.declared.waiting.Waiting.{Waiting}
+use Rattle.engine_core.specs.declared.command_queue.Waiting.{Waiting}
 
 -- the waiting commands
 abbrev pub commands_of : List Waiting → List CommandValue

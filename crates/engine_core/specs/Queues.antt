@@ -15,7 +15,7 @@ use Rattle.command_core.specs.Outs.{OutValue}
 use Rattle.broker_core.specs.States.{State}
 use Rattle.broker_core.specs.Steps.{state_after, outs_of}
 use Rattle.script_text.specs.PercentTexts.{encoded}
-use Rattle.engine_core.specs.declared.waiting.Waiting.{Waiting}
+use Rattle.engine_core.specs.declared.command_queue.Waiting.{Waiting}
 use Rattle.engine_core.specs.Journals.{IsFull}
 use Rattle.engine_core.specs.Placed.{commands_of}
 use Rattle.session_core.specs.declared.session.Act.{Act}

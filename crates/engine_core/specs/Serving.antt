@@ -12,8 +12,8 @@ use Rattle.clients.specs.Halting.{FindsEnd}
 use Rattle.clients.specs.Histories.{LivesAt}
 use Rattle.clients.specs.Clients.{IsOwn, Message, bytes_of, frames_of}
 use Rattle.clients.specs.declared.client.Client.{Client}
-use Rattle.engine_core.specs.declared.ended.Ended.{Ended}
-use Rattle.engine_core.specs.declared.ended.Ended.TheVariants.{Bye, Lost, Bad, Stopped, Turns}
+use Rattle.engine_core.specs.declared.working.Ended.{Ended}
+use Rattle.engine_core.specs.declared.working.Ended.TheVariants.{Bye, Lost, Bad, Stopped, Turns}
 
 -- a worker ends as its connection has
 abbrev pub end_of : connections.Ended → Ended

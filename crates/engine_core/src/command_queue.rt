@@ -1,23 +1,37 @@
 //! The queue between the connections and the broker: what waits for the next flush, and what a flush prints.
 
-ghost use Rattle.std.specs.Prelude.{◌≡◌, ◌≢◌, ◌++◌, ◌<◌, ◌≤◌, ◌^◌, OnOk, IfOk, IfErr, string_bytes, nat_eq, count_by, ◌+◌, length, false, true};
+ghost use Rattle.std.specs.Prelude.{◌≡◌, ◌≢◌, ◌++◌, ◌<◌, ◌≤◌, ◌^◌, OnOk, IfOk, IfErr, string_bytes, nat_eq, count_by, ◌+◌, length, false, true, ℕ, IsErrOf};
 ghost use Rattle.frame_core.specs.Writable.{Writable};
 ghost use Rattle.command_core.specs.Commands.{Fits};
 ghost use Rattle.command_core.specs.Operations.{IsOp};
 ghost use Rattle.recover_core.specs.Standing.{Stands};
+ghost use Rattle.flush_core.specs.declared.faults.FlushFault.TheVariants.{Full};
+ghost use Rattle.engine_core.specs.Faults.{IsCausedBy, IsOutOfStep, IsStopCaused};
+ghost use Rattle.engine_core.specs.Going.{HasFilled, HasGoneOn, HasGoneSomeWay, IsIdle};
+ghost use Rattle.engine_core.specs.Journals.{GoesThrough, IsFull};
+ghost use Rattle.engine_core.specs.Placed.{AgreeAll, AreSeatsOf, commands_of};
 
 use crate::fault::QueueFault;
-use crate::journal::Journal;
+use crate::journal::{Journal, append_all};
 use crate::printing::print_outs;
-use crate::waiting::Waiting;
-use claim_core::WINDOW;
+use claim_core::{BrokerRing, BrokerSeat, WINDOW};
 use command_core::{Command, HeaderText, Op};
-use disk_core::MemDisk;
-use flush_core::FlushFault;
+use disk_core::{Disk, MemDisk};
+use flush_core::{FlushFault, Flusher, Width};
+use outbox_core::{OutSender, Silent};
 use std::alloc::Global;
 use std::collections::BTreeMap;
 use std::marker::Model;
 use std::mem;
+
+/// From this count on no command is taken.
+const LAST_COUNT: u64 = 1 << 60;
+
+/// How many commands a block of a script's journal has at most.
+pub const BATCH: usize = 32;
+
+/// A block of a script's journal whose records have as many bytes takes no further command.
+pub const BATCH_BYTES: u64 = 262_144;
 
 /// The queue. Contracts see the commands that wait, which connection opened which session, the broker's state as it was last
 /// flushed, and the journal's disk.
@@ -38,9 +52,6 @@ impl Model for CommandQueue {
 
     ghost invariant = { λ a. a.journal.durable ≡ true → a.journal.state.count + length a.waiting.items ≤ 2 ^ 62 };
 }
-
-/// From this count on no command is taken.
-const LAST_COUNT: u64 = 1 << 60;
 
 impl CommandQueue {
     ghost use Rattle.engine_core.specs.OfQueue.{IsMemory};
@@ -252,4 +263,153 @@ fn count_of(waiting: &[Waiting], connection: u8) -> usize
         .iter()
         .filter(|w| w.connection == connection)
         .count()
+}
+
+/// A command that waits for the next flush, and the connection that it came from.
+#[derive(Drop)]
+pub struct Waiting {
+    /// The connection's number, which is the place of its seat.
+    pub connection: u8,
+    /// What it asks for.
+    pub command: Command,
+}
+
+// A script has no outboxes: what goes to its connections stays with the flusher until it is taken.
+pub(crate) type ScriptBox = OutSender<Silent>;
+
+pub(crate) type ScriptRing = BrokerRing<ScriptBox>;
+
+pub(crate) type ScriptSeat = BrokerSeat<ScriptBox>;
+
+/// How wide the blocks of a script's journal are.
+pub struct ScriptWidth;
+
+impl Width for ScriptWidth {
+    const COMMANDS: usize = BATCH;
+
+    const BYTES: u64 = BATCH_BYTES;
+
+    ghost COMMANDS = { 32 };
+
+    ghost BYTES = { 262144 };
+}
+
+/// The flusher of a script.
+pub type ScriptFlusher<D> = Flusher<D, Silent, ScriptWidth>;
+
+// Turns until `count` commands are taken, stored, carried out and published.
+//
+// `Full` if the next command's block doesn't fit after a fresh snapshot, or no such snapshot fits. `Broken` if `count` turns take
+// others than these, or if a session has a box. No session has one if its commands are all in the ring, without boxes.
+fn take_all<D: Disk>(
+    alloc: Global,
+    ring: &ScriptRing,
+    flusher: &mut ScriptFlusher<D>,
+    count: u64,
+) -> Result<(), FlushFault>
+    requires ring { flusher.old.seat.ring ≡ ring.now }
+    requires idle { IsIdle flusher.old }
+    ensures taken { OnOk result (HasGoneOn flusher.old flusher.new count) }
+    ensures fallen { IfErr result (λ fault. HasGoneSomeWay flusher.old flusher.new) }
+    ensures full { D.honest flusher.old.disk → IsErrOf result Full → HasFilled flusher.old flusher.new (D.content flusher.new.disk) }
+    ensures calm { OnOk result (D.failures flusher.new.disk ≡ D.failures flusher.old.disk) }
+    ensures cause { IfErr result (IsCausedBy (D.failures flusher.old.disk) (D.failures flusher.new.disk)) }
+{
+    let end = flusher.mark().saturating_add(count);
+    for _turn in 0..count {
+        if flusher.mark() >= end {
+            break;
+        }
+        flusher.turn(alloc, ring)?;
+        if !flusher.has_no_box() {
+            return Err(FlushFault::Broken);
+        }
+    }
+    if flusher.mark() != end || flusher.next() != end {
+        return Err(FlushFault::Broken);
+    }
+    Ok(())
+}
+
+// Turns until `count` commands are taken, and answers whether they are; they are not if the disk fails.
+fn take_until_stop<D: Disk>(
+    alloc: Global,
+    ring: &ScriptRing,
+    flusher: &mut ScriptFlusher<D>,
+    count: u64,
+) -> Result<bool, FlushFault>
+    requires ring { flusher.old.seat.ring ≡ ring.now }
+    requires idle { IsIdle flusher.old }
+    ensures all { IfOk result (λ all. all ≡ true → HasGoneOn flusher.old flusher.new count) }
+    ensures way { HasGoneSomeWay flusher.old flusher.new }
+    ensures full { D.honest flusher.old.disk → IsErrOf result Full → HasFilled flusher.old flusher.new (D.content flusher.new.disk) }
+    ensures cause { IsStopCaused (D.failures flusher.old.disk) (D.failures flusher.new.disk) result }
+{
+    match take_all(alloc, ring, flusher, count) {
+        Ok(()) => Ok(true),
+        Err(FlushFault::Device) => Ok(false),
+        Err(FlushFault::Full) => Err(FlushFault::Full),
+        Err(FlushFault::Broken) => Err(FlushFault::Broken),
+        Err(FlushFault::Memory(refused)) => Err(FlushFault::Memory(refused)),
+    }
+}
+
+// The fault if more was taken than waited: that the disk failed, or one that is not the disk's.
+fn out_of_step(went: Result<bool, FlushFault>) -> FlushFault
+    ensures kind { IsOutOfStep result }
+    ensures cause { (before now : ℕ) → IsStopCaused before now went → IsCausedBy before now result }
+{
+    match went {
+        Ok(false) | Err(FlushFault::Device) => FlushFault::Device,
+        Ok(true) => FlushFault::Broken,
+        Err(FlushFault::Full | FlushFault::Broken | FlushFault::Memory(_)) => FlushFault::Broken,
+    }
+}
+
+/// Has waiting commands go into the ring and through the flusher, and answers whether all did. If the disk fails, only the first so
+/// many of them did. If a block has no room, the journal is compacted. `Full` comes if the next command's block still has none then.
+///
+/// No more is taken than waited if all seats of the ring are here. Else the fault is `Device` if the disk failed, and `Broken` if not.
+pub fn go<D: Disk>(
+    alloc: Global,
+    ring: &ScriptRing,
+    seats: &mut Vec<ScriptSeat>,
+    flusher: &mut ScriptFlusher<D>,
+    waiting: Vec<Waiting>,
+) -> Result<bool, FlushFault>
+    requires ring { flusher.old.seat.ring ≡ ring.now }
+    requires seats { AreSeatsOf ring.now seats.old.items }
+    requires idle { IsIdle flusher.old }
+    ensures seats { AreSeatsOf ring.now seats.new.items }
+    ensures goes { IfOk result (GoesThrough D.Disk flusher.old flusher.new seats.new.items waiting.items) }
+    ensures full { D.honest flusher.old.disk → IsErrOf result Full →
+        IsFull flusher.old.broker.state (commands_of waiting.items) (D.content flusher.new.disk) }
+    ensures cause { IsStopCaused (D.failures flusher.old.disk) (D.failures flusher.new.disk) result }
+{
+    let first = flusher.next();
+    let count = waiting.len() as u64;
+    append_all(alloc, ring, seats, first, waiting)?;
+    let went = take_until_stop(alloc, ring, flusher, count);
+    if flusher.next().saturating_sub(first) > count {
+        return Err(out_of_step(went));
+    }
+    compare_all(ring, seats, flusher);
+    went
+}
+
+/// Brings each seat beside the flusher's. Nothing changes.
+pub fn compare_all<D: Disk>(
+    ring: &ScriptRing,
+    seats: &mut Vec<ScriptSeat>,
+    flusher: &mut ScriptFlusher<D>,
+)
+    requires ring { flusher.old.seat.ring ≡ ring.now }
+    requires seats { AreSeatsOf ring.now seats.old.items }
+    ensures flusher { flusher.new ≡ flusher.old }
+    ensures seats { seats.new.items ≡ seats.old.items }
+    ensures agree { AgreeAll flusher.old.seat seats.old.items }
+{
+    for place in 0..seats.len() {
+        flusher.beside(ring, &mut seats[place]);
+    }
 }

@@ -7,10 +7,10 @@ ghost use Rattle.engine_core.specs.OfQueue.{IsMemory};
 ghost use Rattle.engine_core.specs.Scripts.{HasFailed, IsOpenedAs, StandsAs, disk_of, is_there, open_text};
 ghost use Rattle.engine_core.specs.StepFaults.{IsCrashTold, IsOpeningTold};
 
+use crate::command_queue::Waiting;
 use crate::fault::QueueFault;
 use crate::journal::Journal;
 use crate::running_script::RunningScript;
-use crate::waiting::Waiting;
 use disk_core::MemDisk;
 use flush_core::FlushFault;
 use script_text::{ScriptLine, decode_text, read_line};

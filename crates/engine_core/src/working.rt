@@ -3,10 +3,9 @@
 ghost use Rattle.std.specs.Prelude.{◌≡◌};
 ghost use Rattle.clients.specs.Answers.{GoesOnYet};
 ghost use Rattle.clients.specs.Steps.{GoesOn};
-ghost use Rattle.engine_core.specs.Serving.{IsEndAt, Serves};
+ghost use Rattle.engine_core.specs.Serving.{IsEndAt, Serves, end_of};
 
-use crate::ended::Ended;
-use crate::gate::Gate;
+use crate::flushing::Gate;
 use claim_core::{BrokerRing, BrokerSeat};
 use clients::{Client, Next, SESSION_BYTES, Turned, Wakers};
 use outbox_core::{Bell, OutSender};
@@ -90,5 +89,34 @@ fn wait<G: Gate>(gate: &G, worker: u32, turned: Turned) {
         Next::Room(mark) | Next::Mark(mark) => gate.wait_for_mark(worker, mark),
         Next::Memory => gate.wait_for_memory(worker),
         _ => {}
+    }
+}
+
+/// How a worker ended.
+#[derive(Clone, Copy, PartialEq, Eq, Debug)]
+pub enum Ended {
+    /// Its connection was closed after the client's DISCONNECT, with 1000.
+    Bye,
+    /// Its connection is gone, or was given up.
+    Lost,
+    /// Its connection was closed once an ERROR was sent, with 1002.
+    Bad,
+    /// Its connection was closed because the broker takes nothing more.
+    Stopped,
+    /// Its turns have run out.
+    Turns,
+}
+
+impl Ended {
+    // That of a worker whose connection has ended so.
+    pub(crate) fn of(ended: clients::Ended) -> Ended
+        ensures { result ≡ end_of ended }
+    {
+        match ended {
+            clients::Ended::Bye => Ended::Bye,
+            clients::Ended::Lost => Ended::Lost,
+            clients::Ended::Bad => Ended::Bad,
+            clients::Ended::Stopped => Ended::Stopped,
+        }
     }
 }

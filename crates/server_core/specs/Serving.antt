@@ -13,7 +13,7 @@ use Rattle.flush_core.specs.Flushed.{Flushed}
 use Rattle.engine_core.specs.Hubs.{HubValue, IsWhole}
 use Rattle.command_core.specs.Commands.{CommandValue}
 use Rattle.engine_core.specs.Closings.{Closes}
-use Rattle.engine_core.specs.declared.closed.Closed.{Closed}
+use Rattle.engine_core.specs.declared.hub.Closed.{Closed}
 use Rattle.engine_core.specs.declared.hub.SeatRoom.{SeatRoom}
 use Rattle.recover_core.specs.declared.faults.OpenFault.{OpenFault}
 use Rattle.event_log.specs.declared.fault.ServeFault.{ServeFault}

@@ -1,6 +1,6 @@
 use Rattle.std.proofs.Common.{◌≡◌, ◌∙◌, ap, subst, count_by, nat_eq, nat_le}
 use Rattle.claim_core.specs.declared.limits.TheConstants.{WINDOW}
-use Rattle.engine_core.specs.declared.waiting.Waiting.{Waiting}
+use Rattle.engine_core.specs.declared.command_queue.Waiting.{Waiting}
 use Rattle.engine_core.specs.Queues.{QueueOnDisk, is_full}
 use Rattle.engine_core.proofs.command_queue.CommandQueue.is_full.Goals as goal
 

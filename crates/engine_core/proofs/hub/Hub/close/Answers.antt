@@ -1,7 +1,7 @@
 use Rattle.std.proofs.Common.{◌≡◌, ◌++◌, List, length, All, IsOk, Result, arith, ap, sym, ◌∙◌, subst}
 use Rattle.atomic_table.specs.Seated.{TableId}
 use Rattle.claim_core.specs.Seats.{SessionSeatValue, FlushSeatValue}
-use Rattle.engine_core.specs.declared.closed.Closed.{Closed}
+use Rattle.engine_core.specs.declared.hub.Closed.{Closed}
 use Rattle.engine_core.specs.Closings.{Closes, closed}
 use Rattle.engine_core.proofs.Shown.{closes}
 use Rattle.engine_core.proofs.hub.Hub.close.Goals as goal
