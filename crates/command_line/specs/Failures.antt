@@ -7,8 +7,8 @@ use Rattle.engine_core.specs.Scripts.{IsScript}
 use Rattle.area_core.specs.declared.faults.FormatFault.TheVariants as formats
 use Rattle.area_core.specs.Texts.{format_text}
 use Rattle.event_log.specs.Unopened.{reason_text, unopened}
-use Rattle.event_log.specs.declared.unopened.Unopened.{Unopened}
-use Rattle.event_log.specs.declared.unopened.Unopened.TheVariants.{Missing}
+use Rattle.event_log.specs.declared.fault.Unopened.{Unopened}
+use Rattle.event_log.specs.declared.fault.Unopened.TheVariants.{Missing}
 use Rattle.event_log.specs.declared.fault.ServeFault.{ServeFault}
 use Rattle.event_log.specs.declared.fault.ServeFault.TheVariants as serves
 use Rattle.std.specs.Fmt.{decimal}

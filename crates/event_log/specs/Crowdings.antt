@@ -1,7 +1,7 @@
 -- When it is reported that nearly all is held that may be. Moments are in milliseconds.
 use Rattle.std.specs.Prelude.{ℕ, Bool, false, true, ◌+◌, ◌-◌, ◌^◌, ◌&&◌, cond, min, nat_le, nat_lt, not}
-use Rattle.event_log.specs.declared.crowding.Crowding.{Crowding}
-use Rattle.event_log.specs.declared.crowding.TheConstants.{CROWD, FEW, MANY}
+use Rattle.event_log.specs.declared.rhythm.Crowding.{Crowding}
+use Rattle.event_log.specs.declared.rhythm.TheConstants.{CROWD, FEW, MANY}
 
 -- nothing was reported until now
 abbrev pub roomy : ℕ → Crowding

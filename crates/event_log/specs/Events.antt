@@ -6,8 +6,8 @@ use Rattle.event_log.specs.declared.event.Event.{Event}
 use Rattle.event_log.specs.declared.event.Event.TheVariants as events
 use Rattle.event_log.specs.declared.event.Figures.{Figures}
 use Rattle.event_log.specs.declared.event.Start.{Start}
-use Rattle.event_log.specs.declared.kind.Kind.{Kind}
-use Rattle.event_log.specs.declared.kind.Kind.TheVariants.{Malformed, OtherProtocol, Foreign, Method, NoUpgrade, Version, TooLarge, Full, Silent, TakesNothing, Unopened, TookMost, LongNames, FullOutbox, NotAccepted, LeftOut}
+use Rattle.event_log.specs.declared.event.Kind.{Kind}
+use Rattle.event_log.specs.declared.event.Kind.TheVariants.{Malformed, OtherProtocol, Foreign, Method, NoUpgrade, Version, TooLarge, Full, Silent, TakesNothing, Unopened, TookMost, LongNames, FullOutbox, NotAccepted, LeftOut}
 
 -- the place of a kind among all
 abbrev pub place_of : Kind → ℕ

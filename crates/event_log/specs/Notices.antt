@@ -4,8 +4,8 @@ use Rattle.std.specs.Fmt.{decimal}
 use Rattle.json.specs.Token.{Token}
 use Rattle.json_line.specs.Objects.{line_of as line_of_object, number_member, object_of, text_member}
 use Rattle.event_log.specs.Objects.{head_members}
-use Rattle.event_log.specs.declared.line.Form.{Form}
-use Rattle.event_log.specs.declared.line.Form.TheVariants.{Text, Object}
+use Rattle.event_log.specs.declared.object.Form.{Form}
+use Rattle.event_log.specs.declared.object.Form.TheVariants.{Text, Object}
 use Rattle.event_log.specs.declared.notice.Notice.{Notice}
 use Rattle.event_log.specs.declared.notice.Notice.TheVariants.{Opening, Made, Reopening, TooFull, Fault}
 

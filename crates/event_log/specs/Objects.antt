@@ -8,10 +8,10 @@ use Rattle.event_log.specs.declared.event.Event.{Event}
 use Rattle.event_log.specs.declared.event.Event.TheVariants as events
 use Rattle.event_log.specs.declared.event.Figures.{Figures}
 use Rattle.event_log.specs.declared.event.Start.{Start}
-use Rattle.event_log.specs.declared.kind.Kind.{Kind}
-use Rattle.event_log.specs.declared.kind.Kind.TheVariants.{Malformed, OtherProtocol, Foreign, Method, NoUpgrade, Version, TooLarge, Full, Silent, TakesNothing, Unopened, TookMost, LongNames, FullOutbox, NotAccepted, LeftOut}
-use Rattle.event_log.specs.declared.line.Form.{Form}
-use Rattle.event_log.specs.declared.line.Form.TheVariants.{Text, Object}
+use Rattle.event_log.specs.declared.event.Kind.{Kind}
+use Rattle.event_log.specs.declared.event.Kind.TheVariants.{Malformed, OtherProtocol, Foreign, Method, NoUpgrade, Version, TooLarge, Full, Silent, TakesNothing, Unopened, TookMost, LongNames, FullOutbox, NotAccepted, LeftOut}
+use Rattle.event_log.specs.declared.object.Form.{Form}
+use Rattle.event_log.specs.declared.object.Form.TheVariants.{Text, Object}
 
 -- what was done so often
 abbrev pub deed_of : Kind → List ℕ

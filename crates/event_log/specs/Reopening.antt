@@ -5,8 +5,8 @@ use Rattle.flush_core.specs.declared.faults.FlushFault.TheVariants.{Full}
 use Rattle.recover_core.specs.declared.faults.OpenFault.TheVariants.{Area}
 use Rattle.event_log.specs.declared.fault.ServeFault.{ServeFault}
 use Rattle.event_log.specs.declared.fault.ServeFault.TheVariants.{Flushing, Opening}
-use Rattle.event_log.specs.declared.reopening.Reopening.{Reopening}
-use Rattle.event_log.specs.declared.reopening.TheConstants.{LONGEST, SHORTEST}
+use Rattle.event_log.specs.declared.fault.Reopening.{Reopening}
+use Rattle.event_log.specs.declared.fault.TheConstants.{LONGEST, SHORTEST}
 
 -- the journal of a running server is full
 abbrev pub IsFull : ServeFault → Type 0

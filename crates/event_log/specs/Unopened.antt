@@ -5,8 +5,8 @@ use Rattle.std.specs.declared.io.ErrorKind.{ErrorKind}
 use Rattle.std.specs.declared.io.ErrorKind.TheVariants as kinds
 use Rattle.disk_core.specs.declared.file.OpenError.{OpenError}
 use Rattle.disk_core.specs.declared.file.OpenError.TheVariants as errors
-use Rattle.event_log.specs.declared.unopened.Unopened.{Unopened}
-use Rattle.event_log.specs.declared.unopened.Unopened.TheVariants.{Exists, Missing, Locked, Denied, Directory, NotAFile, TooLarge, InUse, Refused}
+use Rattle.event_log.specs.declared.fault.Unopened.{Unopened}
+use Rattle.event_log.specs.declared.fault.Unopened.TheVariants.{Exists, Missing, Locked, Denied, Directory, NotAFile, TooLarge, InUse, Refused}
 
 -- why the system did not open it
 abbrev pub unopened_by : ErrorKind → Unopened

@@ -2,25 +2,14 @@
 
 #![tactic(auto)]
 
-mod crowding;
-mod device;
 mod event;
 mod fault;
-mod kind;
-mod line;
 mod notice;
-mod notice_object;
 mod object;
-mod reopening;
 mod rhythm;
-mod unopened;
 
-pub use crowding::{Crowding, tenths_of};
-pub use event::{Crowd, Event, Figures, Start};
-pub use fault::ServeFault;
-pub use kind::{KINDS, Kind};
-pub use line::{Form, write_line};
+pub use event::{Crowd, Event, Figures, KINDS, Kind, Start};
+pub use fault::{Reopening, ServeFault, Unopened, is_too_full};
 pub use notice::{Notice, write_notice};
-pub use reopening::{Reopening, is_too_full};
-pub use rhythm::Rhythm;
-pub use unopened::Unopened;
+pub use object::{Form, write_line};
+pub use rhythm::{Crowding, Rhythm, tenths_of};

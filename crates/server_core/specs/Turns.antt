@@ -5,8 +5,8 @@ use Rattle.clients.specs.declared.turned.Next.{Next}
 use Rattle.clients.specs.declared.turned.Next.TheVariants.{Go, Read, Write, Room, Mark, Memory, Close, Over}
 use Rattle.clients.specs.declared.deadlines.Opening.{Opening}
 use Rattle.clients.specs.declared.deadlines.Opening.TheVariants.{Greeting, Unopened, Open}
-use Rattle.event_log.specs.declared.kind.Kind.{Kind}
-use Rattle.event_log.specs.declared.kind.Kind.TheVariants as kinds
+use Rattle.event_log.specs.declared.event.Kind.{Kind}
+use Rattle.event_log.specs.declared.event.Kind.TheVariants as kinds
 
 -- a client has nothing more to do at once, and waits for its peer, its neighbours, the disk or memory
 abbrev pub waits : Next → Bool
