@@ -2,7 +2,7 @@
 use Rattle.std.specs.Prelude.{◌≡◌, ℕ, List, Option, Some, None}
 use Rattle.wakeups.specs.Budgets.{IsGivenUp}
 use Rattle.wakeups.specs.Sums.{counted}
-use Rattle.wakeups.specs.declared.choice.Holdings.{Holdings}
+use Rattle.wakeups.specs.declared.memory.Holdings.{Holdings}
 
 -- By what is known of all clients, that one of the desk is given up, and counts for nothing from then on; or none of them is to be, and nobody's
 -- bytes are counted otherwise.

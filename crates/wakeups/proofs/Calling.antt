@@ -4,7 +4,7 @@ use Rattle.std.specs.Int.{bit_at, trailing_zeros, w64}
 use Rattle.std.proofs.lemmas.Nat.{one_shl}
 use Rattle.std.proofs.lemmas.Nat.Bits.{bit_at-trailing_zeros, bit_at_above}
 use Rattle.wakeups.specs.Called.{IsNextCall}
-use Rattle.wakeups.specs.declared.calls.Called.{Called}
+use Rattle.wakeups.specs.declared.mailbox.Called.{Called}
 
 -- a number with that bit is no less than the bit alone
 reaches : (n k : ℕ) → bit_at n k ≡ 1 → 2 ^ k ≤ n

@@ -1,9 +1,9 @@
 -- What each step keeps.
 use Rattle.std.proofs.Common.{◌≡◌, ◌+◌, ◌<◌, ◌⊎◌, ℕ, Bool, true, false, List, [], ◌∷◌, inl, inr, refl, sym, ap, subst, ◌∙◌, arith}
-use Rattle.wakeups.specs.declared.bell_step.BellStep.{BellStep}
-use Rattle.wakeups.specs.declared.bell_step.BellStep.TheVariants.{Note, Ring, RingForOthers, Look, Wake, SetAsleep, Check, Return, SetAwake, TakeRing, TakeCalls}
-use Rattle.wakeups.specs.declared.bell_step.Sleeper.{Sleeper}
-use Rattle.wakeups.specs.declared.bell_step.Sleeper.TheVariants.{Serves, FallsAsleep, Waits, Hurries, Returned, Awake, TakesCalls}
+use Rattle.wakeups.specs.declared.doorbell.BellStep.{BellStep}
+use Rattle.wakeups.specs.declared.doorbell.BellStep.TheVariants.{Note, Ring, RingForOthers, Look, Wake, SetAsleep, Check, Return, SetAwake, TakeRing, TakeCalls}
+use Rattle.wakeups.specs.declared.doorbell.Sleeper.{Sleeper}
+use Rattle.wakeups.specs.declared.doorbell.Sleeper.TheVariants.{Serves, FallsAsleep, Waits, Hurries, Returned, Awake, TakesCalls}
 use Rattle.wakeups.specs.Machines.{Machine, May, Polls, Runs, after, begin, checked, looked, took_ring, with_waking}
 use Rattle.wakeups.specs.Promises.{IsNoticed}
 

@@ -1,9 +1,9 @@
 -- What each step of a worker that waits for the mark keeps.
 use Rattle.std.proofs.Common.{◌≡◌, ◌<◌, ◌⊎◌, Bool, true, false, List, [], ◌∷◌, inl, inr, refl, sym, subst, arith, if◌then◌else◌}
-use Rattle.wakeups.specs.declared.mark_step.MarkStep.{MarkStep}
-use Rattle.wakeups.specs.declared.mark_step.MarkStep.TheVariants.{Raise, LookWhoWaits, SetWaiting, ReadMark, LetIn}
-use Rattle.wakeups.specs.declared.mark_step.Waiter.{Waiter}
-use Rattle.wakeups.specs.declared.mark_step.Waiter.TheVariants.{Serves, HasSet, Waits, Hurries}
+use Rattle.wakeups.specs.declared.wakeups.MarkStep.{MarkStep}
+use Rattle.wakeups.specs.declared.wakeups.MarkStep.TheVariants.{Raise, LookWhoWaits, SetWaiting, ReadMark, LetIn}
+use Rattle.wakeups.specs.declared.wakeups.Waiter.{Waiter}
+use Rattle.wakeups.specs.declared.wakeups.Waiter.TheVariants.{Serves, HasSet, Waits, Hurries}
 use Rattle.wakeups.specs.MarkMachines.{IsLeft, MarkMachine, MayMark, RunsMarked, after_mark, begin_marked}
 
 -- it has set that it waits, and has not taken that back

@@ -1,8 +1,8 @@
 -- Who is given up if all clients together hold more memory than they may.
 use Rattle.std.specs.Prelude.{◌≡◌, ◌<◌, ◌≤◌, ◌+◌, ◌-◌, ◌*◌, ◌^◌, ◌⊎◌, ℕ, List, cond, eqb, length, min, nat_lt}
 use Rattle.std.specs.List.{All, slice_index_or, sum_by}
-use Rattle.wakeups.specs.declared.choice.DeskHolds.{DeskHolds}
-use Rattle.wakeups.specs.declared.choice.Holdings.{Holdings}
+use Rattle.wakeups.specs.declared.memory.DeskHolds.{DeskHolds}
+use Rattle.wakeups.specs.declared.memory.Holdings.{Holdings}
 
 -- nobody here holds more than the one at that place
 abbrev pub IsMost : List ℕ → ℕ → Type 0

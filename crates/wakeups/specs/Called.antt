@@ -1,8 +1,8 @@
 -- The bits of a desk's clients, by which they are called for.
 use Rattle.std.specs.Prelude.{◌≡◌, ◌<◌, ◌+◌, ◌-◌, ◌*◌, ◌^◌, ℕ, min}
 use Rattle.std.specs.Int.{bit_at}
-use Rattle.wakeups.specs.declared.calls.Called.{Called}
-use Rattle.wakeups.specs.declared.calls.TheConstants.{BITS}
+use Rattle.wakeups.specs.declared.mailbox.Called.{Called}
+use Rattle.wakeups.specs.declared.mailbox.TheConstants.{BITS}
 
 -- in that word this number has the bit of that client, and no other
 pub record IsBitOf (client word bit : ℕ) : Type 0 where

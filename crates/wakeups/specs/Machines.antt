@@ -1,12 +1,12 @@
 -- A worker that waits for its sockets and its bell, and any number of callers that ring for one of its clients. Each step is one atomic
 -- step of the code. The steps of all of them come in any order.
 use Rattle.std.specs.Prelude.{◌≡◌, ◌+◌, ◌-◌, ◌<◌, ℕ, Bool, true, false, List, [], ◌∷◌, if◌then◌else◌}
-use Rattle.wakeups.specs.declared.bell_step.BellStep.{BellStep}
-use Rattle.wakeups.specs.declared.bell_step.BellStep.TheVariants.{Note, Ring, RingForOthers, Look, Wake, SetAsleep, Check, Return, SetAwake, TakeRing, TakeCalls}
-use Rattle.wakeups.specs.declared.bell_step.Caller.{Caller}
-use Rattle.wakeups.specs.declared.bell_step.Caller.TheVariants.{Calls, HasRung, FoundAsleep, Done}
-use Rattle.wakeups.specs.declared.bell_step.Sleeper.{Sleeper}
-use Rattle.wakeups.specs.declared.bell_step.Sleeper.TheVariants.{Serves, FallsAsleep, Waits, Hurries, Returned, Awake, TakesCalls}
+use Rattle.wakeups.specs.declared.doorbell.BellStep.{BellStep}
+use Rattle.wakeups.specs.declared.doorbell.BellStep.TheVariants.{Note, Ring, RingForOthers, Look, Wake, SetAsleep, Check, Return, SetAwake, TakeRing, TakeCalls}
+use Rattle.wakeups.specs.declared.doorbell.Caller.{Caller}
+use Rattle.wakeups.specs.declared.doorbell.Caller.TheVariants.{Calls, HasRung, FoundAsleep, Done}
+use Rattle.wakeups.specs.declared.doorbell.Sleeper.{Sleeper}
+use Rattle.wakeups.specs.declared.doorbell.Sleeper.TheVariants.{Serves, FallsAsleep, Waits, Hurries, Returned, Awake, TakesCalls}
 
 -- Whether the client's bit is set, there was a ring, the worker has set that it sleeps, and the system was asked to end its wait. How far
 -- the worker has come. How many callers have set the bit but not rung yet; how many have rung but not looked whether the worker sleeps; and

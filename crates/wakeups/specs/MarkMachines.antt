@@ -1,10 +1,10 @@
 -- A worker of which a client waits for the mark, and the flusher that raises it. Each step is one atomic step of the code. The steps of both
 -- come in any order.
 use Rattle.std.specs.Prelude.{◌≡◌, ◌+◌, ◌-◌, ◌<◌, ◌⊎◌, ℕ, Bool, true, false, List, [], ◌∷◌, if◌then◌else◌}
-use Rattle.wakeups.specs.declared.mark_step.MarkStep.{MarkStep}
-use Rattle.wakeups.specs.declared.mark_step.MarkStep.TheVariants.{Raise, LookWhoWaits, SetWaiting, ReadMark, LetIn}
-use Rattle.wakeups.specs.declared.mark_step.Waiter.{Waiter}
-use Rattle.wakeups.specs.declared.mark_step.Waiter.TheVariants.{Serves, HasSet, Waits, Hurries}
+use Rattle.wakeups.specs.declared.wakeups.MarkStep.{MarkStep}
+use Rattle.wakeups.specs.declared.wakeups.MarkStep.TheVariants.{Raise, LookWhoWaits, SetWaiting, ReadMark, LetIn}
+use Rattle.wakeups.specs.declared.wakeups.Waiter.{Waiter}
+use Rattle.wakeups.specs.declared.wakeups.Waiter.TheVariants.{Serves, HasSet, Waits, Hurries}
 
 -- Whether the mark lets the client in, the worker has set that it waits for it, and its bell was rung. How far the worker has come, and how
 -- often the flusher has raised the mark and not looked yet who waits.

@@ -1,6 +1,6 @@
 -- What a doorbell promises.
 use Rattle.std.specs.Prelude.{◌≡◌, ◌⊎◌, true}
-use Rattle.wakeups.specs.declared.bell_step.Sleeper.TheVariants.{Waits, TakesCalls}
+use Rattle.wakeups.specs.declared.doorbell.Sleeper.TheVariants.{Waits, TakesCalls}
 use Rattle.wakeups.specs.Machines.{Machine}
 
 -- Suppose the client's bit is set, and each caller that set it has rung. Then there is a ring that the worker has not taken back, or it is

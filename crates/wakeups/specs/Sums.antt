@@ -1,8 +1,8 @@
 -- The sum of what all clients hold.
 use Rattle.std.specs.Prelude.{ℕ, Bool, true, false, List, ◌+◌, ◌-◌, ◌≤◌, cond, nat_lt, slice_set}
 use Rattle.clients.specs.declared.wakers.TheConstants.{CLIENTS}
-use Rattle.wakeups.specs.declared.sum.Change.{Change}
-use Rattle.wakeups.specs.declared.sum.Change.TheVariants.{Same, More, Less}
+use Rattle.wakeups.specs.declared.memory.Change.{Change}
+use Rattle.wakeups.specs.declared.memory.Change.TheVariants.{Same, More, Less}
 
 -- the sum once it has changed so
 abbrev pub changed : Change → ℕ → ℕ

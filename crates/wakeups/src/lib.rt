@@ -3,40 +3,19 @@
 
 #![tactic(auto)]
 
-mod account;
-mod bell_flags;
-mod bell_step;
-mod calls;
-mod choice;
-mod client_bytes;
-mod counts;
 mod doorbell;
-mod ending;
-mod laws;
 mod log_thread;
 mod mailbox;
-mod mark_step;
-mod marks;
 mod memory;
-mod room_wait;
-mod sum;
-mod total;
 mod wakeups;
 
-pub use account::Account;
-pub use bell_flags::{AtBell, Ringing};
-pub use bell_step::{BellStep, Caller, Sleeper};
-pub use calls::{BITS, Called, WORDS};
-pub use choice::{DeskHolds, Holdings};
-pub use client_bytes::ClientBytes;
-pub use doorbell::Doorbell;
-pub use ending::Ending;
-pub use laws::{every_call_is_heard, no_mark_is_missed, what_was_called_for_is_taken};
+pub use doorbell::{AtBell, BellStep, Caller, Doorbell, Ringing, Sleeper};
 pub use log_thread::LogThread;
-pub use mailbox::{Arrival, ClientWaker, ClientWakers, Counted, Mailbox};
-pub use mark_step::{MarkStep, Waiter};
-pub use marks::{Awaiting, Raised, Watching};
-pub use memory::Memory;
-pub use sum::{Change, is_over, passes};
-pub use total::Total;
-pub use wakeups::Wakeups;
+pub use mailbox::{Arrival, BITS, Called, ClientWaker, ClientWakers, Counted, Mailbox, WORDS};
+pub use memory::{
+    Account, Change, ClientBytes, DeskHolds, Holdings, Memory, Total, is_over, passes,
+};
+pub use wakeups::{
+    Awaiting, Ending, MarkStep, Raised, Waiter, Wakeups, Watching, every_call_is_heard,
+    no_mark_is_missed, what_was_called_for_is_taken,
+};

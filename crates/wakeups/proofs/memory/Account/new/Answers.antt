@@ -2,7 +2,7 @@ use Rattle.std.proofs.Common.{rules, ◌≡◌, ◌≤◌, ◌*◌, length, arit
 use Rattle.std.proofs.lemmas.List.Sums.{sum_by-le}
 use Rattle.std.specs.List.{slice_index_or}
 use Rattle.std.specs.Prelude.{sum}
-use Rattle.wakeups.proofs.account.Account.new.Goals as goal
+use Rattle.wakeups.proofs.memory.Account.new.Goals as goal
 
 pub invariant_of-result : goal.invariant_of-result
 invariant_of-result c =

@@ -1,6 +1,6 @@
 use Rattle.std.proofs.Common.{◌≡◌, ◌<◌, ◌≤◌, length}
 use Rattle.std.specs.List.{AllWithin, slice_index_or}
-use Rattle.wakeups.proofs.choice.most.Given as goal
+use Rattle.wakeups.proofs.memory.most.Given as goal
 
 abbrev pub invariant-loop-place : goal.invariant-loop-place
 invariant-loop-place l = record {

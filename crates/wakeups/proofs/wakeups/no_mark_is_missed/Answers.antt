@@ -1,6 +1,6 @@
 use Rattle.std.proofs.Common.{refl, arith}
 use Rattle.wakeups.proofs.Marking.{marked}
-use Rattle.wakeups.proofs.laws.no_mark_is_missed.Goals as goal
+use Rattle.wakeups.proofs.wakeups.no_mark_is_missed.Goals as goal
 
 pub returns : goal.returns
 returns c = record {

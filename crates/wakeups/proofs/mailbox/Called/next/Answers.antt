@@ -1,6 +1,6 @@
 use Rattle.std.proofs.Common.{rules}
 use Rattle.wakeups.proofs.Calling.{next_call, not_more}
-use Rattle.wakeups.proofs.calls.Called.next.Goals as goal
+use Rattle.wakeups.proofs.mailbox.Called.next.Goals as goal
 
 -- src/calls.rt:99:9
 pub overflow_sub-self : goal.overflow_sub-self

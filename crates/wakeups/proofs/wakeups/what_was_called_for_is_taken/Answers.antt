@@ -1,5 +1,5 @@
 use Rattle.wakeups.proofs.Keeping.{four_run, four_take}
-use Rattle.wakeups.proofs.laws.what_was_called_for_is_taken.Goals as goal
+use Rattle.wakeups.proofs.wakeups.what_was_called_for_is_taken.Goals as goal
 
 pub returns : goal.returns
 returns c = record {

@@ -1,6 +1,6 @@
 use Rattle.std.proofs.Common.{refl, arith}
 use Rattle.wakeups.proofs.Keeping.{heard}
-use Rattle.wakeups.proofs.laws.every_call_is_heard.Goals as goal
+use Rattle.wakeups.proofs.wakeups.every_call_is_heard.Goals as goal
 
 pub returns : goal.returns
 returns c = record {

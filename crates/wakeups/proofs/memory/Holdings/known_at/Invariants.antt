@@ -1,6 +1,6 @@
 use Rattle.std.proofs.Common.{◌≡◌, ◌<◌, ◌≤◌, ◌-◌, ◌^◌, ◌⊎◌, ℕ, length, min, take}
 use Rattle.wakeups.specs.Budgets.{count_clients, counts_there}
-use Rattle.wakeups.proofs.choice.Holdings.known_at.Given as goal
+use Rattle.wakeups.proofs.memory.Holdings.known_at.Given as goal
 
 abbrev pub invariant-loop-at : goal.invariant-loop-at
 invariant-loop-at l = record {

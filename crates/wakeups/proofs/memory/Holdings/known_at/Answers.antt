@@ -2,8 +2,8 @@ use Rattle.std.proofs.Common.{◌≡◌, ◌<◌, ◌≤◌, ◌+◌, ◌⊎◌,
 use Rattle.std.proofs.lemmas.Bool.{cases_lt}
 use Rattle.std.proofs.lemmas.List.Sums.{sum_by_more}
 use Rattle.wakeups.specs.Budgets.{counts_there}
-use Rattle.wakeups.specs.declared.choice.DeskHolds.{DeskHolds}
-use Rattle.wakeups.proofs.choice.Holdings.known_at.Goals as goal
+use Rattle.wakeups.specs.declared.memory.DeskHolds.{DeskHolds}
+use Rattle.wakeups.proofs.memory.Holdings.known_at.Goals as goal
 
 module _ (desk n : ℕ) (desks : List DeskHolds) (before after : ℕ) where
   -- one desk more is looked at
