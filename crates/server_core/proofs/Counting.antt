@@ -5,7 +5,7 @@ use Rattle.std.proofs.lemmas.List.Elements.{All-get_or, All-pop, All-push, All-s
 use Rattle.atomic_table.specs.Seated.{TableId}
 use Rattle.server_core.specs.Serving.{AreServed, count_mailboxes}
 use Rattle.server_core.specs.declared.service.Service.{Service}
-use Rattle.server_core.specs.declared.worker_setup.WorkerSetup.{WorkerSetup}
+use Rattle.server_core.specs.declared.worker.WorkerSetup.{WorkerSetup}
 
 -- one setup more, behind the others
 pub count_push : (xs : List WorkerSetup) (x : WorkerSetup) → count_mailboxes (xs ++ x ∷ []) ≡ count_mailboxes xs + length x.mailboxes.items

@@ -1,6 +1,6 @@
 -- When a worker has parted with its clients.
 use Rattle.std.specs.Prelude.{◌≡◌, ◌≤◌, ◌+◌, ◌⊎◌, ℕ, Bool, false, Option, Some, None}
-use Rattle.server_core.specs.declared.farewell.TheConstants.{LONGEST_FAREWELL}
+use Rattle.server_core.specs.declared.serving.TheConstants.{LONGEST_FAREWELL}
 
 -- it parts with them, and has none left, or has waited for them long enough
 abbrev pub HasParted : Option ℕ → (now : ℕ) → (has_clients : Bool) → Type 0

@@ -1,9 +1,9 @@
 -- Which worker gets a client.
 use Rattle.std.specs.Prelude.{ℕ, Bool, true, false, List, Option, Some, None, ◌≤◌, ◌<◌, ◌+◌, cond, length, nat_lt}
 use Rattle.std.specs.List.{All, slice_index_or}
-use Rattle.server_core.specs.declared.handing.Coming.{Coming}
-use Rattle.server_core.specs.declared.handing.Coming.TheVariants.{HandedOut, LetGo, Last}
-use Rattle.server_core.specs.declared.handing.TheConstants.{ANSWERED, KEPT}
+use Rattle.server_core.specs.declared.acceptor.Coming.{Coming}
+use Rattle.server_core.specs.declared.acceptor.Coming.TheVariants.{HandedOut, LetGo, Last}
+use Rattle.server_core.specs.declared.acceptor.TheConstants.{ANSWERED, KEPT}
 use Rattle.ws_core.specs.declared.handshake.Vacancy.{Vacancy}
 use Rattle.ws_core.specs.declared.handshake.Vacancy.TheVariants.{Any, Ping, Nobody}
 

@@ -22,7 +22,7 @@ use Rattle.wakeups.specs.declared.mailbox.ClientWaker.{ClientWaker}
 use Rattle.server_core.specs.declared.service.Service.{Service}
 use Rattle.server_core.specs.declared.serving.ServeEnd.{ServeEnd}
 use Rattle.server_core.specs.declared.serving.ServeEnd.TheVariants.{Asked, Fault}
-use Rattle.server_core.specs.declared.worker_setup.WorkerSetup.{WorkerSetup}
+use Rattle.server_core.specs.declared.worker.WorkerSetup.{WorkerSetup}
 use Rattle.server_core.specs.declared.worker.SeatsBack.{SeatsBack}
 
 -- The port; the ring at which all meet; the seats that no worker has yet; and the flusher.

@@ -7,7 +7,7 @@ ghost use Rattle.server_core.specs.declared.serving.TheConstants.{MOST_CLIENTS, 
 
 use crate::acceptor::listen;
 use crate::serving::{MOST_CLIENTS, MOST_MEMORY};
-use crate::worker_setup::{WorkerSetup, man};
+use crate::worker::{WorkerSetup, man};
 use claim_core::SEATS;
 use event_log::ServeFault;
 use std::alloc::{AllocError, Global};

@@ -1,18 +1,24 @@
 //! What a worker does: it waits for the clients of its desks, and serves them in turn.
 
-ghost use Rattle.std.specs.Prelude.{◌≡◌, ◌<◌, ◌≤◌, ◌+◌, [], IfOk, length, vec_len, vec_capacity};
+ghost use Rattle.std.specs.Prelude.{◌≡◌, ◌<◌, ◌≤◌, ◌+◌, [], IfOk, length, vec_len, vec_capacity, ◌*◌, ◌-◌, ◌^◌, min};
+ghost use Rattle.std.specs.List.{All};
 ghost use Rattle.atomic_table.specs.Seated.{TableId};
+ghost use Rattle.mio.specs.Events.{items};
+ghost use Rattle.mio.specs.declared.event.event.Event.{Event};
+ghost use Rattle.clients.specs.declared.wakers.TheConstants.{CLIENTS};
 ghost use Rattle.server_core.specs.Serving.{AreAt, AreBack, AreServed};
 ghost use Rattle.server_core.specs.Waits.{first_due, is_anybody_let_in, is_anybody_ready, is_mark_awaited, wait_of};
+ghost use Rattle.server_core.specs.Reporting.{IsReported};
+ghost use Rattle.server_core.specs.Sweeps.{HasBegun, HaveAllDone, MayAllDo};
+ghost use Rattle.server_core.specs.declared.service.Sweep.TheVariants.{End, Part};
 
-use crate::farewell::has_parted;
-use crate::rounds::{part_all, report_events, serve_all};
-use crate::service::Service;
-use crate::shared::{ServerSeat, Shared};
-use crate::sweep::Sweep;
-use crate::worker_setup::{WorkerSetup, room_for_events};
-use clients::{Clients, Outlook, Watch};
-use mio::{Events, Poll};
+use crate::fittings::{ServerSeat, Shared};
+use crate::service::{Service, Sweep};
+use crate::serving::has_parted;
+use crate::worker::{WorkerSetup, room_for_events};
+use clients::{CLIENTS, Clients, Outlook, Watch, reported_by};
+use mio::event::Event;
+use mio::{Events, Poll, Registry, Token};
 use std::alloc::{AllocError, Global};
 use std::marker::Model;
 use std::sync::{Arc, Wait};
@@ -357,4 +363,91 @@ fn take_back<R: Wait + Clock + Drop>(
 {
     let service = services.pop().unwrap();
     seats.push_reserved(service.into_seat());
+}
+
+/// Has each client stand in line of whose socket the poll reported something, and notes that at its stream.
+pub(crate) fn report_events<R: Wait + Clock + Drop>(
+    events: &Events<Global>,
+    services: &mut Vec<Service<'_, R>>,
+    now: u64,
+)
+    ensures reported { All (λ (event : Event). IsReported services.new.items event) (items events.now) }
+    ensures ring { (ring : TableId) → AreServed ring services.old.items → AreServed ring services.new.items }
+    ensures count { vec_len services.new ≡ vec_len services.old }
+{
+    for event in events.iter() {
+        report_event(event, services, now);
+    }
+}
+
+// Does so for one of these reports. Who stood in line before that stands there still.
+fn report_event<R: Wait + Clock + Drop>(event: &Event, services: &mut Vec<Service<'_, R>>, now: u64)
+    ensures reported { IsReported services.new.items event.now }
+    ensures others { (other : Event) → IsReported services.old.items other → IsReported services.new.items other }
+    ensures ring { (ring : TableId) → AreServed ring services.old.items → AreServed ring services.new.items }
+    ensures count { vec_len services.new ≡ vec_len services.old }
+{
+    let (desk, client) = client_of(event.token());
+    if desk < services.len() {
+        services[desk].note_report(client, reported_by(event), now);
+    }
+}
+
+/// Has all desks begin a round so, and then do the rest of it.
+pub(crate) fn serve_all<R: Wait + Clock + Drop>(
+    services: &mut Vec<Service<'_, R>>,
+    registry: &Registry,
+    begin: Sweep,
+)
+    requires begins { HasBegun begin }
+    ensures done { HaveAllDone End services.new.items }
+    ensures ring { (ring : TableId) → AreServed ring services.old.items → AreServed ring services.new.items }
+    ensures count { vec_len services.new ≡ vec_len services.old }
+{
+    sweep_all(services, registry, begin);
+    sweep_all(services, registry, Sweep::Pass);
+    sweep_all(services, registry, Sweep::End);
+}
+
+/// Has all desks part with their clients.
+pub(crate) fn part_all<R: Wait + Clock + Drop>(
+    services: &mut Vec<Service<'_, R>>,
+    registry: &Registry,
+)
+    ensures done { HaveAllDone Part services.new.items }
+    ensures ring { (ring : TableId) → AreServed ring services.old.items → AreServed ring services.new.items }
+    ensures count { vec_len services.new ≡ vec_len services.old }
+{
+    sweep_all(services, registry, Sweep::Part);
+}
+
+// Has each desk do this, one after another.
+fn sweep_all<R: Wait + Clock + Drop>(
+    services: &mut Vec<Service<'_, R>>,
+    registry: &Registry,
+    sweep: Sweep,
+)
+    requires follows { MayAllDo sweep services.old.items }
+    ensures done { HaveAllDone sweep services.new.items }
+    ensures ring { (ring : TableId) → AreServed ring services.old.items → AreServed ring services.new.items }
+    ensures count { vec_len services.new ≡ vec_len services.old }
+{
+    for desk in 0..services.len() {
+        services[desk].sweep(registry, sweep);
+    }
+}
+
+/// The desk and the client that the poll reports by this token.
+pub(crate) fn client_of(token: Token) -> (usize, usize)
+    ensures client { result.1 < CLIENTS }
+    ensures both { result.0 * CLIENTS + result.1 ≡ token.0 }
+{
+    (token.0 / CLIENTS, token.0 % CLIENTS)
+}
+
+/// The token by which the poll reports that client.
+pub(crate) fn token_of(desk: usize, client: usize) -> Token
+    ensures { result.0 ≡ min (desk * CLIENTS + client) (2 ^ 64 - 1) }
+{
+    Token(desk.saturating_mul(CLIENTS).saturating_add(client))
 }

@@ -3,8 +3,8 @@
 ghost use Rattle.std.specs.Prelude.{◌≡◌, ◌↔◌, IsTrue};
 ghost use Rattle.server_core.specs.Reports.{LeavesLittle, tenths};
 
+use crate::fittings::Shared;
 use crate::serving::ServerFlusher;
-use crate::shared::Shared;
 use broker_core::Broker;
 use broker_state::{Held, MOST_BYTES, MOST_MESSAGES};
 use command_core::Dest;

@@ -1,22 +1,43 @@
 //! A desk of a worker, and how its clients are served.
 
-ghost use Rattle.std.specs.Prelude.{◌≡◌, ◌≤◌};
-ghost use Rattle.server_core.specs.declared.arrivals.TheConstants.{NEW_CLIENTS};
+ghost use Rattle.std.specs.Prelude.{◌≡◌, ◌≤◌, true, ◌<◌, IfSome, None, slice_index_or};
 ghost use Rattle.clients.specs.Turns.{woken};
+ghost use Rattle.clients.specs.Schedules.{client_at, is_greeted, is_seated, state_at};
+ghost use Rattle.clients.specs.Desks.{seated_at};
+ghost use Rattle.clients.specs.Holdings.{HeldAt};
+ghost use Rattle.wakeups.specs.Sums.{counted};
+ghost use Rattle.clients.specs.declared.wakers.TheConstants.{CLIENTS};
+ghost use Rattle.work_share.specs.Loads.{number_of};
+ghost use Rattle.ws_core.specs.Links.{IsCounted};
+ghost use Rattle.server_core.specs.declared.acceptor.TheConstants.{NEW_CLIENTS};
+ghost use Rattle.server_core.specs.Keeping.{GivesUp, Keeps};
+ghost use Rattle.server_core.specs.Sweeps.{Follows};
+ghost use Rattle.server_core.specs.declared.service.Sweep.TheVariants.{Begin, End, Part, Pass};
+ghost use Rattle.server_core.specs.Turns.{why_given_up, goes_on, together, waits};
 
-use crate::arrivals::{NEW_CLIENTS, may_more_wait};
-use crate::shared::{ServerSeat, Shared};
-use crate::sweep::Swept;
-use crate::tokens::token_of;
-use clients::{ClientState, Clients, Desk, ReadBudget, Reported};
+use crate::acceptor::{NEW_CLIENTS, may_more_wait};
+use crate::event_loop::token_of;
+use crate::fittings::{ServerRing, ServerSeat, Shared};
+use clients::{
+    ClientState, Clients, Cut, Desk, Due, Flow, Framed, Next, Opening, ReadBudget, Reported,
+    Retried, Turned,
+};
+use event_log::Kind;
 use mio::net::TcpStream;
 use mio::{Interest, Registry, Token};
 use std::alloc::Global;
 use std::io;
+use std::marker::Model;
 use std::sync::{Arc, Wait};
 use std::time::Clock;
-use wakeups::{Account, Arrival, BITS, Called, ClientWaker, Mailbox, WORDS};
-use ws_core::{Greeting, Vacancy, WsLink};
+use wakeups::{
+    Account, Arrival, BITS, Called, ClientWaker, ClientWakers, Holdings, Mailbox, WORDS,
+};
+use work_share::Noted;
+use ws_core::{Farewell, Greeted, Greeting, Outgoing, Received, Refusal, Vacancy, WsLink};
+
+/// How many turns a client has one after another at most.
+const TURNS: u32 = 8;
 
 pub(crate) type ClientDesk = Desk<ClientWaker, WsLink<ReadBudget<TcpStream>>>;
 
@@ -200,6 +221,164 @@ impl<'a, R: Wait + Clock + Drop> Service<'a, R> {
             ClientState::Away => {}
         }
     }
+
+    /// Goes on with a client's handshake. Once it has its WebSocket, it sits at the desk.
+    pub(crate) fn greet(&mut self, number: usize, greeting: Greeting<ReadBudget<TcpStream>>)
+        ensures shared { self.new.shared ≡ self.old.shared }
+    {
+        match greeting.greet(self.alloc) {
+            Greeted::Waits(greeting) if self.parting => {
+                drop(greeting);
+                self.leave(number);
+            }
+            Greeted::Waits(greeting) => {
+                let (has_rest, held) = (greeting.stream().flow().has_rest, greeting.held());
+                self.clients
+                    .stand(number, ClientState::Greeting(greeting), has_rest);
+                self.count(number, held);
+            }
+            Greeted::Accepted(link) => {
+                let framed = link.stream().count_frames();
+                self.seat(number, link, framed);
+            }
+            Greeted::Refused(refusal, stream) => {
+                self.shared.wakeups.log().count(kind_of(refusal));
+                self.count(number, 0);
+                self.clients.part(number, Farewell::new(stream), self.now);
+            }
+            Greeted::Failed(_) => self.leave(number),
+        }
+    }
+
+    // Seats a client at the desk, of whose stream frames are counted.
+    fn seat(&mut self, number: usize, link: WsLink<ReadBudget<TcpStream>>, framed: Framed)
+        requires { framed ≡ true }
+        ensures shared { self.new.shared ≡ self.old.shared }
+    {
+        drop(framed);
+        match self.desk.admit(self.alloc, number, link) {
+            Ok(()) => self.clients.stand(number, ClientState::Seated, true),
+            Err(_) => self.leave(number),
+        }
+    }
+
+    /// Drops some of what comes of a client that was refused. Once the server ends, it is not waited for.
+    pub(crate) fn drop_some(&mut self, number: usize, farewell: Farewell<ReadBudget<TcpStream>>)
+        ensures shared { self.new.shared ≡ self.old.shared }
+    {
+        let mut farewell = farewell;
+        let more = match farewell.go_on() {
+            Received::Skipped => true,
+            Received::Nothing if !self.parting => false,
+            _ => {
+                drop(farewell);
+                self.leave(number);
+                return;
+            }
+        };
+        self.clients
+            .stand(number, ClientState::Refused(farewell), more);
+    }
+
+    /// Counts that a client holds `holds` bytes. If by this all clients hold more than they may, each worker looks whether it is one of its
+    /// own that holds most.
+    pub(crate) fn count(&mut self, number: usize, holds: u64)
+        ensures account { self.new.account ≡ counted number holds self.old.account }
+        ensures its { number < CLIENTS → slice_index_or self.new.account number 0 ≡ holds }
+        ensures shared { self.new.shared ≡ self.old.shared }
+        ensures desk { self.new.desk ≡ self.old.desk }
+    {
+        let total = self.shared.memory.total();
+        let has_passed = self.account.count(total, &self.mailbox, number, holds);
+        if has_passed {
+            self.shared.wakeups.ring_all();
+        }
+    }
+
+    /// Counts what is kept for a client at the desk.
+    pub(crate) fn count_held(&mut self, number: usize)
+        ensures counts { number < CLIENTS → HeldAt (IsCounted (λ stream. stream.given)) (seated_at self.new.desk.places number) (slice_index_or self.new.account number 0) }
+        ensures shared { self.new.shared ≡ self.old.shared }
+        ensures desk { self.new.desk ≡ self.old.desk }
+    {
+        let holds = self.desk.held(number);
+        self.count(number, holds);
+    }
+
+    /// If all clients hold more than they may, evicts the one that holds most, if it is one of its own. Answers which it was.
+    pub(crate) fn keep_to_memory(&mut self) -> Option<usize>
+        ensures shared { self.new.shared ≡ self.old.shared }
+        ensures most { Keeps self.old.shared.now.memory self.old.account self.new.account result }
+    {
+        if self.shared.memory.is_over() {
+            self.evict_most()
+        } else {
+            None
+        }
+    }
+
+    // Evicts the client that holds most of all, if it is one of its own. The workers look again if all clients still hold more than they may.
+    fn evict_most(&mut self) -> Option<usize>
+        ensures shared { self.new.shared ≡ self.old.shared }
+        ensures most { Keeps self.old.shared.now.memory self.old.account self.new.account result }
+    {
+        let holdings = self.shared.memory.holdings(self.mailbox.desk());
+        let evicted = self.give_up(&holdings);
+        if evicted.is_some() && self.shared.memory.is_over() {
+            self.shared.wakeups.ring_all();
+        }
+        evicted
+    }
+
+    // Evicts the client that is given up by what is known of all clients, if it is one of its own. It counts for nothing from then on.
+    fn give_up(&mut self, holdings: &Holdings) -> Option<usize>
+        ensures shared { self.new.shared ≡ self.old.shared }
+        ensures most { GivesUp holdings.now self.old.account self.new.account result }
+    {
+        let number = holdings.given_up(self.account.bytes())?;
+        self.evict(number);
+        Some(number)
+    }
+
+    // Evicts a client.
+    fn evict(&mut self, number: usize)
+        ensures shared { self.new.shared ≡ self.old.shared }
+        ensures account { self.new.account ≡ counted number 0 self.old.account }
+    {
+        if is_greeted(&self.clients, number) {
+            self.shared.wakeups.log().count(Kind::TookMost);
+            self.leave(number);
+            return;
+        }
+        self.count(number, 0);
+        if is_seated(&self.clients, number) {
+            self.shared.wakeups.log().count(Kind::TookMost);
+            self.desk.evict(self.alloc, number);
+        }
+    }
+
+    /// Lets a client go, which holds nothing from then on.
+    pub(crate) fn leave(&mut self, number: usize)
+        ensures shared { self.new.shared ≡ self.old.shared }
+        ensures account { self.new.account ≡ counted number 0 self.old.account }
+        ensures gone { client_at number self.new.clients ≡ None }
+    {
+        let left = self.shared.costs.leave(self.mailbox.desk(), number as u64);
+        self.depart(number, left);
+    }
+
+    // Lets a client go that stands in line no more.
+    fn depart(&mut self, number: usize, left: Option<Noted>)
+        requires left { IfSome left (λ load. number_of number load ≡ 0) }
+        ensures shared { self.new.shared ≡ self.old.shared }
+        ensures account { self.new.account ≡ counted number 0 self.old.account }
+        ensures gone { client_at number self.new.clients ≡ None }
+    {
+        drop(left);
+        self.count(number, 0);
+        self.clients.remove(number);
+        self.mailbox.leaves();
+    }
 }
 
 // Has the clients stand in line that were called for.
@@ -223,4 +402,371 @@ fn watched(
     let mut stream = TcpStream::from_std(socket);
     registry.register(&mut stream, token, Interest::READABLE | Interest::WRITABLE)?;
     Ok(stream)
+}
+
+// What is counted of a refusal.
+fn kind_of(refusal: Refusal) -> Kind {
+    match refusal {
+        Refusal::Malformed => Kind::Malformed,
+        Refusal::OtherProtocol => Kind::OtherProtocol,
+        Refusal::Foreign => Kind::Foreign,
+        Refusal::Method => Kind::Method,
+        Refusal::NoUpgrade => Kind::NoUpgrade,
+        Refusal::Version => Kind::Version,
+        Refusal::TooLarge => Kind::TooLarge,
+        Refusal::Full => Kind::Full,
+    }
+}
+
+/// Whether that one of a desk's clients sits there.
+pub(crate) fn is_seated(clients: &Clients, number: usize) -> bool
+    ensures { result ≡ is_seated (state_at number clients.now) }
+{
+    match clients.get(number) {
+        Some(client) => client.is_seated(),
+        None => false,
+    }
+}
+
+/// Whether the handshake of that one is under way.
+pub(crate) fn is_greeted(clients: &Clients, number: usize) -> bool
+    ensures { result ≡ is_greeted (state_at number clients.now) }
+{
+    match clients.get(number) {
+        Some(client) => client.is_greeted(),
+        None => false,
+    }
+}
+
+/// What a worker has each of its desks do in a round, one after another.
+#[derive(Clone, Copy)]
+pub(crate) enum Sweep {
+    /// A round begins at that moment: a desk finds out which of its clients are ready, and gives a turn to those that the mark lets in. It
+    /// has whether the doorbell was rung.
+    Begin { was_rung: bool, now: u64 },
+    /// Each client that stands in line now has its turns.
+    Pass,
+    /// Each that went on by itself when the round began has its turns, and what is due of clients is done.
+    End,
+    /// A desk begins to part with its clients.
+    Part,
+}
+
+/// What a desk has done last in a round. Only the functions here make one, so nobody else can claim that a desk did its part. Contracts see what it was.
+#[derive(Drop)]
+pub(crate) struct Swept {
+    last: Sweep,
+}
+
+impl Model for Swept {
+    ghost use Rattle.server_core.specs.declared.service.Sweep.{Sweep};
+
+    ghost Value = { Sweep };
+
+    ghost view = { λ a. a.last };
+}
+
+impl Swept {
+    /// Nothing yet: as if a round had just begun.
+    pub(crate) fn new() -> Swept {
+        Swept {
+            last: Sweep::Begin {
+                was_rung: false,
+                now: 0,
+            },
+        }
+    }
+
+    // A round has begun, in which clients that lacked memory were looked through.
+    fn begun(was_rung: bool, now: u64, retried: Retried) -> Swept
+        requires { retried ≡ now }
+        ensures { result ≡ Begin was_rung now }
+    {
+        drop(retried);
+        Swept {
+            last: Sweep::Begin { was_rung, now },
+        }
+    }
+}
+
+impl<R: Wait + Clock + Drop> Service<'_, R> {
+    /// Does its part of a round. New clients' sockets are registered there.
+    pub(crate) fn sweep(&mut self, registry: &Registry, sweep: Sweep)
+        requires follows { Follows self.old.swept sweep }
+        ensures shared { self.new.shared ≡ self.old.shared }
+        ensures swept { self.new.swept ≡ sweep }
+    {
+        self.swept = match sweep {
+            Sweep::Begin { was_rung, now } => self.begin(registry, was_rung, now),
+            Sweep::Pass => self.pass(),
+            Sweep::End => self.end_round(),
+            Sweep::Part => self.part_with_all(),
+        };
+    }
+
+    // Begins a round at that moment.
+    fn begin(&mut self, registry: &Registry, was_rung: bool, now: u64) -> Swept
+        ensures shared { self.new.shared ≡ self.old.shared }
+        ensures swept { result ≡ Begin was_rung now }
+    {
+        self.now = now;
+        self.going_on = self.clients.lines.count_again();
+        if was_rung {
+            self.take_calls(registry);
+        }
+        let retried = self.clients.retry(now);
+        self.let_in();
+        Swept::begun(was_rung, now, retried)
+    }
+
+    // Gives each client that stands in line now its turns. After each of them, those that are let in have theirs, so that a client that
+    // never waits does not fill the window before them.
+    fn pass(&mut self) -> Swept
+        ensures shared { self.new.shared ≡ self.old.shared }
+        ensures swept { result ≡ Pass }
+    {
+        for _client in 0..self.clients.lines.count_ready() {
+            if let Some((number, standing)) = self.clients.next() {
+                self.give_turn(number, standing);
+                self.give_way();
+            }
+            self.let_in();
+        }
+        Swept { last: Sweep::Pass }
+    }
+
+    // The same for each client that went on by itself when the round began. What this round's turns leave to be done is the next round's:
+    // whom the poll reports then comes first.
+    fn pass_again(&mut self)
+        ensures shared { self.new.shared ≡ self.old.shared }
+    {
+        for _client in 0..self.going_on {
+            if let Some((number, standing)) = self.clients.next_again() {
+                self.give_turn(number, standing);
+                self.give_way();
+            }
+            self.let_in();
+        }
+    }
+
+    // Ends a round. What has come from a client was read before it is looked which of them took too long.
+    fn end_round(&mut self) -> Swept
+        ensures shared { self.new.shared ≡ self.old.shared }
+        ensures swept { result ≡ End }
+    {
+        self.pass_again();
+        self.look_at_timers();
+        self.give_way();
+        Swept { last: Sweep::End }
+    }
+
+    // Begins to part with all clients: each has a turn, in which what may still leave is sent.
+    fn part_with_all(&mut self) -> Swept
+        ensures shared { self.new.shared ≡ self.old.shared }
+        ensures swept { result ≡ Part }
+    {
+        self.parting = true;
+        for number in 0..self.clients.reach() {
+            self.clients.lines.wake(number);
+        }
+        self.mailbox.ring();
+        Swept { last: Sweep::Part }
+    }
+
+    /// Does what is due of clients.
+    pub(crate) fn look_at_timers(&mut self)
+        ensures shared { self.new.shared ≡ self.old.shared }
+    {
+        for _due in 0..self.clients.reach() {
+            match self.clients.take_due(self.now) {
+                Some(number) => self.come_due(number),
+                None => return,
+            }
+        }
+    }
+
+    fn come_due(&mut self, number: usize)
+        ensures shared { self.new.shared ≡ self.old.shared }
+    {
+        if is_seated(&self.clients, number) {
+            self.come_due_seated(number);
+        } else {
+            self.come_due_unseated(number);
+        }
+    }
+
+    // Does what is due of a client at the desk.
+    fn come_due_seated(&mut self, number: usize)
+        ensures shared { self.new.shared ≡ self.old.shared }
+    {
+        let progress = if self.desk.is_open(number) {
+            Opening::Open
+        } else {
+            Opening::Unopened
+        };
+        match self.clients.come_due(number, progress, self.now) {
+            Due::Ping => self.desk.ping(number),
+            // Its turn writes what waits.
+            Due::Write => self.clients.lines.wake(number),
+            Due::GivenUp => {
+                let kind = why_given_up(progress, takes_nothing(&self.desk, number));
+                self.shared.wakeups.log().count(kind);
+                self.desk.lose(number);
+                self.clients.lines.wake(number);
+            }
+            Due::In(_) => {}
+        }
+    }
+
+    // Does what is due of a client that does not sit at the desk, if it is there.
+    fn come_due_unseated(&mut self, number: usize)
+        ensures shared { self.new.shared ≡ self.old.shared }
+    {
+        let due = self.clients.come_due(number, Opening::Greeting, self.now);
+        if matches!(due, Due::GivenUp) {
+            if is_greeted(&self.clients, number) {
+                self.shared.wakeups.log().count(Kind::Unopened);
+            }
+            self.leave(number);
+        }
+    }
+
+    /// Gives a client at the desk its turns.
+    pub(crate) fn turn(&mut self, number: usize)
+        ensures shared { self.new.shared ≡ self.old.shared }
+    {
+        let mark = self.desk.look(&self.shared.ring);
+        let wakers = ClientWakers {
+            mailbox: &self.mailbox,
+            client: number,
+            costs: &self.shared.costs,
+            mark,
+            log: self.shared.wakeups.log(),
+        };
+        let was_full = is_full(&self.desk, number);
+        let desk = &mut self.desk;
+        let Some(turned) = take_turns(self.alloc, &self.shared.ring, desk, &wakers) else {
+            return;
+        };
+        let turned = wakers.since(turned);
+        if turned.appended {
+            self.shared.wakeups.wake_flusher();
+        }
+        // At once: its client may keep its connection for as long as its close is waited for.
+        if !was_full && is_full(&self.desk, number) {
+            self.shared.wakeups.log().count(Kind::LongNames);
+        }
+        match turned.next {
+            Next::Over(_) => {
+                drop(self.desk.dismiss(number));
+                self.leave(number);
+            }
+            _ => self.settle(number, turned),
+        }
+    }
+
+    // What comes of the turns of a client that has not ended: what it waits for, and what it holds.
+    fn settle(&mut self, number: usize, turned: Turned)
+        ensures shared { self.new.shared ≡ self.old.shared }
+    {
+        let flow = flow_of(&self.desk, number);
+        let is_unread = self.desk.awaits_room(number);
+        self.clients
+            .settle(number, turned, flow, is_unread, self.now);
+        self.count_held(number);
+        // One that has nothing more to do at once is sent the close.
+        if self.parting && waits(turned.next) {
+            self.desk.give_up(number);
+            self.clients.lines.wake(number);
+        }
+    }
+}
+
+// Whether the link of a client at the desk takes nothing of what waits for it.
+fn takes_nothing(desk: &ClientDesk, number: usize) -> bool {
+    match desk.link(number) {
+        Some(link) => link.waits(),
+        None => false,
+    }
+}
+
+// Why a client that has come so far is given up, by whether it takes nothing of what waits for it.
+fn why_given_up(progress: Opening, takes_nothing: bool) -> Kind
+    ensures { result ≡ why_given_up progress takes_nothing }
+{
+    match progress {
+        Opening::Open if takes_nothing => Kind::TakesNothing,
+        Opening::Open => Kind::Silent,
+        Opening::Greeting | Opening::Unopened => Kind::Unopened,
+    }
+}
+
+// Whether a client has nothing more to do at once.
+fn waits(next: Next) -> bool
+    ensures { result ≡ waits next }
+{
+    match next {
+        Next::Go | Next::Write | Next::Close | Next::Over(_) => false,
+        Next::Read | Next::Room(_) | Next::Mark(_) | Next::Memory => true,
+    }
+}
+
+// Whether acts of a client at the desk were cut off, since its names have no room beside the others'.
+fn is_full(desk: &ClientDesk, number: usize) -> bool {
+    matches!(desk.cut(number), Cut::Full(_))
+}
+
+// What the stream of a client at the desk reports.
+fn flow_of(desk: &ClientDesk, number: usize) -> Flow {
+    match desk.link(number) {
+        Some(link) => link.stream().flow(),
+        None => Flow {
+            taken: 0,
+            has_rest: false,
+        },
+    }
+}
+
+// Whether a client has another turn at once, after one that came to this: if it put a command into the ring and left more to do.
+fn goes_on(turned: Turned) -> bool
+    ensures { result ≡ goes_on turned }
+{
+    turned.appended && matches!(turned.next, Next::Go)
+}
+
+// What turns came to and one more: something was read or appended if either did so, and what the last one waits for.
+fn together(turns: Turned, last: Turned) -> Turned
+    ensures { result ≡ together turns last }
+{
+    Turned {
+        appended: turns.appended || last.appended,
+        heard: turns.heard || last.heard,
+        next: last.next,
+    }
+}
+
+// The turns of the client of those wakers. After each that put a command into the ring and left more to do, it has another, up to `TURNS`.
+// So what its link has read already comes into one block. `None` if there is no client.
+fn take_turns(
+    alloc: Global,
+    ring: &ServerRing,
+    desk: &mut ClientDesk,
+    wakers: &ClientWakers<'_>,
+) -> Option<Turned>
+    requires { desk.old.seat.ring ≡ ring.now }
+    ensures { desk.new.seat.ring ≡ desk.old.seat.ring }
+{
+    let mut last = desk.turn(alloc, ring, wakers.client, wakers)?;
+    let mut turns = last;
+    for _turn in 1..TURNS {
+        if !goes_on(last) {
+            break;
+        }
+        let Some(turned) = desk.turn(alloc, ring, wakers.client, wakers) else {
+            break;
+        };
+        turns = together(turns, turned);
+        last = turned;
+    }
+    Some(turns)
 }
