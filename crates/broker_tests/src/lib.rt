@@ -5,20 +5,12 @@
 #![tactic(auto)]
 
 #[cfg(test)]
-mod codec_refusal_tests;
-#[cfg(test)]
 mod frame_tests;
 #[cfg(test)]
-mod parts_tests;
-#[cfg(test)]
 mod record_tests;
-#[cfg(test)]
-mod records;
 #[cfg(test)]
 mod refusal_tests;
 #[cfg(test)]
 mod snapshot_tests;
-#[cfg(test)]
-mod text_tests;
 #[cfg(test)]
 mod value_tests;

@@ -1,7 +1,8 @@
 //! Records of commands.
 
+use broker_core::Broker;
 use command_core::{
-    Command, DecodeFault, Dest, DestFault, HeaderText, Op, Sending, decode, encode,
+    Command, DecodeFault, Dest, DestFault, HeaderText, Op, Out, Sending, decode, encode,
     lists_are_read_as_they_are_spelled, parts_are_read_as_they_are_spelled,
 };
 use frame_core::{Bytes, Headers, Text};
@@ -133,6 +134,78 @@ const REFUSED: [&[u8]; 28] = [
     b"\0\0\0\0\0\0\0\x05\0\x07\xff\xff\x05\0\0\0\0\0\0\0\x03",
 ];
 
+// So many pieces between a front and a back, and whether they are a record.
+const LIMITS: [(&[u8], &[u8], usize, &[u8], bool); 8] = [
+    (
+        b"\0\0\0\0\0\0\0\x05\0\x07\0\x40",
+        b"\x05\0\0\0\0\0\0\0\x03",
+        64,
+        b"",
+        true,
+    ),
+    (
+        b"\0\0\0\0\0\0\0\x05\0\x07\0\x41",
+        b"\x05\0\0\0\0\0\0\0\x03",
+        65,
+        b"",
+        false,
+    ),
+    (
+        b"\0\0\0\0\0\0\0\x05\0\x02\0\0\0\x08/queue/q\0\x40",
+        b"\0\0\0\x01k\0\0\0\x01v",
+        64,
+        b"\0\0\0\0",
+        true,
+    ),
+    (
+        b"\0\0\0\0\0\0\0\x05\0\x02\0\0\0\x08/queue/q\0\x41",
+        b"\0\0\0\x01k\0\0\0\x01v",
+        65,
+        b"\0\0\0\0",
+        false,
+    ),
+    (
+        b"\0\0\0\0\0\0\0\x05\0\x02\0\0\0\x08/queue/q\0\0\0\x01\0\0",
+        b"\0",
+        65_536,
+        b"",
+        true,
+    ),
+    (
+        b"\0\0\0\0\0\0\0\x05\0\x02\0\0\0\x08/queue/q\0\0\0\x01\0\x01",
+        b"\0",
+        65_537,
+        b"",
+        false,
+    ),
+    (
+        b"\0\0\0\0\0\0\0\x05\x01\0\0\x20\0",
+        b"r",
+        8192,
+        b"\x08",
+        true,
+    ),
+    (
+        b"\0\0\0\0\0\0\0\x05\x01\0\0\x20\x01",
+        b"r",
+        8193,
+        b"\x08",
+        false,
+    ),
+];
+
+/// Session 0 opens.
+pub const OPEN: &[u8] = b"\0\0\0\0\0\0\0\0\0\x01\0";
+
+/// It subscribes to `/queue/q` as `s`, in `client` mode.
+pub const LISTEN: &[u8] = b"\0\0\0\0\0\0\0\0\0\x03\0\0\0\x01s\0\0\0\x08/queue/q\x01\0";
+
+/// It sends `hi` there.
+pub const SEND: &[u8] = b"\0\0\0\0\0\0\0\0\0\x02\0\0\0\x08/queue/q\0\0\0\0\0\x02hi";
+
+/// It refuses delivery 0.
+pub const NACK: &[u8] = b"\0\0\0\0\0\0\0\0\0\x06\0\0\0\0\0\0\0\0";
+
 // How long the record is that begins the bytes and is written as it stands there; none if no record does.
 fn record_at(alloc: Global, bytes: &[u8]) -> Result<Option<usize>, AllocError> {
     let read = decode(alloc, bytes);
@@ -230,66 +303,6 @@ fn filled(
     Ok(bytes)
 }
 
-// So many pieces between a front and a back, and whether they are a record.
-const LIMITS: [(&[u8], &[u8], usize, &[u8], bool); 8] = [
-    (
-        b"\0\0\0\0\0\0\0\x05\0\x07\0\x40",
-        b"\x05\0\0\0\0\0\0\0\x03",
-        64,
-        b"",
-        true,
-    ),
-    (
-        b"\0\0\0\0\0\0\0\x05\0\x07\0\x41",
-        b"\x05\0\0\0\0\0\0\0\x03",
-        65,
-        b"",
-        false,
-    ),
-    (
-        b"\0\0\0\0\0\0\0\x05\0\x02\0\0\0\x08/queue/q\0\x40",
-        b"\0\0\0\x01k\0\0\0\x01v",
-        64,
-        b"\0\0\0\0",
-        true,
-    ),
-    (
-        b"\0\0\0\0\0\0\0\x05\0\x02\0\0\0\x08/queue/q\0\x41",
-        b"\0\0\0\x01k\0\0\0\x01v",
-        65,
-        b"\0\0\0\0",
-        false,
-    ),
-    (
-        b"\0\0\0\0\0\0\0\x05\0\x02\0\0\0\x08/queue/q\0\0\0\x01\0\0",
-        b"\0",
-        65_536,
-        b"",
-        true,
-    ),
-    (
-        b"\0\0\0\0\0\0\0\x05\0\x02\0\0\0\x08/queue/q\0\0\0\x01\0\x01",
-        b"\0",
-        65_537,
-        b"",
-        false,
-    ),
-    (
-        b"\0\0\0\0\0\0\0\x05\x01\0\0\x20\0",
-        b"r",
-        8192,
-        b"\x08",
-        true,
-    ),
-    (
-        b"\0\0\0\0\0\0\0\x05\x01\0\0\x20\x01",
-        b"r",
-        8193,
-        b"\x08",
-        false,
-    ),
-];
-
 #[test]
 fn records_have_their_limits(rt: HostRuntime) -> Result<(), Fail> {
     for (front, piece, count, back, is_record) in &LIMITS {
@@ -342,4 +355,29 @@ fn a_command_is_written_as_its_record(rt: HostRuntime) -> Result<(), Fail> {
 fn the_laws_of_spelling_ask_for_nothing() {
     parts_are_read_as_they_are_spelled();
     lists_are_read_as_they_are_spelled::<u8>();
+}
+
+/// Carries the command of a record out, if the broker can count one more.
+pub fn execute(alloc: Global, broker: &mut Broker, record: &[u8]) -> Result<Vec<Out>, Fail> {
+    if broker.count() >= 10_000 {
+        return Err(Fail::from("too many commands"));
+    }
+    let (command, _) = decode(alloc, record)?;
+    Ok(broker.step(alloc, command)?)
+}
+
+/// Carries out all.
+pub fn execute_all(alloc: Global, broker: &mut Broker, records: &[&[u8]]) -> Result<(), Fail> {
+    for record in records {
+        let _outs = execute(alloc, broker, record)?;
+    }
+    Ok(())
+}
+
+/// Whether all that is answered is an ERROR with that text.
+pub fn is_error(outs: &[Out], text: &str) -> bool {
+    match outs {
+        [out] => out.error() == Some(text),
+        _ => false,
+    }
 }

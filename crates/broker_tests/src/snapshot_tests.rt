@@ -1,4 +1,4 @@
-use crate::records::execute;
+use crate::record_tests::execute;
 use broker_core::Broker;
 use command_core::DecodeFault;
 use snapshot_core::{decode_state, encode_state};
