@@ -5,12 +5,4 @@
 #[cfg(test)]
 mod box_tests;
 #[cfg(test)]
-mod box_thread_tests;
-#[cfg(test)]
-mod driver;
-#[cfg(test)]
-mod mark_tests;
-#[cfg(test)]
 mod ring_tests;
-#[cfg(test)]
-mod window_tests;

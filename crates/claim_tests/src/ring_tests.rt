@@ -1,17 +1,24 @@
+ghost use Rattle.std.specs.Prelude.{◌≡◌, ◌≤◌, ◌*◌, ◌^◌, All};
+
 use crate::box_tests::MANY;
-use command_core::Out;
+use claim_core::{FlushSeat, NotYet, Refused, Ring, RingEnd, SessionSeat};
+use command_core::{Command, Entry, Op, Out, connected_reply};
 use frame_core::{Bytes, Frame, Headers, Verb};
 use outbox_core::{Bell, BoxSize, Boxes, OutTaker, Taken, outbox};
 use std::alloc::{AllocError, Global};
 use std::cell::{Cell, RefCell};
 use std::process::Abort;
+use std::sync::Wait;
 use std::test::Fail;
+use std::thread::{self, Threads};
 
 // A box of one output.
 const ONE: BoxSize = BoxSize {
     outputs: 1,
     bytes: u64::MAX,
 };
+
+const THREADS: [Threading; 3] = [Threading::One, Threading::Two, Threading::Four];
 
 // What the bells of some boxes did: how often they rang, how often they noted that they will, and how things stood at
 // the first ring.
@@ -220,4 +227,479 @@ fn a_box_that_is_cut_within_a_batch_is_rung_once_and_never_again(
     drop(left);
     drop(boxes);
     done
+}
+
+// An entry that acknowledges that delivery.
+fn entry(alloc: Global, delivery: u64) -> Option<Entry<()>> {
+    Entry::new(alloc, Command::new(7, Op::Ack(delivery), None), None).ok()
+}
+
+// Which delivery an entry acknowledges.
+fn delivery(entry: &Entry<()>) -> Option<u64> {
+    match entry.command().op() {
+        Op::Ack(delivery) => Some(*delivery),
+        _ => None,
+    }
+}
+
+// A CONNECTED that comes from the command of that number.
+fn output(alloc: Global, number: u64) -> Result<Out, AllocError> {
+    let frame = connected_reply(alloc, 3)?;
+    Out::new(alloc, number, 3, frame)
+}
+
+/// What an append answered, with the delivery of the entry if that came back.
+#[derive(Clone, Copy, Debug, PartialEq, Eq)]
+pub enum Answer {
+    NoMemory,
+    Ticket(u64),
+    Back(Refused, Option<u64>),
+}
+
+/// Appends an entry that acknowledges that delivery.
+pub fn append<const SEATS: usize, const WINDOW: usize, const PLACES: usize>(
+    alloc: Global,
+    ring: &Ring<(), SEATS, WINDOW, PLACES>,
+    seat: &mut SessionSeat<(), WINDOW>,
+    number: u64,
+) -> Answer
+    requires { seat.old.ring ≡ ring.now }
+    ensures { seat.new.ring ≡ ring.now }
+{
+    let Some(entry) = entry(alloc, number) else {
+        return Answer::NoMemory;
+    };
+    match ring.append(seat, entry) {
+        Ok(ticket) => Answer::Ticket(ticket),
+        Err((back, refused)) => Answer::Back(refused, delivery(&back)),
+    }
+}
+
+// Takes an entry, and answers which delivery it acknowledges.
+fn take<const SEATS: usize, const WINDOW: usize, const PLACES: usize>(
+    ring: &Ring<(), SEATS, WINDOW, PLACES>,
+    flush: &mut FlushSeat<()>,
+) -> Option<u64>
+    requires { flush.old.ring ≡ ring.now }
+    ensures { flush.new.ring ≡ ring.now }
+{
+    match ring.take(flush) {
+        Some(entry) => delivery(&entry),
+        None => None,
+    }
+}
+
+// Raises the mark to what was taken, and answers it.
+fn publish<const SEATS: usize, const WINDOW: usize, const PLACES: usize>(
+    ring: &Ring<(), SEATS, WINDOW, PLACES>,
+    flush: &mut FlushSeat<()>,
+) -> u64
+    requires { flush.old.ring ≡ ring.now }
+    ensures { flush.new.ring ≡ ring.now }
+{
+    let next = flush.next();
+    ring.raise(flush, next);
+    next
+}
+
+// The number of an output of that command, if it may leave, or the mark that it waits under.
+fn release<const SEATS: usize, const WINDOW: usize, const PLACES: usize>(
+    alloc: Global,
+    ring: &Ring<(), SEATS, WINDOW, PLACES>,
+    seat: &mut SessionSeat<(), WINDOW>,
+    number: u64,
+) -> Option<Result<u64, NotYet>>
+    requires { seat.old.ring ≡ ring.now }
+    ensures { seat.new.ring ≡ ring.now }
+{
+    let out = output(alloc, number).ok()?;
+    match ring.release(seat, out) {
+        Ok(released) => Some(Ok(released.number())),
+        Err((_, not_yet)) => Some(Err(not_yet)),
+    }
+}
+
+/// What a session, another one or the flusher does, and what is to come of it.
+#[derive(Clone, Copy)]
+pub enum RingStep {
+    /// The session appends an entry that acknowledges this delivery.
+    Append(u64, Answer),
+    /// It appends eight, each of which gets its own delivery for a ticket: this one and the next seven.
+    AppendEight(u64),
+    /// An output of this command leaves the session, or must wait.
+    Release(u64, Result<u64, NotYet>),
+    /// The other session sees this mark.
+    Look(u64),
+    /// The flusher takes the entry of this delivery, or finds none.
+    Take(Option<u64>),
+    /// It takes eight, of this delivery and the next seven, and finds no more.
+    TakeEight(u64),
+    /// It raises the mark to what it took, which is this.
+    Publish(u64),
+    /// It stops the ring.
+    Stop,
+}
+
+fn appends_eight<const SEATS: usize, const WINDOW: usize, const PLACES: usize>(
+    alloc: Global,
+    ring: &Ring<(), SEATS, WINDOW, PLACES>,
+    seat: &mut SessionSeat<(), WINDOW>,
+    first: u64,
+) -> bool
+    requires { seat.old.ring ≡ ring.now }
+    ensures { seat.new.ring ≡ ring.now }
+{
+    for i in 0..8u64 {
+        let ticket = first.saturating_add(i);
+        if append(alloc, ring, seat, ticket) != Answer::Ticket(ticket) {
+            return false;
+        }
+    }
+    true
+}
+
+fn takes_eight<const SEATS: usize, const WINDOW: usize, const PLACES: usize>(
+    ring: &Ring<(), SEATS, WINDOW, PLACES>,
+    flush: &mut FlushSeat<()>,
+    first: u64,
+) -> bool
+    requires { flush.old.ring ≡ ring.now }
+    ensures { flush.new.ring ≡ ring.now }
+{
+    for i in 0..8u64 {
+        if take(ring, flush) != Some(first.saturating_add(i)) {
+            return false;
+        }
+    }
+    take(ring, flush).is_none()
+}
+
+// Whether what came of the step is what should.
+fn is_done<const SEATS: usize, const WINDOW: usize, const PLACES: usize>(
+    alloc: Global,
+    ring: &Ring<(), SEATS, WINDOW, PLACES>,
+    seat: &mut SessionSeat<(), WINDOW>,
+    other: &mut SessionSeat<(), WINDOW>,
+    flush: &mut FlushSeat<()>,
+    step: RingStep,
+) -> bool
+    requires { (seat.old.ring ≡ ring.now) × (other.old.ring ≡ ring.now) × (flush.old.ring ≡ ring.now) }
+    ensures { (seat.new.ring ≡ ring.now) × (other.new.ring ≡ ring.now) × (flush.new.ring ≡ ring.now) }
+{
+    match step {
+        RingStep::Append(delivery, wanted) => append(alloc, ring, seat, delivery) == wanted,
+        RingStep::AppendEight(first) => appends_eight(alloc, ring, seat, first),
+        RingStep::Release(number, wanted) => release(alloc, ring, seat, number) == Some(wanted),
+        RingStep::Look(wanted) => ring.look(other) == wanted,
+        RingStep::Take(wanted) => take(ring, flush) == wanted,
+        RingStep::TakeEight(first) => takes_eight(ring, flush, first),
+        RingStep::Publish(wanted) => publish(ring, flush) == wanted,
+        RingStep::Stop => {
+            ring.stop(flush);
+            true
+        }
+    }
+}
+
+// The place of the first step of which something else came.
+fn first_wrong<const SEATS: usize, const WINDOW: usize, const PLACES: usize>(
+    alloc: Global,
+    ring: &Ring<(), SEATS, WINDOW, PLACES>,
+    seat: &mut SessionSeat<(), WINDOW>,
+    other: &mut SessionSeat<(), WINDOW>,
+    flush: &mut FlushSeat<()>,
+    steps: &[RingStep],
+) -> Option<usize>
+    requires { (seat.old.ring ≡ ring.now) × (other.old.ring ≡ ring.now) × (flush.old.ring ≡ ring.now) }
+{
+    for (place, step) in steps.iter().enumerate() {
+        if !is_done(alloc, ring, seat, other, flush, *step) {
+            return Some(place);
+        }
+    }
+    None
+}
+
+// The same for two of the seats of a ring.
+fn first_wrong_of_two<const SEATS: usize, const WINDOW: usize, const PLACES: usize>(
+    alloc: Global,
+    ring: &Ring<(), SEATS, WINDOW, PLACES>,
+    seats: &mut Vec<SessionSeat<(), WINDOW>>,
+    flush: &mut FlushSeat<()>,
+    steps: &[RingStep],
+) -> Option<usize>
+    requires { All (λ seat. seat.ring ≡ ring.now) seats.old.items × (flush.old.ring ≡ ring.now) }
+{
+    match (seats.pop(), seats.pop()) {
+        (Some(mut seat), Some(mut other)) => first_wrong(
+            alloc, ring, &mut seat, &mut other, flush, steps,
+        ),
+        _ => Some(0),
+    }
+}
+
+/// Makes these steps at a new ring, whose first ticket is `base`.
+pub fn play<const SEATS: usize, const WINDOW: usize, const PLACES: usize>(
+    rt: &impl Abort,
+    alloc: Global,
+    base: u64,
+    steps: &[RingStep],
+) -> Result<(), AllocError>
+    requires limits { (1 ≤ SEATS) × (1 ≤ WINDOW) × (1 ≤ PLACES) × (SEATS * WINDOW ≤ PLACES) × (PLACES ≤ 4096) }
+    requires base { base ≤ 2 ^ 61 }
+{
+    let (ring, mut seats, mut flush) = Ring::<(), SEATS, WINDOW, PLACES>::new(alloc, base)?;
+    let wrong = first_wrong_of_two(alloc, &ring, &mut seats, &mut flush, steps);
+    assert_eq!(rt; wrong, None);
+    Ok(())
+}
+
+#[test]
+fn a_window_opens_again_when_the_mark_rises(rt: HostRuntime) -> Result<(), Fail> {
+    let steps = [
+        RingStep::AppendEight(0),
+        RingStep::Append(8, Answer::Back(Refused::Busy(0), Some(8))),
+        RingStep::TakeEight(0),
+        RingStep::Look(0),
+        RingStep::Publish(8),
+        RingStep::Look(8),
+        RingStep::Append(8, Answer::Ticket(8)),
+    ];
+    play::<32, 8, 256>(&rt, rt.alloc(), 0, &steps)?;
+    Ok(())
+}
+
+// Rounds of eight entries that are taken and published: the 33rd begins in the place in which the first did.
+#[test]
+fn tickets_go_round_the_256_places(rt: HostRuntime) -> Result<(), Fail> {
+    let mut steps = [RingStep::Stop; 99];
+    for round in 0..33usize {
+        let first = round as u64 * 8;
+        steps[3 * round] = RingStep::AppendEight(first);
+        steps[3 * round + 1] = RingStep::TakeEight(first);
+        steps[3 * round + 2] = RingStep::Publish(first + 8);
+    }
+    play::<32, 8, 256>(&rt, rt.alloc(), 0, &steps)?;
+    Ok(())
+}
+
+#[test]
+fn an_output_leaves_once_its_number_is_under_the_mark(rt: HostRuntime) -> Result<(), Fail> {
+    let steps = [
+        RingStep::Append(5, Answer::Ticket(0)),
+        RingStep::Take(Some(5)),
+        RingStep::Release(0, Err(NotYet(0))),
+        RingStep::Publish(1),
+        RingStep::Release(0, Ok(0)),
+        RingStep::Release(1, Err(NotYet(1))),
+    ];
+    play::<2, 2, 4>(&rt, rt.alloc(), 0, &steps)?;
+    Ok(())
+}
+
+#[test]
+fn a_small_ring_has_windows_of_its_own(rt: HostRuntime) -> Result<(), Fail> {
+    let steps = [
+        RingStep::Append(70, Answer::Ticket(0)),
+        RingStep::Append(71, Answer::Ticket(1)),
+        RingStep::Append(72, Answer::Back(Refused::Busy(0), Some(72))),
+        RingStep::Take(Some(70)),
+        RingStep::Take(Some(71)),
+        RingStep::Publish(2),
+        RingStep::Append(72, Answer::Ticket(2)),
+        RingStep::Append(73, Answer::Ticket(3)),
+        RingStep::Take(Some(72)),
+        RingStep::Take(Some(73)),
+        RingStep::Publish(4),
+        RingStep::Append(74, Answer::Ticket(4)),
+    ];
+    play::<2, 2, 4>(&rt, rt.alloc(), 0, &steps)?;
+    Ok(())
+}
+
+#[test]
+fn tickets_end_where_the_mark_is_two_to_the_60(rt: HostRuntime) -> Result<(), Fail> {
+    let steps = [
+        RingStep::Append(5, Answer::Back(Refused::Exhausted, Some(5))),
+        RingStep::Stop,
+        RingStep::Append(6, Answer::Back(Refused::Stopped, Some(6))),
+    ];
+    play::<32, 8, 256>(&rt, rt.alloc(), 1 << 60, &steps)?;
+    Ok(())
+}
+
+#[test]
+fn tickets_pass_two_to_the_60_while_the_mark_is_under_it(rt: HostRuntime) -> Result<(), Fail> {
+    let steps = [
+        RingStep::Append(5, Answer::Ticket(1_152_921_504_606_846_975)),
+        RingStep::Append(6, Answer::Ticket(1_152_921_504_606_846_976)),
+    ];
+    play::<32, 8, 256>(&rt, rt.alloc(), (1 << 60) - 1, &steps)?;
+    Ok(())
+}
+
+#[test]
+fn a_ring_with_no_seats_out_ends_where_it_began(rt: HostRuntime) -> Result<(), Fail> {
+    let (ring, seats, flush) = Ring::<(), 2, 2, 4>::new(rt.alloc(), 9)?;
+    let end = ring.close(seats, flush)?;
+    let same = RingEnd {
+        base: 9,
+        claimed: 9,
+        taken: 9,
+        mark: 9,
+    };
+    assert!(rt; end == same);
+    Ok(())
+}
+
+fn count_one(counts: &mut [u8], ticket: u64) {
+    if let Some(count_one) = counts.get_mut(ticket as usize) {
+        *count_one = count_one.saturating_add(1);
+    }
+}
+
+// Appends as many entries as the window takes, counts their tickets, and answers whether one more is refused as busy at mark 0.
+fn fill<const SEATS: usize, const WINDOW: usize, const PLACES: usize>(
+    alloc: Global,
+    ring: &Ring<(), SEATS, WINDOW, PLACES>,
+    seat: &mut SessionSeat<(), WINDOW>,
+    counts: &mut [u8],
+) -> bool
+    requires { seat.old.ring ≡ ring.now }
+    ensures { seat.new.ring ≡ ring.now }
+{
+    for number in 0..WINDOW as u64 {
+        if let Answer::Ticket(ticket) = append(alloc, ring, seat, number) {
+            count_one(counts, ticket);
+        }
+    }
+    append(alloc, ring, seat, 99) == Answer::Back(Refused::Busy(0), Some(99))
+}
+
+// How often each ticket came at these seats, or nothing unless every seat was then busy at mark 0.
+fn fill_all<const SEATS: usize, const WINDOW: usize, const PLACES: usize>(
+    alloc: Global,
+    ring: &Ring<(), SEATS, WINDOW, PLACES>,
+    seats: &mut [SessionSeat<(), WINDOW>],
+) -> Option<[u8; PLACES]>
+    requires { All (λ seat. seat.ring ≡ ring.now) seats.old }
+{
+    let mut counts = [0; PLACES];
+    let mut all_busy = true;
+    for place in 0..seats.len() {
+        all_busy = fill(alloc, ring, &mut seats[place], &mut counts) && all_busy;
+    }
+    if all_busy { Some(counts) } else { None }
+}
+
+fn sum_of<const PLACES: usize>(
+    ones: Option<[u8; PLACES]>,
+    others: Option<[u8; PLACES]>,
+) -> Option<[u8; PLACES]> {
+    let (mut sum, others) = (ones?, others?);
+    for (sum, other) in sum.iter_mut().zip(others.iter()) {
+        *sum = sum.saturating_add(*other);
+    }
+    Some(sum)
+}
+
+// The same, half of the seats in one thread, and the other half in another.
+fn fill_in_two_threads<
+    R: Threads + Wait + Sync,
+    const SEATS: usize,
+    const WINDOW: usize,
+    const PLACES: usize,
+>(
+    rt: &R,
+    alloc: Global,
+    ring: &Ring<(), SEATS, WINDOW, PLACES>,
+    seats: &mut [SessionSeat<(), WINDOW>],
+) -> Option<[u8; PLACES]>
+    requires { All (λ seat. seat.ring ≡ ring.now) seats.old }
+{
+    let (ones, others) = seats.split_at_mut(seats.len() / 2);
+    let (ones, others) = thread::join(
+        rt,
+        || -> Option<[u8; PLACES]>
+            requires { All (λ seat. seat.ring ≡ ring.now) ones.now }
+        { fill_all(alloc, ring, ones) },
+        || -> Option<[u8; PLACES]>
+            requires { All (λ seat. seat.ring ≡ ring.now) others.now }
+        { fill_all(alloc, ring, others) },
+    );
+    sum_of(ones, others)
+}
+
+// The same, a quarter in each of four threads.
+fn fill_in_four_threads<
+    R: Threads + Wait + Sync,
+    const SEATS: usize,
+    const WINDOW: usize,
+    const PLACES: usize,
+>(
+    rt: &R,
+    alloc: Global,
+    ring: &Ring<(), SEATS, WINDOW, PLACES>,
+    seats: &mut [SessionSeat<(), WINDOW>],
+) -> Option<[u8; PLACES]>
+    requires { All (λ seat. seat.ring ≡ ring.now) seats.old }
+{
+    let (ones, others) = seats.split_at_mut(seats.len() / 2);
+    let (ones, others) = thread::join(
+        rt,
+        || -> Option<[u8; PLACES]>
+            requires { All (λ seat. seat.ring ≡ ring.now) ones.now }
+        { fill_in_two_threads(rt, alloc, ring, ones) },
+        || -> Option<[u8; PLACES]>
+            requires { All (λ seat. seat.ring ≡ ring.now) others.now }
+        { fill_in_two_threads(rt, alloc, ring, others) },
+    );
+    sum_of(ones, others)
+}
+
+// In how many threads seats are filled.
+#[derive(Clone, Copy)]
+enum Threading {
+    One,
+    Two,
+    Four,
+}
+
+// Whether all seats of a new ring get each ticket once.
+fn each_ticket_comes_once<
+    R: Threads + Wait + Sync,
+    const SEATS: usize,
+    const WINDOW: usize,
+    const PLACES: usize,
+>(rt: &R, alloc: Global, threads: Threading) -> Result<bool, AllocError>
+    requires limits { (1 ≤ SEATS) × (1 ≤ WINDOW) × (1 ≤ PLACES) × (SEATS * WINDOW ≤ PLACES) × (PLACES ≤ 4096) }
+{
+    let (ring, mut seats, _flush) = Ring::<(), SEATS, WINDOW, PLACES>::new(alloc, 0)?;
+    let all = seats.as_mut_slice();
+    let counts = match threads {
+        Threading::One => fill_all(alloc, &ring, all),
+        Threading::Two => fill_in_two_threads(rt, alloc, &ring, all),
+        Threading::Four => fill_in_four_threads(rt, alloc, &ring, all),
+    };
+    Ok(counts.is_some_and(|counts| counts.iter().all(|count_one| *count_one == 1)))
+}
+
+#[test]
+fn thirty_two_seats_of_eight_get_each_of_256_tickets_once(rt: HostRuntime) -> Result<(), Fail> {
+    for threads in THREADS {
+        let once = each_ticket_comes_once::<_, 32, 8, 256>(&rt, rt.alloc(), threads)?;
+        assert!(rt; once);
+    }
+    Ok(())
+}
+
+#[test]
+fn the_brokers_64_seats_of_sixteen_get_each_of_1024_tickets_once(
+    rt: HostRuntime,
+) -> Result<(), Fail> {
+    for threads in THREADS {
+        let once = each_ticket_comes_once::<_, 64, 16, 1_024>(&rt, rt.alloc(), threads)?;
+        assert!(rt; once);
+    }
+    Ok(())
 }
