@@ -3,29 +3,11 @@
 #![tactic(auto)]
 
 #[cfg(test)]
-mod beginnings;
-#[cfg(test)]
 mod compacting_tests;
-#[cfg(test)]
-mod deeds;
-#[cfg(test)]
-mod failing_tests;
-#[cfg(test)]
-mod pace_tests;
 #[cfg(test)]
 mod random_tests;
 #[cfg(test)]
-mod refusal_tests;
-#[cfg(test)]
-mod room_tests;
-#[cfg(test)]
 mod schedule_tests;
-#[cfg(test)]
-mod schedules;
-#[cfg(test)]
-mod series;
-#[cfg(test)]
-mod setups;
 #[cfg(test)]
 mod slow_world;
 #[cfg(test)]
@@ -34,5 +16,3 @@ mod step_tests;
 mod stop_tests;
 #[cfg(test)]
 mod trials;
-#[cfg(test)]
-mod version_tests;

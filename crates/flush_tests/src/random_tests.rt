@@ -1,9 +1,9 @@
 //! Random events, wrong ones among them, against a world that is computed slowly.
 ghost use Rattle.std.specs.Prelude.{◌≢◌};
 
-use crate::schedules::{AREA, Pick, RECORDS, apply, numbers, old_world};
-use crate::setups::expect_none;
+use crate::schedule_tests::{AREA, Pick, RECORDS, apply, numbers, old_world};
 use crate::slow_world::SlowWorld;
+use crate::trials::expect_none;
 use std::alloc::{AllocError, Global};
 use world_core::{Call, CallKind, CallList, World};
 

@@ -1,6 +1,6 @@
 //! A world computed slowly, by the description of events and of the journal's bytes. Its only command is an Open, whose
 //! record has 11 bytes.
-use crate::schedules::AREA;
+use crate::schedule_tests::AREA;
 use std::alloc::{AllocError, Global};
 use world_core::{Call, CallKind, CallList, LastCall, Period};
 
