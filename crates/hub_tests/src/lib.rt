@@ -5,36 +5,12 @@
 #![tactic(auto)]
 
 #[cfg(test)]
-mod closing_tests;
-#[cfg(test)]
 mod desk;
-#[cfg(test)]
-mod endless_tests;
 #[cfg(test)]
 mod hubs;
 #[cfg(test)]
-mod links;
-#[cfg(test)]
-mod paces;
-#[cfg(test)]
-mod parts;
-#[cfg(test)]
-mod refusal_tests;
-#[cfg(test)]
-mod rows;
-#[cfg(test)]
-mod runs;
-#[cfg(test)]
-mod script_refusal_tests;
-#[cfg(test)]
 mod script_tests;
-#[cfg(test)]
-mod start_tests;
 #[cfg(test)]
 mod stream_tests;
 #[cfg(test)]
-mod texts;
-#[cfg(test)]
 mod thread_tests;
-#[cfg(test)]
-mod two_sessions_tests;

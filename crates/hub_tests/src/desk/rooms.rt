@@ -5,8 +5,7 @@ ghost use Rattle.hub_tests.specs.Parties.{AreTogether, MayFlush};
 
 use crate::desk::guests::{Client, Guest};
 use crate::desk::says::Say;
-use crate::hubs::{HubFlusher, HubRing, Party, close, new_party};
-use crate::paces::Free;
+use crate::hubs::{Free, HubFlusher, HubRing, Party, close, new_party};
 use clients::{Desk, Next};
 use engine_core::flush_loop;
 use outbox_core::Silent;
