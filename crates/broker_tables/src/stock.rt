@@ -1,6 +1,6 @@
 //! What waits, and for whom.
 
-ghost use Rattle.std.specs.Prelude.{◌≡◌, ◌^◌, [], nat_lt, ◌+◌, ◌≤◌, ◌∷◌, IfOk, OnOk, Some, drop, false, if◌then◌else◌, true, ◌<◌, IfSome, ◌==◌};
+ghost use Rattle.std.specs.Prelude.{◌≡◌, ◌^◌, [], nat_lt, ◌+◌, ◌≤◌, ◌∷◌, IfOk, OnOk, Some, drop, false, if◌then◌else◌, true, ◌<◌, IfSome, ◌==◌, MatchOption};
 ghost use Rattle.std.specs.BinaryHeap.{IsHeap, heap_items};
 ghost use Rattle.std.specs.Ordering.{as_partial_cmp, on};
 ghost use Rattle.std.proofs.Common.{rules};
@@ -16,8 +16,8 @@ ghost use Rattle.line_core.specs.Messages.{size_of};
 ghost use Rattle.broker_state.specs.Operations.{sent};
 ghost use Rattle.broker_state.specs.Parts.{find_room};
 ghost use Rattle.waiting_order.specs.Directories.{IsFirstFrom, is_in, members};
-ghost use Rattle.broker_tables.specs.Cursors.{IsReadiness, AreAwaited, IsReady, NoneReady, cursors_in};
-ghost use Rattle.broker_tables.specs.Scopes.{StandsWithin};
+ghost use Rattle.broker_tables.specs.Cursors.{IsReadiness, AreAwaited, IsReady, NoneReady, cursors_in, IsLeast, IsNearer};
+ghost use Rattle.broker_tables.specs.Scopes.{StandsWithin, IsPlaceWithin};
 ghost use Rattle.broker_tables.specs.Answers.{with_outs};
 ghost use Rattle.broker_tables.specs.Handing.{IsTold, LeavesLine, LetsGoIfAuto, MayGet, Serves};
 ghost use Rattle.broker_tables.specs.Places.{HoldsAtKey, StandsSo, with_changed};
@@ -209,10 +209,6 @@ impl Stock {
         }
         Ok(())
     }
-
-    ghost use Rattle.std.specs.Prelude.{◌≡◌, ◌<◌, ◌^◌, ◌∷◌, IfOk, IfSome, MatchOption, OnOk};
-    ghost use Rattle.broker_tables.specs.Cursors.{AreAwaited, IsLeast, IsNearer, IsReady, NoneReady, cursors_in};
-    ghost use Rattle.broker_tables.specs.Scopes.{IsPlaceWithin};
 
     /// The key of the first subscription in waiting order that can be served, if there is one. Cursors move on meanwhile. If memory is
     /// refused, one of them may be gone.

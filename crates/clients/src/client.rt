@@ -1,19 +1,29 @@
 //! One client at a desk.
 
-ghost use Rattle.std.specs.Prelude.{◌≡◌, None, Some, ◌≢◌, false, true, ℕ, Option, IfSome, ◌⊎◌};
+ghost use Rattle.std.specs.Prelude.{◌≡◌, None, Some, ◌≢◌, false, true, ℕ, Option, IfSome, ◌⊎◌, ◌∷◌, [], OnOk, OnErr, ◌≤◌};
 ghost use Rattle.command_core.specs.Entries.{EntryValue};
-ghost use Rattle.outbox_core.specs.Boxes.{SenderValue};
+ghost use Rattle.outbox_core.specs.Boxes.{SenderValue, TakerValue};
 ghost use Rattle.session_core.specs.Sessions.{HasForm};
 ghost use Rattle.session_core.specs.declared.session.Act.{TheVariants as acts};
 ghost use Rattle.clients.specs.Progress.{number_in, IsNext};
 ghost use Rattle.clients.specs.Boxes.{HasBox};
 ghost use Rattle.clients.specs.Keeping.{KeepsOwn, WaitsNext};
-ghost use Rattle.clients.specs.Answers.{IsPressing};
-ghost use Rattle.clients.specs.Histories.{Taken, Waits, Steady};
-ghost use Rattle.clients.specs.Connections.{Asks, IsSent, closed_by, loss_of, ConnectionValue, standing};
-ghost use Rattle.clients.specs.Concluding.{IsError};
+ghost use Rattle.clients.specs.Answers.{IsPressing, Answers, AwaitsBy, Heard, IsRest, IsSatisfied, Appended, IsQuiet, IsSeen, Leaves};
+ghost use Rattle.clients.specs.Histories.{Taken, Waits, Steady, Idles, LivesOn};
+ghost use Rattle.clients.specs.Connections.{Asks, IsSent, closed_by, loss_of, ConnectionValue, standing, Listens, connection_of, Fails, HearsBytes, Takes};
+ghost use Rattle.clients.specs.Concluding.{IsError, Concludes};
 ghost use Rattle.clients.specs.Conversations.{StaysOrEnds};
 ghost use Rattle.clients.specs.Relays.{ReadsMark};
+ghost use Rattle.clients.specs.declared.turned.Outcome.{Outcome};
+ghost use Rattle.clients.specs.declared.progress.Stage.TheVariants.{Running};
+ghost use Rattle.clients.specs.Steps.{GoesOn, CarriesOut, IsUnsaid, MayAppend, TakesStep, TellsIt};
+ghost use Rattle.clients.specs.Reports.{MayRead, Reports, SendsFew};
+ghost use Rattle.clients.specs.Clients.{Unserved, Stays, StaysBeside, Served};
+ghost use Rattle.clients.specs.declared.turned.Ended.{Ended};
+ghost use Rattle.clients.specs.Continues.{Continues};
+ghost use Rattle.clients.specs.Halting.{HasHalted, IsFinal};
+ghost use Rattle.clients.specs.Stages.{CanTell};
+ghost use Rattle.clients.specs.Refusals.{WaitsIfFull};
 
 use crate::acts::{Acts, charge, speak, weigh_op};
 use crate::footprint::Footprint;
@@ -155,18 +165,6 @@ impl<B: Bell> Client<B> {
         drop(mem::replace(&mut self.acts, Acts::none(alloc)));
         self.stage = self.stage.lost();
     }
-
-    ghost use Rattle.std.specs.Prelude.{◌≢◌, None, true};
-    ghost use Rattle.clients.specs.Answers.{Answers, AwaitsBy, Heard, IsRest, IsSatisfied};
-    ghost use Rattle.clients.specs.declared.turned.Outcome.{Outcome};
-    ghost use Rattle.clients.specs.Connections.{Listens, connection_of};
-    ghost use Rattle.clients.specs.declared.progress.Stage.TheVariants.{Running};
-    ghost use Rattle.clients.specs.Steps.{GoesOn};
-    ghost use Rattle.clients.specs.Histories.{Idles};
-    ghost use Rattle.clients.specs.Reports.{MayRead, Reports};
-    ghost use Rattle.clients.specs.Clients.{Unserved};
-    ghost use Rattle.clients.specs.declared.turned.Ended.{Ended};
-    ghost use Rattle.std.specs.Prelude.{ℕ};
 
     /// Lets the connection go on. What waits in its link is written, and its client is heard if nothing else is to be done first.
     /// What that asks for is appended, and what may leave is sent, all of it bounded. No call waits unless the link's calls do.
@@ -356,20 +354,6 @@ impl<B: Bell> Client<B> {
             None => Next::Read,
         }
     }
-
-    ghost use Rattle.std.specs.Prelude.{◌∷◌, ◌⊎◌, [], Some};
-    ghost use Rattle.outbox_core.specs.Boxes.{TakerValue};
-    ghost use Rattle.clients.specs.Answers.{Appended, IsQuiet, IsSeen, Leaves};
-    ghost use Rattle.clients.specs.Continues.{Continues};
-    ghost use Rattle.clients.specs.Connections.{connection_of};
-    ghost use Rattle.clients.specs.Conversations.{StaysOrEnds};
-    ghost use Rattle.clients.specs.Halting.{HasHalted, IsFinal};
-    ghost use Rattle.clients.specs.Stages.{CanTell};
-    ghost use Rattle.clients.specs.Refusals.{WaitsIfFull};
-    ghost use Rattle.clients.specs.Reports.{SendsFew};
-    ghost use Rattle.clients.specs.Steps.{CarriesOut, GoesOn, IsUnsaid, MayAppend, TakesStep, TellsIt};
-    ghost use Rattle.clients.specs.Histories.{LivesOn};
-    ghost use Rattle.clients.specs.Clients.{Stays};
 
     // Does what its client asked for, in order, until something has to wait or `ACTS` are done. Answers whether a command was appended,
     // and what the last act came to.
@@ -578,10 +562,6 @@ impl<B: Bell> Client<B> {
         Outcome::Done
     }
 
-    ghost use Rattle.std.specs.Prelude.{OnOk, OnErr};
-    ghost use Rattle.clients.specs.Connections.{Fails, HearsBytes, Listens, Takes, connection_of};
-    ghost use Rattle.clients.specs.Clients.{StaysBeside};
-
     // Hears its next bytes. If memory is refused, its connection is given up, and nothing that these bytes ask for is done.
     pub(crate) fn hear(&mut self, alloc: Global, bytes: &[u8]) -> Result<(), SessionFault>
         requires { Listens (connection_of self.old) }
@@ -613,15 +593,6 @@ impl<B: Bell> Client<B> {
             None => None,
         }
     }
-
-    ghost use Rattle.std.specs.Prelude.{[]};
-    ghost use Rattle.clients.specs.Concluding.{Concludes};
-    ghost use Rattle.clients.specs.Connections.{connection_of};
-    ghost use Rattle.clients.specs.Steps.{GoesOn};
-    ghost use Rattle.clients.specs.Histories.{Idles};
-    ghost use Rattle.clients.specs.Reports.{SendsFew};
-    ghost use Rattle.clients.specs.Clients.{Served};
-    ghost use Rattle.std.specs.Prelude.{◌≤◌};
 
     // Sends what may leave, until nothing more may or so much was sent. A link that has not taken all before gets nothing more. Answers
     // `Outcome::Rest` if nothing more may leave.
