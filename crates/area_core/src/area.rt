@@ -1,29 +1,15 @@
 //! The live area of a journal.
 
-ghost use Rattle.std.specs.Prelude.{◌≡◌, ◌+◌, ◌*◌, ◌%◌, ◌<◌, ◌≤◌, ◌^◌, ◌↔◌, IsTrue, ◌≢◌, [], length, OnOk, false, take, drop, IfErr, IfOk, OnErr, IsErrOf, ℕ, List};
-ghost use Rattle.std.specs.Int.{w64, to_be_bytes};
-ghost use Rattle.disk_core.specs.Calls.{Lasts, Throughout};
-ghost use Rattle.disk_core.specs.Images.{Torn};
-ghost use Rattle.disk_core.specs.declared.file.TheConstants.{SLACK_AT, SLACK_BYTES};
-ghost use Rattle.command_core.specs.Commands.{CommandValue};
-ghost use Rattle.area_core.specs.Areas.{number, commands, word_of};
-ghost use Rattle.area_core.specs.Journals.{is_odd, other, start, Reads};
-ghost use Rattle.area_core.specs.Calls.{Adds, Breaks, InPlace, RefusesBlock, BreaksWhole, InPlaceTo, IsReady, NeedsNothing, Overwrites, WritesClosed, WritesNext, Switches, WritesIdle};
-ghost use Rattle.area_core.specs.Steps.{IsBeforeOrAfter, HasNoRoom};
-ghost use Rattle.area_core.specs.Closing.{closing};
-ghost use Rattle.area_core.specs.Switches.{KeepsRest, IsSwitching, IsWriting};
-ghost use Rattle.area_core.specs.Damage.{IsBlockTold, IsFrontTold, IsLengthTold, IsReadCaused, IsWordTold};
-ghost use Rattle.area_core.specs.Held.{LiesOn, gate_at};
-ghost use Rattle.area_core.specs.Reading.{GoesOn, IsPast, MovesGate, ReadsNext, ReadsOnly};
-ghost use Rattle.area_core.specs.declared.version.Version.{Version};
+ghost use Rattle.std.specs.Prelude.{◌≡◌, ◌+◌, ◌*◌, ◌%◌, ◌<◌, ◌≤◌, ◌^◌, ◌↔◌, IsTrue};
+ghost use Rattle.area_core.specs.Areas.{number};
+ghost use Rattle.area_core.specs.Journals.{is_odd, other, start};
 
-use crate::batch::{block_of, commands_of, records_len};
+use crate::batch::{block_of, records_len};
 use crate::closing::next_closed;
-use crate::header::{fetch, fetch_bytes, fetch_number, header};
 use crate::pieces::Pieces;
 use crate::put::{COUNTED, put, put_behind_gate};
-use crate::{AreaFault, ReadFault, Version};
-use command_core::{Command, Entry};
+use crate::{AreaFault, Version};
+use command_core::Entry;
 use disk_core::Disk;
 use std::alloc::Global;
 
@@ -45,6 +31,14 @@ pub struct Area {
 }
 
 impl Area {
+    ghost use Rattle.std.specs.Prelude.{◌≢◌, ◌+◌, ◌*◌, ◌≤◌, [], length, OnOk, ◌<◌, ◌^◌, ◌≡◌, OnErr, IsErrOf};
+    ghost use Rattle.disk_core.specs.Calls.{Lasts, Throughout};
+    ghost use Rattle.area_core.specs.Areas.{commands};
+    ghost use Rattle.area_core.specs.Calls.{Adds, Breaks, InPlace, RefusesBlock, BreaksWhole, InPlaceTo, IsReady, NeedsNothing, Overwrites, WritesClosed, WritesNext, Switches, WritesIdle};
+    ghost use Rattle.area_core.specs.Steps.{IsBeforeOrAfter, HasNoRoom};
+    ghost use Rattle.area_core.specs.Closing.{closing};
+    ghost use Rattle.area_core.specs.Switches.{KeepsRest, IsSwitching, IsWriting};
+
     // Where it begins on the disk.
     pub(crate) fn begins(&self) -> u64
         ensures { result ≡ start self.now.size (is_odd self.now.selector) }
@@ -244,86 +238,6 @@ impl Area {
         Ok(())
     }
 
-    /// The live area at its first gate, before any block is read, and the bytes of its snapshot. Nothing is written.
-    pub fn front<D: Disk>(alloc: Global, disk: &mut D) -> Result<(Area, Vec<u8>), ReadFault>
-        ensures front { D.honest disk.old →
-            IfOk result (λ r. IsPast r.0 r.1.items [] (D.content disk.old)) }
-        ensures refused { D.honest disk.old → IfErr result (λ fault. IsFrontTold fault (D.content disk.old)) }
-        ensures whole { IfOk result (λ r. r.0.broken ≡ false) }
-        ensures least { IfOk result (λ r. 4096 ≤ r.0.size) }
-        ensures room { IfOk result (λ r. 32 + 2 * r.0.size ≤ length (D.content disk.new)) }
-        ensures reads { ReadsOnly D.Disk disk.old disk.new }
-        ensures cause { IsReadCaused (D.failures disk.old) (D.failures disk.new) result }
-    {
-        let (size, selector) = header(disk)?;
-        let mut area = Area {
-            version: Version::Two,
-            size,
-            selector,
-            gate: 8,
-            written: 0,
-            broken: false,
-        };
-        let base = area.begins();
-        let (version, length) = first_word(disk, base, size)?;
-        let snapshot = fetch_bytes(alloc, disk, base + 8, length)?;
-        area.version = version;
-        area.gate = 8 + length;
-        Ok((area, snapshot))
-    }
-
-    // How many bytes the records behind the gate at that place of the disk have. The gate is open.
-    fn block_len<D: Disk>(&self, disk: &mut D, at: u64) -> Result<u64, ReadFault>
-        requires room { LiesOn self.now (D.content disk.old) }
-        requires place { at ≡ gate_at self.now }
-        ensures told { D.honest disk.old →
-            IfOk result (λ n. take 8 (drop (at + 1) (D.content disk.old)) ≡ to_be_bytes w64 n) }
-        ensures some { IfOk result (λ n. 1 ≤ n) }
-        ensures fits { IfOk result (λ n. self.now.gate + 10 + n ≤ self.now.size) }
-        ensures refused { D.honest disk.old → IfErr result (λ fault. IsLengthTold fault self.now (D.content disk.old)) }
-        ensures reads { ReadsOnly D.Disk disk.old disk.new }
-        ensures cause { IsReadCaused (D.failures disk.old) (D.failures disk.new) result }
-    {
-        let left = self.size - self.gate;
-        if left < 10 {
-            return Err(ReadFault::Damaged(at + 1));
-        }
-        let count = fetch_number(disk, at + 1)?;
-        if count == 0 || count > left - 10 {
-            return Err(ReadFault::Damaged(at + 1));
-        }
-        Ok(count)
-    }
-
-    /// The commands of the next block, or `None` at the first closed gate. Nothing is written. After a refusal the area is where it was.
-    pub fn next_block<D: Disk>(
-        &mut self,
-        alloc: Global,
-        disk: &mut D,
-    ) -> Result<Option<Vec<Command>>, ReadFault>
-        requires room { LiesOn self.old (D.content disk.old) }
-        ensures block { D.honest disk.old →
-            IfOk result (ReadsNext (λ commands. commands.items) self.old self.new (D.content disk.old)) }
-        ensures refused { D.honest disk.old → IfErr result (λ fault. IsBlockTold fault self.old (D.content disk.old)) }
-        ensures same { OnErr result (self.new ≡ self.old) }
-        ensures grows { IfOk result (MovesGate self.old self.new) }
-        ensures place { GoesOn self.old self.new }
-        ensures reads { ReadsOnly D.Disk disk.old disk.new }
-        ensures cause { IsReadCaused (D.failures disk.old) (D.failures disk.new) result }
-    {
-        let at = self.begins() + self.gate;
-        let mut gate = [0];
-        fetch(disk, at, &mut gate)?;
-        if gate[0] != 1 {
-            return Ok(None);
-        }
-        let count = self.block_len(disk, at)?;
-        let bytes = fetch_bytes(alloc, disk, at + 9, count)?;
-        let commands = commands_of(alloc, &bytes, at + 9)?;
-        self.gate += 9 + count;
-        Ok(Some(commands))
-    }
-
     /// Writes a snapshot into the area that is not live, which is then of the second version, whatever it was before. It writes pieces of
     /// 65,536 bytes, each by one call of the disk, and then syncs. A stop at any moment leaves every byte outside that area as it was, and
     /// so the live area too. `Full` comes before the first call, if the snapshot doesn't fit or has 2^56 bytes or more. If memory is
@@ -388,40 +302,3 @@ impl Area {
         Ok(())
     }
 }
-
-// The version of the area of `size` bytes that begins at that place, and how many bytes its snapshot has. It reports an unknown version
-// before it looks whether the snapshot fits.
-fn first_word<D: Disk>(disk: &mut D, at: u64, size: u64) -> Result<(Version, u64), ReadFault>
-    requires room { at + 8 ≤ length (D.content disk.old) }
-    requires least { 9 ≤ size }
-    ensures told { D.honest disk.old →
-        IfOk result (λ r. take 8 (drop at (D.content disk.old)) ≡ to_be_bytes w64 (word_of r.0 r.1)) }
-    ensures seven { IfOk result (λ r. r.1 < 2 ^ 56) }
-    ensures fits { IfOk result (λ r. r.1 + 9 ≤ size) }
-    ensures refused { D.honest disk.old → IfErr result (λ fault. IsWordTold fault at size (D.content disk.old)) }
-    ensures reads { ReadsOnly D.Disk disk.old disk.new }
-    ensures cause { IsReadCaused (D.failures disk.old) (D.failures disk.new) result }
-{
-    let word = fetch_number(disk, at)?;
-    let Some(version) = Version::of(word / COUNTED) else {
-        return Err(ReadFault::Damaged(at));
-    };
-    let length = word % COUNTED;
-    if length > size - 9 {
-        return Err(ReadFault::Damaged(at));
-    }
-    Ok((version, length))
-}
-
-/// An image has at most one reading: one version, one length of areas, one live area, one snapshot, the same blocks. The function does
-/// nothing.
-pub fn an_image_has_one_reading()
-    ensures { (v w : Version) (a b i j : ℕ) (s t : List ℕ) (xs ys : List (List CommandValue)) (image : List ℕ) →
-        Reads v a i s xs image → Reads w b j t ys image → (v ≡ w) × (a ≡ b) × (i ≡ j) × (s ≡ t) × (xs ≡ ys) }
-{}
-
-/// The bytes that a file's disk writes back with its first sync mean nothing: with any bytes in their place an image reads as the same journal.
-/// The function does nothing.
-pub fn bytes_that_are_written_back_are_not_read()
-    ensures { (version : Version) (size selector : ℕ) (snapshot : List ℕ) (blocks : List (List CommandValue)) (image torn : List ℕ) → Torn SLACK_AT SLACK_BYTES image torn → Reads version size selector snapshot blocks image → Reads version size selector snapshot blocks torn }
-{}

@@ -8,14 +8,17 @@ mod closing;
 mod faults;
 mod formatting;
 mod header;
+mod law;
 mod naming;
 mod pieces;
 mod put;
+mod reading;
 mod version;
 
-pub use area::{Area, an_image_has_one_reading, bytes_that_are_written_back_are_not_read};
+pub use area::Area;
 pub use faults::{AreaFault, FormatFault, ReadFault};
 pub use formatting::{MakeFault, format, header_of, make};
+pub use law::{an_image_has_one_reading, bytes_that_are_written_back_are_not_read};
 pub use pieces::{LentBytes, Pieces};
 pub use put::{closed, closed_snapshot};
 pub use version::Version;

@@ -20,7 +20,7 @@ use Rattle.waiting_order.specs.declared.groups.Place.{Place}
 use Rattle.waiting_order.specs.declared.waiters.Waiter.{Waiter}
 use Rattle.waiting_order.specs.Waiting.{IsOrdered, subs_of}
 use Rattle.waiting_order.proofs.Rising.{rising_at}
-use Rattle.broker_tables.specs.declared.stock.Cursor.{Cursor}
+use Rattle.broker_tables.specs.declared.cursors.Cursor.{Cursor}
 use Rattle.broker_tables.specs.declared.due.Due.{Due}
 use Rattle.broker_tables.specs.declared.due.Scope.{Scope}
 use Rattle.broker_tables.specs.declared.due.Scope.TheVariants.{Session, Group}

@@ -13,7 +13,7 @@ use Rattle.waiting_order.specs.declared.waiters.Waiter.{Waiter}
 use Rattle.waiting_order.specs.Directories.{AreAlike, IsFirstFrom, IsNext, NoneFrom, behind_in, is_behind, is_in}
 use Rattle.waiting_order.specs.Waiting.{IsOrdered, Waiting}
 use Rattle.waiting_order.proofs.Rising.{rising_before}
-use Rattle.broker_tables.specs.declared.stock.Cursor.{Cursor}
+use Rattle.broker_tables.specs.declared.cursors.Cursor.{Cursor}
 use Rattle.broker_tables.specs.declared.due.Due.{Due}
 use Rattle.broker_tables.specs.declared.due.Scope.{Scope}
 use Rattle.broker_tables.specs.Cursors.{AwaitAllDue, is_ahead, is_awaited}

@@ -17,7 +17,7 @@ use Rattle.broker_state.proofs.Serving.{serves, settled_none}
 use Rattle.waiting_order.specs.declared.waiters.Key.{Key}
 use Rattle.waiting_order.specs.Waiting.{IsOrdered, Waiting, subs_of}
 use Rattle.waiting_order.proofs.Keeping.{subs_pushed}
-use Rattle.broker_tables.specs.declared.stock.Cursor.{Cursor}
+use Rattle.broker_tables.specs.declared.cursors.Cursor.{Cursor}
 use Rattle.broker_tables.specs.declared.stock.Stock.{Stock}
 use Rattle.broker_tables.specs.Cursors.{AreAwaited}
 use Rattle.broker_tables.specs.Handing.{IsServed}

@@ -1,7 +1,7 @@
 -- Which of two cursors comes first.
 use Rattle.std.specs.Ordering.{nat_cmp}
 use Rattle.std.specs.declared.cmp.Ordering.{Ordering}
-use Rattle.broker_tables.specs.declared.stock.Cursor.{Cursor}
+use Rattle.broker_tables.specs.declared.cursors.Cursor.{Cursor}
 
 -- the one with the lesser ticket is the greater
 abbrev pub cursor_cmp : Cursor → Cursor → Ordering

@@ -3,8 +3,8 @@ use Rattle.std.specs.List.{AllByRecursion, list_any, sum_by}
 use Rattle.std.specs.BinaryHeap.{heap_items}
 use Rattle.broker_state.specs.HandOut.{can_take}
 use Rattle.broker_state.specs.Parts.{NonePass}
-use Rattle.broker_tables.specs.declared.stock.Cursor.{Cursor}
-use Rattle.broker_tables.specs.declared.stock.Cursors.{Cursors}
+use Rattle.broker_tables.specs.declared.cursors.Cursor.{Cursor}
+use Rattle.broker_tables.specs.declared.cursors.Cursors.{Cursors}
 use Rattle.broker_tables.specs.declared.due.Due.{Due}
 use Rattle.broker_tables.specs.declared.stock.Stock.{Stock}
 use Rattle.broker_tables.specs.Dues.{is_due}

@@ -3,6 +3,7 @@
 #![tactic(auto)]
 
 mod answers;
+mod cursors;
 mod due;
 mod durable_names;
 mod messages;

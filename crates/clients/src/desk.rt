@@ -53,8 +53,7 @@ impl<B: Bell, L> Model for Desk<B, L> {
 }
 
 impl<B: Bell, L: Link + Drop> Desk<B, L> {
-    ghost use Rattle.std.specs.Prelude.{[], OnErr, IsSome, true};
-    ghost use Rattle.std.specs.Prelude.{◌≤◌};
+    ghost use Rattle.std.specs.Prelude.{[], OnErr, IsSome, true, ◌≤◌};
     ghost use Rattle.claim_core.specs.Seats.{with_seen};
     ghost use Rattle.clients.specs.Conversations.{Converse};
     ghost use Rattle.clients.specs.Connections.{evicted, with_given_up, with_lost};

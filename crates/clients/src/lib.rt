@@ -14,6 +14,7 @@ mod read_budget;
 mod relaying;
 mod timers;
 mod turned;
+mod turning;
 mod wakers;
 
 pub use client::Client;

@@ -6,7 +6,7 @@ ghost use Rattle.std.specs.Fmt.{decimal};
 ghost use Rattle.std.specs.List.{AllByRecursion, flat_map, sum_by};
 ghost use Rattle.frame_core.specs.Writable.{Writable, first_of};
 ghost use Rattle.frame_core.specs.Written.{written, IsText, written_header};
-ghost use Rattle.frame_core.specs.declared.frame.Verb.{TheVariants as verbs};
+ghost use Rattle.frame_core.specs.declared.frame.Verb.TheVariants as verbs;
 ghost use Rattle.frame_core.specs.Words.{word_bytes};
 ghost use Rattle.command_core.specs.Outs.{weight_of, header_bytes};
 ghost use Rattle.command_core.specs.Replies.{message_frame, receipt_frame, ack_header, message_id, connected, error_frame, receipt_header};

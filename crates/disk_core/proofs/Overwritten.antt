@@ -6,7 +6,7 @@ use Rattle.std.proofs.lemmas.List.Edits.{length-between, get_or-between}
 use Rattle.std.proofs.lemmas.List.Elements.{All-push, All-cons, All-nil}
 use Rattle.std.proofs.lemmas.Bool.{cases_lt}
 use Rattle.disk_core.specs.Images.{patched, Torn, IsImage, Follows, Frees}
-use Rattle.disk_core.specs.declared.disk.Call.{Call}
+use Rattle.disk_core.specs.declared.call.Call.{Call}
 use Rattle.disk_core.specs.declared.span.Span.{Span}
 use Rattle.disk_core.specs.Kept.{IsKept}
 use Rattle.disk_core.specs.Moments.{Elapses}

@@ -1,7 +1,7 @@
 -- What a sync does to the images, and the history that it adds to.
 use Rattle.std.proofs.Common.{◌≡◌, ◌⊎◌, inl, inr, ℕ, List, [], ◌∷◌, ◌++◌, length, drop, Option, None, sym, ap, refl, subst, arith}
 use Rattle.std.proofs.lemmas.List.{ext_get_or, drop-append-le, length_push, get_or-replicate}
-use Rattle.disk_core.specs.declared.disk.Call.{Call}
+use Rattle.disk_core.specs.declared.call.Call.{Call}
 use Rattle.disk_core.specs.Images.{IsImage, Only}
 use Rattle.disk_core.specs.Moments.{Elapses}
 use Rattle.disk_core.specs.Memory.{Memory, none_held, crashed, synced_before, HadImage, HadSince}

@@ -1,6 +1,6 @@
 -- What one call of an open file leaves.
 use Rattle.std.specs.Prelude.{◌≡◌, ◌++◌, ◌∷◌, [], ℕ, List, Result, IfOk, OnErr}
-use Rattle.disk_core.specs.declared.file.FileEvent.{FileEvent}
+use Rattle.disk_core.specs.declared.synced_file.FileEvent.{FileEvent}
 use Rattle.disk_core.specs.Faults.{HasCause}
 
 -- A call adds its event if it succeeds, and one to the failures if it fails.

@@ -2,7 +2,7 @@
 use Rattle.std.specs.Prelude.{◌≡◌, ◌⊎◌, ◌<◌, ℕ, ◌+◌, List, [], ◌∷◌, ◌++◌, length, drop, replicate, slice_index, Option, Some, None, unwrap_or, refl}
 use Rattle.std.proofs.Common.{inl, inr}
 use Rattle.std.specs.List.{between}
-use Rattle.disk_core.specs.declared.disk.Call.{Call}
+use Rattle.disk_core.specs.declared.call.Call.{Call}
 use Rattle.disk_core.specs.Faults.{IsOneMore}
 use Rattle.disk_core.specs.Images.{patched, IsImage, IsStable}
 use Rattle.disk_core.specs.Moments.{Elapses}

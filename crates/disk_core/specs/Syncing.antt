@@ -5,10 +5,10 @@ use Rattle.disk_core.specs.declared.loss.Known.{Known}
 use Rattle.disk_core.specs.declared.loss.Node.{Node}
 use Rattle.disk_core.specs.declared.naming.Look.{Look}
 use Rattle.disk_core.specs.declared.naming.Noted.{Noted}
-use Rattle.disk_core.specs.declared.file.FileEvent.{FileEvent}
-use Rattle.disk_core.specs.declared.file.FileEvent.TheVariants.{FolderIs, PathIs, SizeIs, Synced, WrittenAt, WroteBack}
+use Rattle.disk_core.specs.declared.synced_file.FileEvent.{FileEvent}
+use Rattle.disk_core.specs.declared.synced_file.FileEvent.TheVariants.{FolderIs, PathIs, SizeIs, Synced, WrittenAt, WroteBack}
 use Rattle.disk_core.specs.declared.file.SyncKept.{SyncKept}
-use Rattle.disk_core.specs.declared.file.SyncedFile.{Ghosts}
+use Rattle.disk_core.specs.declared.synced_file.SyncedFile.{Ghosts}
 use Rattle.disk_core.specs.Faults.{IsOneMore}
 use Rattle.disk_core.specs.Losses.{IsJudged}
 use Rattle.disk_core.specs.Naming.{IsCounted, IsOf, StandsFor}

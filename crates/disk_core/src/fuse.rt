@@ -5,7 +5,7 @@ ghost use Rattle.disk_core.specs.Calls.{ReadsAt, Syncs, WritesAt};
 ghost use Rattle.disk_core.specs.Faults.{HasCause, IsOneMore};
 ghost use Rattle.disk_core.specs.Images.{patched};
 
-use crate::disk::fail;
+use crate::call::fail;
 use crate::{DeviceFault, Disk};
 
 /// A disk that passes a number of calls on, and fails every later one.

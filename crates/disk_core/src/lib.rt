@@ -3,6 +3,7 @@
 //! a file.
 #![tactic(auto)]
 
+mod call;
 mod disk;
 mod file;
 mod fuse;
@@ -10,13 +11,14 @@ mod loss;
 mod memory;
 mod naming;
 mod span;
+mod synced_file;
 
-pub use disk::{Call, DeviceFault, Disk, publish};
-pub use file::{
-    FileAt, FileDisk, FileEvent, OpenError, SLACK_AT, SLACK_BYTES, SyncKept, SyncedFile, sync_by,
-};
+pub use call::{Call, DeviceFault, publish};
+pub use disk::Disk;
+pub use file::{FileAt, FileDisk, OpenError, SLACK_AT, SLACK_BYTES, SyncKept, sync_by};
 pub use fuse::{FailOnce, FuseDisk};
 pub use loss::{DeviceCause, HEADER_BYTES, Known, Node};
 pub use memory::MemDisk;
 pub use naming::Noted;
 pub use span::{is_image, overwrite, release};
+pub use synced_file::{FileEvent, SyncedFile};

@@ -5,7 +5,7 @@ ghost use Rattle.disk_core.specs.Losses.{IsJudged, IsLoss, cause_by, expected, f
 ghost use Rattle.disk_core.specs.declared.loss.TheConstants.{HEADER_BYTES};
 
 use crate::DeviceFault;
-use crate::disk::fail;
+use crate::call::fail;
 use std::fs::Metadata;
 use std::io;
 use std::io::ErrorKind;

@@ -3,11 +3,11 @@
 ghost use Rattle.std.specs.Prelude.{◌≡◌, ◌+◌, ◌≤◌, ◌↔◌, false, length, take, drop, IfOk, IsTrue, OnOk, OnErr, ⊤, ℕ, List, Option};
 ghost use Rattle.std.proofs.Common.{inl};
 ghost use Rattle.disk_core.specs.Images.{Frees, IsImage, Only, Torn, Within};
-ghost use Rattle.disk_core.specs.declared.disk.Call.TheVariants.{Read, Write, Sync};
+ghost use Rattle.disk_core.specs.declared.call.Call.TheVariants.{Read, Write, Sync};
 ghost use Rattle.disk_core.specs.Memory.{Ages, Memory, Fails, fresh, after_crash, called, restarted_with, synced, written, HadSince, only_now, reads_image};
 ghost use Rattle.disk_core.specs.Spans.{IsCover};
 
-use crate::disk::{Call, fail, record, tell};
+use crate::call::{Call, fail, record, tell};
 use crate::span::{Span, add, is_image, overwrite, put_all_back, release_all};
 use crate::{DeviceFault, Disk};
 use std::alloc::{AllocError, Global};

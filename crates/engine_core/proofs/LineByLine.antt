@@ -7,7 +7,7 @@ use Rattle.disk_core.specs.Memory.{Memory}
 use Rattle.engine_core.specs.OfQueue.{of_queue}
 use Rattle.engine_core.specs.StepFaults.{IsLineTold}
 use Rattle.engine_core.specs.Runs.{Goes, Halts, IsCause, IsNext, IsTooLong, StopsIn}
-use Rattle.engine_core.specs.declared.run.Run.{Run}
+use Rattle.engine_core.specs.declared.so_far.Run.{Run}
 use Rattle.engine_core.specs.declared.fault.QueueFault.{QueueFault}
 use Rattle.engine_core.specs.declared.fault.QueueFault.TheVariants as queue
 use Rattle.engine_core.specs.declared.fault.ScriptFault.{ScriptFault}

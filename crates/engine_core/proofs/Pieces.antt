@@ -9,7 +9,7 @@ use Rattle.engine_core.specs.declared.script.Script.{Script}
 use Rattle.engine_core.specs.Scripts.{Takes, IsLine, HasNoLf, HasNoLine, HasLineTooFar, disk_of, text_of_lines}
 use Rattle.engine_core.specs.StepFaults.{HasLineNotOpened, HasLineNotStored}
 use Rattle.engine_core.specs.Runs.{Goes, Halts, IsCause, IsNext, IsTooLong, StopsIn}
-use Rattle.engine_core.specs.declared.run.Run.{Run}
+use Rattle.engine_core.specs.declared.so_far.Run.{Run}
 use Rattle.engine_core.specs.declared.fault.ScriptFault.{ScriptFault}
 use Rattle.engine_core.specs.declared.fault.ScriptFault.TheVariants.{NotUnderstood, CountTooLarge, Opening, Storing, Input, Output}
 use Rattle.engine_core.specs.declared.fault.ScriptFault.TheVariants as faults

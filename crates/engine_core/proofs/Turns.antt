@@ -11,7 +11,7 @@ use Rattle.engine_core.specs.StepFaults.{IsNotOpened}
 use Rattle.engine_core.specs.Runs.{Begins, EndsBefore, EndsWithin, Goes, Halts, IsCause, IsNext, IsToldAtOnce, Stopped, Stops, StopsIn, StopsOver, Turned}
 use Rattle.engine_core.specs.declared.script.Script.{Script}
 use Rattle.engine_core.specs.declared.script.Script.TheVariants.{Running}
-use Rattle.engine_core.specs.declared.run.Run.{Run}
+use Rattle.engine_core.specs.declared.so_far.Run.{Run}
 use Rattle.engine_core.specs.declared.fault.ScriptFault.{ScriptFault}
 use Rattle.engine_core.specs.declared.fault.ScriptFault.TheVariants.{NotUnderstood, CountTooLarge, Opening, Storing, Input, Output}
 use Rattle.engine_core.specs.declared.fault.ScriptFault.TheVariants as faults

@@ -10,7 +10,7 @@ use Rattle.engine_core.specs.declared.fault.ScriptFault.TheVariants.{NotUndersto
 use Rattle.engine_core.specs.declared.fault.ScriptFault.TheVariants as faults
 use Rattle.engine_core.specs.declared.script.Script.{Script}
 use Rattle.engine_core.specs.declared.script.Script.TheVariants.{Running}
-use Rattle.engine_core.specs.declared.run.Run.{Run}
+use Rattle.engine_core.specs.declared.so_far.Run.{Run}
 
 -- a run before the first read, over this disk
 pub record IsBegun (disk : Memory) (run : Run) : Type 0 where

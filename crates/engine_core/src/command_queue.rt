@@ -54,11 +54,11 @@ impl Model for CommandQueue {
 }
 
 impl CommandQueue {
+    ghost use Rattle.std.specs.Prelude.{[]};
     ghost use Rattle.engine_core.specs.OfQueue.{IsMemory};
     ghost use Rattle.engine_core.specs.Refusals.{RefusesCommand, RefusesFlush};
     ghost use Rattle.engine_core.specs.StepFaults.{IsStepTold};
     ghost use Rattle.engine_core.specs.Queues.{IsNumbered, StaysCalm, flushed, flush_text, with_room, room_text, CountsTooFar, number_for, as_command, is_full, with_command};
-    ghost use Rattle.std.specs.Prelude.{[]};
 
     /// A queue in which nothing waits, over a journal that was just opened. No memory is taken.
     pub fn over(alloc: Global, journal: Journal<MemDisk>) -> CommandQueue

@@ -13,6 +13,7 @@ mod printing;
 mod run;
 mod running_script;
 mod script;
+mod so_far;
 mod working;
 
 pub use area_core::format;

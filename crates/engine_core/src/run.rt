@@ -5,7 +5,7 @@ ghost use Rattle.std.specs.List.{AllByRecursion};
 ghost use Rattle.std.specs.Io.KnownBytes.{Appends, Consumes, IsAtEnd};
 ghost use Rattle.disk_core.specs.Memory.{Memory};
 ghost use Rattle.broker_core.specs.States.{State};
-ghost use Rattle.engine_core.specs.Scripts.{IsLine, IsOpenedAs, HasNoLf, IsScript, disk_of, is_there};
+ghost use Rattle.engine_core.specs.Scripts.{IsLine, IsOpenedAs, HasNoLf, IsScript, disk_of};
 ghost use Rattle.engine_core.specs.StepFaults.{IsNotOpened};
 ghost use Rattle.engine_core.specs.Runs.{Goes, IsBegun, StopsIn, StopsOver, IsTooLong, Turned, Stopped};
 
@@ -13,6 +13,7 @@ use crate::fault::ScriptFault;
 use crate::journal::Journal;
 use crate::running_script::RunningScript;
 use crate::script::Script;
+use crate::so_far::Run;
 use disk_core::MemDisk;
 use memchr::memchr;
 use recover_core::OpenFault;
@@ -276,13 +277,4 @@ fn write_some<'a, W: Write>(writer: &mut W, rest: &'a [u8]) -> Result<&'a [u8], 
             Ok(rest)
         }
     }
-}
-
-/// A script while its bytes are read: how far it has run, the line that has begun, and how many lines were whole.
-#[derive(Drop)]
-pub struct Run {
-    pub script: Script,
-    pub begun: Vec<u8>,
-    pub lines: u64,
-    ghost there: { is_there script ≡ true },
 }

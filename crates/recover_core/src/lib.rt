@@ -2,6 +2,7 @@
 
 #![tactic(auto)]
 
+mod compacting;
 mod faults;
 mod law;
 mod making;

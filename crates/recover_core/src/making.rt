@@ -7,8 +7,8 @@ ghost use Rattle.area_core.specs.Making.{IsMakeCaused, IsMaking};
 ghost use Rattle.recover_core.specs.Compactions.{HasNoRoomFor};
 ghost use Rattle.recover_core.specs.Standing.{StandFor, Stands};
 
+use crate::compacting::has_room_for;
 use crate::snapshot::Snapshot;
-use crate::store::has_room_for;
 use area_core::{MakeFault, make};
 use broker_core::Broker;
 use disk_core::Disk;

@@ -5,8 +5,8 @@ use Rattle.std.proofs.lemmas.List.{get_or-set_other}
 use Rattle.std.proofs.lemmas.List.Elements.{AllWithin-more_set, All-from_all_within, All-weaker}
 use Rattle.server_core.specs.Sweeps.{Follows, HasBegun, HaveAllDone, MayAllDo}
 use Rattle.server_core.specs.declared.service.Service.{Service}
-use Rattle.server_core.specs.declared.service.Sweep.{Sweep}
-use Rattle.server_core.specs.declared.service.Sweep.TheVariants.{Begin, Pass, End, Part}
+use Rattle.server_core.specs.declared.sweep.Sweep.{Sweep}
+use Rattle.server_core.specs.declared.sweep.Sweep.TheVariants.{Begin, Pass, End, Part}
 
 -- whatever was done before, a round may begin
 begins_after : (before begin : Sweep) → HasBegun begin → Follows before begin

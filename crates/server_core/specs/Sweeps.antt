@@ -2,8 +2,8 @@
 use Rattle.std.specs.Prelude.{◌≡◌, List}
 use Rattle.std.specs.List.{All}
 use Rattle.server_core.specs.declared.service.Service.{Service}
-use Rattle.server_core.specs.declared.service.Sweep.{Sweep}
-use Rattle.server_core.specs.declared.service.Sweep.TheVariants.{Pass, End, Part}
+use Rattle.server_core.specs.declared.sweep.Sweep.{Sweep}
+use Rattle.server_core.specs.declared.sweep.Sweep.TheVariants.{Pass, End, Part}
 
 -- the round has begun, and its clients had no turns yet
 abbrev pub HasBegun : Sweep → Type 0

@@ -10,11 +10,12 @@ ghost use Rattle.server_core.specs.Serving.{AreAt, AreBack, AreServed};
 ghost use Rattle.server_core.specs.Waits.{first_due, is_anybody_let_in, is_anybody_ready, is_mark_awaited, wait_of};
 ghost use Rattle.server_core.specs.Reporting.{IsReported};
 ghost use Rattle.server_core.specs.Sweeps.{HasBegun, HaveAllDone, MayAllDo};
-ghost use Rattle.server_core.specs.declared.service.Sweep.TheVariants.{End, Part};
+ghost use Rattle.server_core.specs.declared.sweep.Sweep.TheVariants.{End, Part};
 
 use crate::fittings::{ServerSeat, Shared};
-use crate::service::{Service, Sweep};
+use crate::service::Service;
 use crate::serving::has_parted;
+use crate::sweep::Sweep;
 use crate::worker::{WorkerSetup, room_for_events};
 use clients::{CLIENTS, Clients, Outlook, Watch, reported_by};
 use mio::event::Event;

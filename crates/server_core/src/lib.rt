@@ -12,6 +12,7 @@ mod looks;
 mod reporter;
 mod service;
 mod serving;
+mod sweep;
 mod worker;
 
 pub use disk_core::FileAt;

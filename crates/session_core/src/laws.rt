@@ -2,16 +2,17 @@
 
 ghost use Rattle.std.specs.Prelude.{◌≡◌, ◌<◌, ◌^◌, ◌++◌, [], List, ℕ, Some, ◌↔◌, ◌∷◌, None, codes};
 ghost use Rattle.std.specs.Fmt.{decimal};
-ghost use Rattle.frame_core.specs.declared.frame.Verb.{TheVariants as verbs};
-ghost use Rattle.command_core.specs.declared.command.Op.{TheVariants as ops};
-ghost use Rattle.command_core.specs.declared.fault.Fault.{TheVariants as faults};
-ghost use Rattle.command_core.specs.declared.command.Member.{TheVariants as members};
+ghost use Rattle.frame_core.specs.declared.frame.Verb.TheVariants as verbs;
+ghost use Rattle.command_core.specs.declared.command.Op.TheVariants as ops;
+ghost use Rattle.command_core.specs.declared.fault.Fault.TheVariants as faults;
+ghost use Rattle.command_core.specs.declared.command.Member.TheVariants as members;
 ghost use Rattle.session_core.specs.Numbers.{decimal_value};
 ghost use Rattle.session_core.specs.Pieces.{HearsTo};
 ghost use Rattle.session_core.specs.Sessions.{Hearing, Hears, IsOver, told, next};
-ghost use Rattle.session_core.specs.declared.session.Act.{Act, TheVariants as acts};
+ghost use Rattle.session_core.specs.declared.session.Act.TheVariants as acts;
+ghost use Rattle.session_core.specs.declared.session.Act.{Act};
 ghost use Rattle.session_core.specs.Worked.{ack, asks, connect, denied, disconnect, dropped, left, open_t, opened, receipt, send, sent, two, with_transaction};
-ghost use Rattle.session_core.specs.declared.session.Phase.{TheVariants as phases};
+ghost use Rattle.session_core.specs.declared.session.Phase.TheVariants as phases;
 
 /// What a session hears in pieces it hears as one, and in one way. The acts of any pieces are those of the bytes joined,
 /// and so is where it stands, even if it ends before the last piece. While it goes on, it keeps the same bytes too. What it

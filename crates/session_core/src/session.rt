@@ -3,12 +3,12 @@
 ghost use Rattle.std.specs.Prelude.{◌≡◌, ◌++◌, None, IfOk, IsSome, OnOk, MatchResult};
 ghost use Rattle.std.specs.List.{AllByRecursion};
 ghost use Rattle.tx_core.specs.TxFaults.{fault_of};
-ghost use Rattle.frame_core.specs.declared.frame.Verb.{TheVariants as verbs};
+ghost use Rattle.frame_core.specs.declared.frame.Verb.TheVariants as verbs;
 ghost use Rattle.frame_core.specs.Writable.{Writable};
 ghost use Rattle.session_core.specs.ReadFrames.{IsRead};
 ghost use Rattle.session_core.specs.Sessions.{acts_of, executed, ends_by, first_answered, heard, next, note, phase_of, refused, told, unless, does};
-ghost use Rattle.session_core.specs.declared.session.Phase.{TheVariants as phases};
-ghost use Rattle.session_core.specs.declared.requests.Request.{TheVariants as requests};
+ghost use Rattle.session_core.specs.declared.session.Phase.TheVariants as phases;
+ghost use Rattle.session_core.specs.declared.requests.Request.TheVariants as requests;
 
 use crate::requests::{Request, ask, ask_first, receipt};
 use command_core::{End, Fault, HeaderText, Member, Op, error_reply};

@@ -273,9 +273,9 @@ impl Model for ClientBytes {
 impl ClientBytes {
     ghost use Rattle.std.specs.Prelude.{◌≡◌, ◌<◌, ◌≤◌, ◌+◌, ◌↔◌, ℕ, length, slice_set, sum, true};
     ghost use Rattle.std.specs.List.{All, slice_index_or};
+    ghost use Rattle.clients.specs.declared.wakers.TheConstants.{CLIENTS};
     ghost use Rattle.wakeups.specs.Sums.{Applies, changed, is_more};
     ghost use Rattle.wakeups.specs.declared.memory.Change.TheVariants.{Same};
-    ghost use Rattle.clients.specs.declared.wakers.TheConstants.{CLIENTS};
 
     /// Nobody holds anything.
     pub fn new() -> ClientBytes

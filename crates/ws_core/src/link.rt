@@ -156,8 +156,8 @@ pub enum CloseReason {
 
 impl CloseReason {
     ghost use Rattle.std.specs.Prelude.{◌≡◌, [], Some};
-    ghost use Rattle.ws_core.specs.Closing.{code_of};
     ghost use Rattle.tungstenite.specs.CloseCode.{close_code_of};
+    ghost use Rattle.ws_core.specs.Closing.{code_of};
 
     /// Its number on the wire.
     pub fn code(self) -> u16

@@ -2,7 +2,7 @@ use Rattle.std.proofs.Common.{◌∙◌, Option, [], ◌∷◌, ap, refl}
 use Rattle.std.proofs.lemmas.Bool.{false≢true}
 use Rattle.disk_core.specs.Syncing.Names.{is_spared, is_looked_at}
 use Rattle.disk_core.specs.declared.naming.Noted.{Noted}
-use Rattle.disk_core.specs.declared.file.FileEvent.TheVariants.{FolderIs, PathIs, WrittenAt}
+use Rattle.disk_core.specs.declared.synced_file.FileEvent.TheVariants.{FolderIs, PathIs, WrittenAt}
 use Rattle.disk_core.proofs.Events.{then}
 use Rattle.disk_core.proofs.file.named_by.Goals as goal
 

@@ -2,7 +2,7 @@ use Rattle.std.proofs.Common.{◌∙◌, inl, ◌∷◌, ◌++◌, ap, append_as
 use Rattle.disk_core.specs.Losses.{IsJudged}
 use Rattle.disk_core.specs.Syncing.{written_back}
 use Rattle.disk_core.specs.declared.loss.Found.{Found}
-use Rattle.disk_core.specs.declared.file.FileEvent.TheVariants.{SizeIs, Synced}
+use Rattle.disk_core.specs.declared.synced_file.FileEvent.TheVariants.{SizeIs, Synced}
 use Rattle.disk_core.proofs.Events.{then}
 use Rattle.disk_core.proofs.file.sync_by.Goals as goal
 

@@ -1,6 +1,6 @@
 use Rattle.std.proofs.Common.{◌<◌, ◌∷◌, ◌∙◌, List, subst, sym, ℕ}
 use Rattle.broker_tables.specs.Cursors.{AreAwaited, cursors_in, tickets_left}
-use Rattle.broker_tables.specs.declared.stock.Cursor.{Cursor}
+use Rattle.broker_tables.specs.declared.cursors.Cursor.{Cursor}
 use Rattle.broker_tables.proofs.Awaiting.{awaited_permuted, left_alike, none_ready_at}
 use Rattle.broker_tables.proofs.stock.Stock.next_ready.Goals as goal
 

@@ -4,7 +4,7 @@ use Rattle.std.proofs.lemmas.Option.{same_Some}
 use Rattle.broker_state.specs.HandOut.{can_take}
 use Rattle.broker_state.proofs.Weights.{all_at}
 use Rattle.waiting_order.proofs.Rising.{rising_same}
-use Rattle.broker_tables.specs.declared.stock.Cursor.{Cursor}
+use Rattle.broker_tables.specs.declared.cursors.Cursor.{Cursor}
 use Rattle.broker_tables.specs.Cursors.{IsReadiness, cursors_in}
 use Rattle.broker_tables.specs.declared.stock.Readiness.{Readiness}
 use Rattle.broker_tables.specs.Stocks.{stocked}

@@ -3,12 +3,12 @@ use Rattle.std.proofs.lemmas.Grind.{common_steps}
 use Rattle.std.proofs.lemmas.Option.{gets}
 use Rattle.broker_tables.specs.Cursors.{AwaitAllDue, cursors_in}
 use Rattle.broker_tables.specs.Scopes.{IsScope}
-use Rattle.broker_tables.specs.declared.stock.Cursor.{Cursor}
-use Rattle.broker_tables.specs.declared.stock.Cursors.{Cursors}
+use Rattle.broker_tables.specs.declared.cursors.Cursor.{Cursor}
+use Rattle.broker_tables.specs.declared.cursors.Cursors.{Cursors}
 use Rattle.broker_tables.proofs.Awaiting.{due_alike}
 use Rattle.broker_tables.proofs.Scopes.{await_none, await_some}
-use Rattle.broker_tables.proofs.stock.Cursors.of.Goals as goal
-use Rattle.broker_tables.proofs.stock.Cursors.of.Goals.{in-Some+in_ok-put, in_default}
+use Rattle.broker_tables.proofs.cursors.Cursors.of.Goals as goal
+use Rattle.broker_tables.proofs.cursors.Cursors.of.Goals.{in-Some+in_ok-put, in_default}
 
 pub loop-due-preserved : goal.loop-due-preserved
 loop-due-preserved c =

@@ -3,7 +3,7 @@ use Rattle.std.proofs.lemmas.Result.{on_ok_weaker}
 use Rattle.disk_core.specs.Publish.{published, IsAllOrNothing}
 use Rattle.disk_core.proofs.Published.{still_closed, is_there, all_or_nothing, opened}
 use Rattle.disk_core.proofs.Runs.{starts, writes, keeps, knows}
-use Rattle.disk_core.proofs.disk.publish.Goals as goal
+use Rattle.disk_core.proofs.call.publish.Goals as goal
 
 pub returns-in_err-write_at-2-clause-any_moment : goal.returns-in_err-write_at-2-clause-any_moment
 returns-in_err-write_at-2-clause-any_moment g c honest =

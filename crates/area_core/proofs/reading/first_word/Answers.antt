@@ -1,6 +1,6 @@
 use Rattle.std.proofs.Common.{◌/◌, ◌%◌, ◌^◌, ℕ, refl, ◌∙◌, ap, arith, inl, inr}
 use Rattle.std.specs.Int.{w64, to_be_bytes}
-use Rattle.area_core.proofs.area.first_word.Goals as goal
+use Rattle.area_core.proofs.reading.first_word.Goals as goal
 
 pub returns-in_default-clause-refused : goal.returns-in_default-clause-refused
 returns-in_default-clause-refused g c honest = (

@@ -2,7 +2,7 @@ use Rattle.std.proofs.Common.{ap, refl, subst, sym}
 use Rattle.clients.specs.Connections.{standing}
 use Rattle.clients.specs.Histories.{HasTold}
 use Rattle.clients.proofs.Living.{gives_up, same_stage, sends_so}
-use Rattle.clients.proofs.client.note.Goals as goal
+use Rattle.clients.proofs.turning.note.Goals as goal
 
 pub returns-in-Sent-clause-rest : goal.returns-in-Sent-clause-rest
 returns-in-Sent-clause-rest c one = sends_so (standing one c.args.progress.now c.args.last_receipt c.args.stage.now) c.sent.new.progress c.sent.new.stage c.in-Sent.number c.in-Sent.verb (subst HasTold (sym c.requires) tt) c.sent.ensures

@@ -10,7 +10,7 @@ use Rattle.recover_core.specs.Compactions.{IsWritingState}
 use Rattle.recover_core.proofs.Compacts.{Copied, live_after, rest_as, still_as, switched_as, twice_as, writing_as}
 use Rattle.recover_core.proofs.Sizes.{seven_count}
 use Rattle.recover_core.proofs.Walking.{is_long}
-use Rattle.recover_core.proofs.store.write_state.Goals as goal
+use Rattle.recover_core.proofs.compacting.write_state.Goals as goal
 
 pub returns-in_err-snapshot-clause-any_moment : goal.returns-in_err-snapshot-clause-any_moment
 returns-in_err-snapshot-clause-any_moment g c honest =
