@@ -55,8 +55,8 @@ impl Released {
 
     /// The bytes of the frame that may leave, which can be written.
     pub fn write(&self, alloc: Global) -> Result<Written, AllocError>
-        ensures bytes { IfOk result (λ it. it.bytes.items ≡ written self.now.frame) }
-        ensures text { IfOk result (λ it. it.is_text ≡ true → IsUtf8 it.bytes.items) }
+        ensures bytes { IfOk result (λ it. it.bytes ≡ written self.now.frame) }
+        ensures text { IfOk result (λ it. it.is_text ≡ true → IsUtf8 it.bytes) }
         ensures form { Writable self.now.frame }
     {
         self.out.write(alloc)

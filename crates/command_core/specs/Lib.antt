@@ -13,6 +13,8 @@ pub mod Sizes
 pub mod Commands
 pub mod Spellings
 pub mod Reading
+pub mod Ready
 pub mod Outs
 pub mod Replies
 pub mod Contents
+pub mod Deliveries

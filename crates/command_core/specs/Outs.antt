@@ -12,6 +12,10 @@ pub record OutValue : Type 0 where
 abbrev pub header_bytes : List ℕ × List ℕ → ℕ
 header_bytes h = length h.0 + length h.1
 
--- the bytes that an output counts for: those of its body, and of its headers' names and values
+-- the bytes of a frame's body, and of its headers' names and values
+abbrev pub bytes_in : Frame → ℕ
+bytes_in frame = length frame.body + sum_by header_bytes frame.headers
+
+-- the bytes that an output counts for: those of its frame
 abbrev pub weight_of : OutValue → ℕ
-weight_of out = length out.frame.body + sum_by header_bytes out.frame.headers
+weight_of out = bytes_in out.frame

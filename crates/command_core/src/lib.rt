@@ -11,6 +11,7 @@ mod encoding;
 mod entry;
 mod fault;
 mod output;
+mod ready;
 mod sending;
 
 pub use command::{AckMode, Command, End, Member, Members, Op};
@@ -26,5 +27,5 @@ pub use encoding::{
 };
 pub use entry::Entry;
 pub use fault::{Fault, fault_text};
-pub use output::{Out, Written, connected_reply, error_reply};
+pub use output::{Alike, Out, Written, connected_reply, error_reply};
 pub use sending::{Sending, SharedSending, is_kept_name};

@@ -8,35 +8,39 @@ ghost use Rattle.frame_core.specs.Writable.{Writable, first_of};
 ghost use Rattle.frame_core.specs.Written.{written, IsText, written_header};
 ghost use Rattle.frame_core.specs.declared.frame.Verb.TheVariants as verbs;
 ghost use Rattle.frame_core.specs.Words.{word_bytes};
-ghost use Rattle.command_core.specs.Outs.{weight_of, header_bytes};
+ghost use Rattle.command_core.specs.Outs.{bytes_in, weight_of, header_bytes};
 ghost use Rattle.command_core.specs.Replies.{message_frame, receipt_frame, ack_header, message_id, connected, error_frame, receipt_header};
-ghost use Rattle.command_core.specs.Contents.{message_of, own_of};
+ghost use Rattle.command_core.specs.Deliveries.{message_of, own_of};
 ghost use Rattle.command_core.specs.Texts.{IsHeaderText};
 
 use crate::destination::HeaderText;
 use crate::encoding::add_headers;
 use crate::fault::{Fault, fault_text};
+use crate::ready::Ready;
 use crate::sending::{Sending, SharedSending};
+use bytes::Bytes as WireBytes;
 use frame_core::{
     Bytes, Frame, Headers, Text, Verb, Word, first, write_frame, write_header, write_headers,
 };
 use itoa::Buffer;
 use std::alloc::{AllocError, Global};
 use std::marker::Model;
+use std::sync::Arc;
 
-// What is told: a frame, or a RECEIPT or a MESSAGE in its parts, for which none is built.
+// What is told: a frame, or a RECEIPT or a MESSAGE in its parts, for which none is built, or a MESSAGE that is written already.
 #[derive(Drop)]
 pub(crate) enum Content {
     Framed(Frame),
     Receipt(HeaderText),
     Message(Delivery),
+    Ready(Ready),
 }
 
-/// The bytes of a frame.
+/// The bytes of a frame. Outputs that share a MESSAGE share its bytes.
 #[derive(Drop)]
 pub struct Written {
     /// These bytes.
-    pub bytes: Vec<u8>,
+    pub bytes: WireBytes,
     /// Whether they are known to be UTF-8.
     pub is_text: bool,
 }
@@ -44,34 +48,35 @@ pub struct Written {
 /// An output: a frame that a command gives, and the session that it goes to. Contracts see it as its three parts. Its
 /// frame can be written.
 ///
-/// It takes 24 bytes where it waits, since what it tells is in a box. A MESSAGE is kept in its parts there, and shares its message with
-/// other deliveries.
+/// It takes 24 bytes where it waits, since what it tells stands elsewhere. A MESSAGE is kept in its parts there and shares its message with
+/// other deliveries, or is written there once for all who get it alike.
 #[derive(Drop)]
 pub struct Out {
     number: u64,
     session: u64,
-    content: Box<Content>,
+    content: Arc<Content>,
 }
 
 impl Model for Out {
+    ghost use Rattle.std.specs.Arc.{arc_value};
     ghost use Rattle.frame_core.specs.Writable.{Writable};
     ghost use Rattle.command_core.specs.Contents.{frame_of};
     ghost use Rattle.command_core.specs.Outs.{OutValue};
 
     ghost Value = { OutValue };
 
-    ghost view = { λ a. record { number = a.number; session = a.session; frame = frame_of a.content.value } };
+    ghost view = { λ a. record { number = a.number; session = a.session; frame = frame_of (arc_value a.content) } };
 
-    ghost invariant = { λ a. Writable (frame_of a.content.value) };
+    ghost invariant = { λ a. Writable (frame_of (arc_value a.content)) };
 }
 
 impl Out {
-    /// Takes memory for a box. If that is refused, the frame is let go.
+    /// Takes memory for the frame. If that is refused, the frame is let go.
     pub fn new(alloc: Global, number: u64, session: u64, frame: Frame) -> Result<Out, AllocError>
         requires { Writable frame }
         ensures { IfOk result (λ out. out ≡ record { number = number; session = session; frame = frame }) }
     {
-        let content = Box::new(alloc, Content::Framed(frame))?;
+        let content = Arc::new(alloc, Content::Framed(frame))?;
         Ok(Out {
             number,
             session,
@@ -82,8 +87,8 @@ impl Out {
     /// The MESSAGE that gives what was sent to a subscription of that id (STOMP 1.2, "MESSAGE"). The message's number is
     /// that of its command and its place there. `delivery` is the number by which it is acknowledged, if it is to be.
     ///
-    /// Takes memory for a box, for the id if that isn't shared, and for the message if that isn't. If it is refused, the message is
-    /// let go.
+    /// Takes memory for the delivery, for the id if that isn't shared, and for the message if that isn't. If it is refused, the message
+    /// is let go.
     pub fn message(
         alloc: Global,
         number: u64,
@@ -96,18 +101,22 @@ impl Out {
     ) -> Result<Out, AllocError>
         ensures { IfOk result (λ out. out ≡ record { number = number; session = session; frame = message_frame subscription.now command place delivery sending }) }
     {
-        let subscription = subscription.clone()?;
-        let sending = sending.into_shared(alloc)?;
-        let (_name, _destination) = (subscription.as_str(), sending.destination());
-        let _fits = is_acknowledged(delivery);
-        let delivery = Delivery {
-            subscription,
-            command,
-            place,
-            delivery,
-            sending,
-        };
-        let content = Box::new(alloc, Content::Message(delivery))?;
+        let delivery = Delivery::new(alloc, subscription, command, place, delivery, sending)?;
+        let content = Arc::new(alloc, Content::Message(delivery))?;
+        Ok(Out {
+            number,
+            session,
+            content,
+        })
+    }
+
+    /// The MESSAGE that others get alike. It shares what is written: that is copied for nobody.
+    ///
+    /// It is refused only if the MESSAGE has as many sharers as can be counted.
+    pub fn alike(number: u64, session: u64, alike: &Alike) -> Result<Out, AllocError>
+        ensures { IfOk result (λ out. out ≡ record { number = number; session = session; frame = alike.now }) }
+    {
+        let content = alike.content.clone()?;
         Ok(Out {
             number,
             session,
@@ -117,7 +126,7 @@ impl Out {
 
     /// The RECEIPT that was asked for with that text (STOMP 1.2, "RECEIPT").
     ///
-    /// Takes memory for a box. If that is refused, the text is let go.
+    /// Takes memory for the text. If that is refused, the text is let go.
     pub fn receipt(
         alloc: Global,
         number: u64,
@@ -127,7 +136,7 @@ impl Out {
         ensures { IfOk result (λ out. out ≡ record { number = number; session = session; frame = receipt_frame id }) }
     {
         let _id = id.as_str();
-        let content = Box::new(alloc, Content::Receipt(id))?;
+        let content = Arc::new(alloc, Content::Receipt(id))?;
         Ok(Out {
             number,
             session,
@@ -157,6 +166,7 @@ impl Out {
             Content::Framed(frame) => frame.verb,
             Content::Receipt(_) => Verb::Receipt,
             Content::Message(_) => Verb::Message,
+            Content::Ready(ready) => ready.verb(),
         }
     }
 
@@ -168,6 +178,7 @@ impl Out {
             Content::Framed(frame) => frame.body.as_slice(),
             Content::Receipt(_) => &[],
             Content::Message(delivery) => delivery.sending.body().as_slice(),
+            Content::Ready(ready) => ready.body(),
         }
     }
 
@@ -183,6 +194,10 @@ impl Out {
                 _ => None,
             },
             Content::Receipt(_) | Content::Message(_) => None,
+            Content::Ready(ready) => {
+                let _message = ready.verb();
+                None
+            }
         }
     }
 
@@ -198,32 +213,75 @@ impl Out {
             }
             Content::Receipt(id) => Some(10 + id.as_str().len() as u64),
             Content::Message(delivery) => delivery.weight(),
+            Content::Ready(ready) => ready.weight(),
         }
     }
 
     /// The bytes of its frame, which can be written.
     pub fn write(&self, alloc: Global) -> Result<Written, AllocError>
-        ensures bytes { IfOk result (λ it. it.bytes.items ≡ written self.now.frame) }
-        ensures text { IfOk result (λ it. it.is_text ≡ true → IsUtf8 it.bytes.items) }
+        ensures bytes { IfOk result (λ it. it.bytes ≡ written self.now.frame) }
+        ensures text { IfOk result (λ it. it.is_text ≡ true → IsUtf8 it.bytes) }
         ensures form { Writable self.now.frame }
     {
         match &*self.content {
             Content::Framed(frame) => {
                 let bytes = write_frame(alloc, frame)?;
                 Ok(Written {
-                    bytes,
+                    bytes: WireBytes::from_vec(bytes)?,
                     is_text: false,
                 })
             }
             Content::Receipt(id) => {
                 let bytes = write_receipt(alloc, id)?;
                 Ok(Written {
-                    bytes,
+                    bytes: WireBytes::from_vec(bytes)?,
                     is_text: true,
                 })
             }
             Content::Message(delivery) => delivery.write(alloc),
+            Content::Ready(ready) => ready.written(),
         }
+    }
+}
+
+/// A MESSAGE that several sessions get alike: the same message, for subscriptions of the same id that don't acknowledge. It is written once,
+/// and its outputs share that. Contracts see its frame.
+#[derive(Drop)]
+pub struct Alike {
+    content: Arc<Content>,
+}
+
+impl Model for Alike {
+    ghost use Rattle.std.specs.Arc.{arc_value};
+    ghost use Rattle.frame_core.specs.Writable.{Writable};
+    ghost use Rattle.frame_core.specs.declared.frame.Frame.{Frame};
+    ghost use Rattle.command_core.specs.Contents.{frame_of};
+
+    ghost Value = { Frame };
+
+    ghost view = { λ a. frame_of (arc_value a.content) };
+
+    ghost invariant = { λ a. Writable (frame_of (arc_value a.content)) };
+}
+
+impl Alike {
+    /// The MESSAGE that gives what was sent to subscriptions of that id, which don't acknowledge it. It is named as by `Out::message`.
+    ///
+    /// Takes memory for the bytes, for the id if that isn't shared, and for the message if that isn't. If it is refused, the message is
+    /// let go.
+    pub fn new(
+        alloc: Global,
+        subscription: &HeaderText,
+        command: u64,
+        place: u32,
+        sending: Sending,
+    ) -> Result<Alike, AllocError>
+        ensures { IfOk result (λ alike. alike ≡ message_frame subscription.now command place None sending) }
+    {
+        let delivery = Delivery::new(alloc, subscription, command, place, None, sending)?;
+        let ready = Ready::new(alloc, delivery)?;
+        let content = Arc::new(alloc, Content::Ready(ready))?;
+        Ok(Alike { content })
     }
 }
 
@@ -316,6 +374,30 @@ impl Delivery {
     ghost use Rattle.std.specs.Prelude.{◌≡◌, ◌<◌, ◌+◌, ◌^◌, ◌++◌, IfOk, OnOk, SomeIff, length, true};
     ghost use Rattle.std.specs.List.{AllByRecursion, flat_map, sum_by};
 
+    fn new(
+        alloc: Global,
+        subscription: &HeaderText,
+        command: u64,
+        place: u32,
+        delivery: Option<u64>,
+        sending: Sending,
+    ) -> Result<Delivery, AllocError>
+        ensures value { IfOk result (λ it. message_of it ≡ message_frame subscription.now command place delivery sending) }
+        ensures form { IfOk result (λ it. Writable (message_of it)) }
+    {
+        let subscription = subscription.clone()?;
+        let sending = sending.into_shared(alloc)?;
+        let (_name, _destination) = (subscription.as_str(), sending.destination());
+        let _fits = is_acknowledged(delivery);
+        Ok(Delivery {
+            subscription,
+            command,
+            place,
+            delivery,
+            sending,
+        })
+    }
+
     /// The bytes of the broker's own headers.
     fn own_bytes(&self) -> u64
         ensures bytes { result ≡ sum_by header_bytes (own_of self.now) }
@@ -330,8 +412,7 @@ impl Delivery {
 
     /// The bytes of body, names and values, or `None` if there are 2^64 or more. It looks at each header once, and at no byte.
     pub fn weight(&self) -> Option<u64>
-        ensures { SomeIff result (length (message_of self.now).body + sum_by header_bytes (message_of self.now).headers < 2 ^ 64)
-            (length (message_of self.now).body + sum_by header_bytes (message_of self.now).headers) }
+        ensures { SomeIff result (bytes_in (message_of self.now) < 2 ^ 64) (bytes_in (message_of self.now)) }
     {
         let body = self.sending.body().as_slice().len() as u64;
         add_headers(body + self.own_bytes(), self.sending.headers().as_slice())
@@ -368,12 +449,12 @@ impl Delivery {
 
     /// The bytes of its MESSAGE. They are known to be UTF-8 if its body is.
     pub fn write(&self, alloc: Global) -> Result<Written, AllocError>
-        ensures bytes { IfOk result (λ it. it.bytes.items ≡ written (message_of self.now)) }
-        ensures text { IfOk result (λ it. it.is_text ≡ true → IsUtf8 it.bytes.items) }
+        ensures bytes { IfOk result (λ it. it.bytes ≡ written (message_of self.now)) }
+        ensures text { IfOk result (λ it. it.is_text ≡ true → IsUtf8 it.bytes) }
     {
         let bytes = self.write_bytes(alloc)?;
         Ok(Written {
-            bytes,
+            bytes: WireBytes::from_vec(bytes)?,
             is_text: self.sending.is_text(),
         })
     }

@@ -119,9 +119,9 @@ impl<S: Read + Write + Drop> WsLink<S> {
     // Sends bytes as one message. The traits call it, so that they are those of a frame that was released, or of a notice.
     fn send_bytes(&mut self, written: Written) -> Result<(), LinkFault>
         requires open { self.old.phase ≡ Open }
-        requires text { written.is_text ≡ true → IsUtf8 written.bytes.items }
-        ensures sends { OnOk result (Sends S.contents written.bytes.items self.old self.new) }
-        ensures counts { OnOk result (CountsPut (length written.bytes.items) self.old self.new) }
+        requires text { written.is_text ≡ true → IsUtf8 written.bytes }
+        ensures sends { OnOk result (Sends S.contents written.bytes self.old self.new) }
+        ensures counts { OnOk result (CountsPut (length written.bytes) self.old self.new) }
         ensures refuses { IfErr result (Refuses self.old self.new) }
         ensures stays { OnErr result (CountsOn self.old self.new) }
     {
@@ -267,7 +267,8 @@ impl<S: Read + Write + Ending + Drop> Link for WsLink<S> {
         if self.phase != LinkPhase::Open {
             return Err(LinkFault::Gone);
         }
-        let bytes = write_frame(alloc, notice.frame()).map_err(|_| LinkFault::Memory)?;
+        let frame = write_frame(alloc, notice.frame()).map_err(|_| LinkFault::Memory)?;
+        let bytes = Bytes::from_vec(frame).map_err(|_| LinkFault::Memory)?;
         self.send_bytes(Written {
             bytes,
             is_text: false,
@@ -560,13 +561,12 @@ fn failure_code(error: &Error) -> Option<u16>
 
 // A text if the bytes are UTF-8, or else binary. They are looked at unless they are known to be.
 pub fn message_of(written: Written) -> Result<Message, LinkFault>
-    requires { written.is_text ≡ true → IsUtf8 written.bytes.items }
-    ensures ok { IfOk result (λ message. IsMessageOf written.bytes.items (content_of message)) }
-    ensures count { IfOk result (λ message. byte_count message ≡ length written.bytes.items) }
+    requires { written.is_text ≡ true → IsUtf8 written.bytes }
+    ensures ok { IfOk result (λ message. IsMessageOf written.bytes (content_of message)) }
+    ensures count { IfOk result (λ message. byte_count message ≡ length written.bytes) }
     ensures err { IfErr result (λ fault. fault ≡ LinkFault.Memory) }
 {
     let Written { bytes, is_text } = written;
-    let bytes = Bytes::from_vec(bytes).map_err(|_| LinkFault::Memory)?;
     if is_text {
         return Ok(Message::Text(Utf8Bytes::from_known_utf8(bytes)));
     }

@@ -4,7 +4,7 @@ use Rattle.std.specs.Str.{IsUtf8}
 use Rattle.frame_core.proofs.Lists.{all_append}
 use Rattle.frame_core.proofs.Texts.{ascii_text, written_text}
 use Rattle.frame_core.specs.Written.{IsText, written}
-use Rattle.command_core.specs.Contents.{message_of, own_of}
+use Rattle.command_core.specs.Deliveries.{message_of, own_of}
 use Rattle.command_core.proofs.WrittenMessages.{lines, message_written}
 use Rattle.command_core.proofs.output.Delivery.write_bytes.Goals as goal
 

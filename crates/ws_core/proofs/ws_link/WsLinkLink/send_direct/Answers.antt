@@ -5,5 +5,5 @@ use Rattle.ws_core.proofs.ws_link.WsLinkLink.send_direct.Goals as goal
 
 pub returns-clause-sends : goal.returns-clause-sends
 returns-clause-sends g c =
-    let same : c.in_ok-bytes.bytes.items ≡ written c.args.notice.now = search rules in
+    let same : c.in_ok-bytes.bytes ≡ written c.args.notice.now = search rules in
     subst (λ (bytes : List ℕ). OnOk c.send_bytes.result (Sends g.S.Write.contents bytes c.args.self.now c.send_bytes.new.self)) same c.send_bytes.ensures.sends

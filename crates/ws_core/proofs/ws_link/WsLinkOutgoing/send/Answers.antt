@@ -5,5 +5,5 @@ use Rattle.ws_core.proofs.ws_link.WsLinkOutgoing.send.Goals as goal
 
 pub returns-clause-sends : goal.returns-clause-sends
 returns-clause-sends g c =
-    let same : c.in_ok-written.written.bytes.items ≡ written c.args.released.now.frame = search rules in
+    let same : c.in_ok-written.written.bytes ≡ written c.args.released.now.frame = search rules in
     subst (λ (bytes : List ℕ). OnOk c.send_bytes.result (Sends g.S.Write.contents bytes c.args.self.now c.send_bytes.new.self)) same c.send_bytes.ensures.sends
