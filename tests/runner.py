@@ -1,30 +1,30 @@
-#!/usr/bin/env python3
-"""Runs all that stands beside the gate over the built program: what it tells and with which status, bin/serve, handshakes, attackers, disks that fail, refused
-memory, traces of its system calls, and the clients. Its last line counts what passed, what failed, and what could not be run for want of a package.
+"""The scripts that stand beside the gate, and what runs them: side by side, as many as there are processors, each with a temporary folder and ports of its
+own (tests/lib/scenario.py). bin/test has the words for it.
 
-    python3 tests/beside_the_gate.py [PROGRAM] [--light] [--kills N] [--only WORD]
-
-PROGRAM is the built program; without it, it is what `bin/build --any` makes. Needs Python 3; strace for the traces, `rt` and a C compiler for
-refused memory, Chromium and Debian's python3-stomp and python3-websocket for two of the clients, Node for the module and Debian's node-typescript
-for its types, dpkg and root for the package, systemd-analyze for its service, groff for the manual page, and nginx, HAProxy, Caddy, Apache and Docker for the recipes of deploy/. It
-takes some thirty minutes, and ends with status 0 only if nothing failed. With --light it runs the part that needs none of these, or strace, cc or Node
-where they are there, with fewer kills, in less than fifteen minutes; those that mostly wait run side by side.
+A script that passes has a line; one that fails has all that it printed.
 """
 
-import argparse
+import concurrent.futures
+import contextlib
 import dataclasses
 import functools
 import os
 import pathlib
 import shutil
+import signal
 import subprocess
 import sys
+import tempfile
+import threading
 import time
 
 TOP = pathlib.Path(__file__).resolve().parent.parent
 # Debian's own Python has Debian's packages.
 DEBIAN_PYTHON = pathlib.Path("/usr/bin/python3")
-
+# With this status a script says that it lacks a package.
+LACKS = 2
+# After so many seconds a script is ended, and has failed.
+LONGEST = 3_600
 
 # How it is tried whether a program does what scripts need it for: strace may trace and inject faults, there is a C compiler, and Node has a WebSocket.
 TRIES = {
@@ -43,28 +43,44 @@ def works(name):
 
 @dataclasses.dataclass(frozen=True)
 class Script:
-    """A script with its further words, of which N is the number of kills. `light` are those with which --light runs it: it needs Python 3 alone then,
-    or the programs that it `needs`, and ends soon. With `None` it is left out; so it is if one of these is missing, which is told."""
+    """A script with its further words. `light` are those with which bin/test runs it: it needs Python 3 alone then, or the programs that it `needs`, and
+    ends soon. With `None` it is run only if it is asked for; so it is left out, which is told, if one of these is missing."""
 
     path: str
     words: str = ""
     light: str | None = None
     needs: tuple[str, ...] = ()
-    # Whether it mostly waits and looks at the clock: those that do run side by side, and with nothing else.
+    # Whether it mostly waits: those that do take no processor from the others.
     waits: bool = False
-
-    def call(self, program, words, kills=0):
-        """How this call is named, and its words."""
-        words = [str(kills) if it == "N" else it for it in words.split()]
-        runs = ["sh"] if self.path.endswith(".sh") else [DEBIAN_PYTHON if self.needs_debian() else sys.executable]
-        return " ".join([self.path, *words]), [*runs, TOP / self.path, program, *words]
+    # Why it can't run beside others: it runs alone, after all that can.
+    alone: str = ""
 
     def lacks(self):
         """Which of what it needs isn't there, or may not do here what it is needed for."""
         return [it for it in self.needs if not works(it)]
 
-    def needs_debian(self):
-        return self.path.endswith("/independent.py") and DEBIAN_PYTHON.exists()
+    def runs(self):
+        if self.path.endswith(".sh"):
+            return "sh"
+        return DEBIAN_PYTHON if self.path.endswith("/independent.py") and DEBIAN_PYTHON.exists() else sys.executable
+
+
+@dataclasses.dataclass(frozen=True)
+class Call:
+    script: Script
+    words: str
+
+    def name(self):
+        return f"{self.script.path} {self.words}".rstrip()
+
+
+@dataclasses.dataclass(frozen=True)
+class Ending:
+    call: Call
+    status: int
+    seconds: float
+    processor_seconds: float
+    told: str
 
 
 SCRIPTS = [
@@ -146,67 +162,98 @@ SCRIPTS = [
     Script("tests/kills/making.py"),
 ]
 
-# With this status a script says that it lacks a package.
-LACKS = 2
+
+class Calls:
+    """Those that are under way, each with its group of processes, which is ended with it."""
+
+    def __init__(self, program):
+        self.program, self.lock, self.groups, self.is_over = program, threading.Lock(), set(), False
+
+    def run(self, call):
+        with tempfile.TemporaryDirectory(prefix="stompd-test-") as folder, tempfile.TemporaryFile() as told:
+            words = [call.script.runs(), TOP / call.script.path, self.program, *call.words.split()]
+            began = time.monotonic()
+            with self.lock:
+                if self.is_over:
+                    raise KeyboardInterrupt
+                process = subprocess.Popen(words, env={**os.environ, "TMPDIR": folder}, stdin=subprocess.DEVNULL, stdout=told, stderr=told, start_new_session=True)
+                self.groups.add(process.pid)
+            late = threading.Timer(LONGEST, end_group, [process.pid])
+            late.start()
+            _, status, used = os.wait4(process.pid, 0)
+            late.cancel()
+            seconds = time.monotonic() - began
+            with self.lock:
+                self.groups.discard(process.pid)
+            process.returncode = os.waitstatus_to_exitcode(status)
+            end_group(process.pid)
+            told.seek(0)
+            return Ending(call, process.returncode, seconds, used.ru_utime + used.ru_stime, told.read().decode(errors="replace"))
+
+    def end(self):
+        with self.lock:
+            self.is_over = True
+            for it in self.groups:
+                end_group(it)
 
 
-def built_program():
-    """A program of this checkout that is current: the proved one, or else the unproved one, compiled if it is missing or old."""
-    made = subprocess.run([TOP / "bin" / "build", "--any"], stdin=subprocess.DEVNULL, stdout=subprocess.PIPE, text=True, check=True)
-    return pathlib.Path(made.stdout.strip())
+def end_group(number):
+    with contextlib.suppress(ProcessLookupError):
+        os.killpg(number, signal.SIGKILL)
 
 
-def run_alone(calls, endings):
-    """Runs these, one after another."""
-    for number, (name, words) in enumerate(calls, 1):
-        print(f"\n== {number} of {len(calls)}: {name}", flush=True)
-        start = time.monotonic()
-        status = subprocess.run(words).returncode
-        endings.append((name, status, time.monotonic() - start))
+def tell(ending, number, count):
+    verdict = {0: "ok", LACKS: "LACKS"}.get(ending.status, f"FAILED with status {ending.status}")
+    print(f"{number:3} of {count}  {verdict}  {ending.call.name()}  {ending.seconds:.0f} s, {ending.processor_seconds:.0f} of a processor", flush=True)
+    if ending.status != 0:
+        print(f"{ending.told.rstrip()}\n", flush=True)
 
 
-def run_side_by_side(calls, endings):
-    start = time.monotonic()
-    waiting = [(name, subprocess.Popen(words, stdout=subprocess.PIPE, stderr=subprocess.STDOUT)) for name, words in calls]
-    for name, process in waiting:
-        told, _ = process.communicate()
-        print(f"\n== {name}\n{told.decode(errors='replace')}", flush=True)
-        endings.append((name, process.returncode, time.monotonic() - start))
+def run_all(calls, program, processors):
+    """Runs these, and answers how each ended."""
+    under_way, endings = Calls(program), []
+    alone = [it for it in calls if it.script.alone]
+    waiting = [it for it in calls if it.script.waits and not it.script.alone]
+    busy = [it for it in calls if it not in alone and it not in waiting]
+
+    def hear(futures):
+        for it in concurrent.futures.as_completed(futures):
+            endings.append(it.result())
+            tell(endings[-1], len(endings), len(calls))
+
+    with concurrent.futures.ThreadPoolExecutor(max(1, len(waiting))) as patient, concurrent.futures.ThreadPoolExecutor(processors) as eager:
+        try:
+            hear([*(patient.submit(under_way.run, it) for it in waiting), *(eager.submit(under_way.run, it) for it in busy)])
+            for it in alone:
+                hear([eager.submit(under_way.run, it)])
+        finally:
+            under_way.end()
+    return endings
 
 
-def main():
-    parser = argparse.ArgumentParser(description=__doc__, formatter_class=argparse.RawDescriptionHelpFormatter)
-    parser.add_argument("program", nargs="?", type=pathlib.Path)
-    parser.add_argument("--light", action="store_true", help="the part that needs Python 3 alone, and strace or Node where they are there, in less than fifteen minutes")
-    parser.add_argument("--kills", type=int, default=100, help="how often each of those that kill the broker does so (100)")
-    parser.add_argument("--only", default="", metavar="WORD", help="only the scripts in whose path or words this stands")
-    words = parser.parse_args()
-    program = words.program.resolve() if words.program else built_program()
-    scripts, endings, start = [it for it in SCRIPTS if words.only in f"{it.path} {it.words}"], [], time.monotonic()
-    unmet = []
-    if words.light:
-        light = [it for it in scripts if it.light is not None and not it.lacks()]
-        unmet = [it for it in scripts if it.light is not None and it.lacks()]
-        run_alone([it.call(program, it.light) for it in light if not it.waits], endings)
-        run_side_by_side([it.call(program, it.light) for it in light if it.waits], endings)
-    else:
-        run_alone([it.call(program, it.words, words.kills) for it in scripts], endings)
-    if not endings:
-        print("beside_the_gate: no script was run", file=sys.stderr)
-        return 1
-    print()
-    for name, status, seconds in endings:
-        how = "ok" if status == 0 else "LACKS A PACKAGE" if status == LACKS else f"FAILED with status {status}"
-        print(f"{name:46} {how} in {seconds:.0f} s")
-    statuses = [status for _, status, _ in endings]
+def chosen(only, is_whole):
+    """The calls of these scripts, and the scripts that lack a program. One that is named runs with its light words, or else with those that it has."""
+    scripts = [it for it in SCRIPTS if not only or any(word in f"{it.path} {it.words}" for word in only)]
+    calls, unmet = [], []
+    for it in scripts:
+        if is_whole or (only and it.light is None):
+            calls.append(Call(it, it.words))
+        elif it.light is not None:
+            (unmet if it.lacks() else calls).append(Call(it, it.light))
+    return calls, unmet
+
+
+def run(program, only=(), is_whole=False, processors=None):
+    """Runs the scripts with one of these words in their path or words, or all; answers how many passed, and how many failed."""
+    calls, unmet = chosen(only, is_whole)
+    endings = run_all(calls, program, processors or len(os.sched_getaffinity(0)))
+    statuses = [it.status for it in endings]
     passed, lacking = statuses.count(0), statuses.count(LACKS)
+    for it in endings:
+        if it.status not in (0, LACKS):
+            print(f"FAILED  {it.call.name()}")
     for it in unmet:
-        print(f"{it.path:46} not run: {' and '.join(it.lacks())} is missing, or may not do here what it is needed for")
-    left_out = [it for it in SCRIPTS if words.light and it.light is None]
-    print(f"{passed} passed, {len(statuses) - passed - lacking} failed, {lacking + len(unmet)} not run for want of a package, {len(left_out)} left out by --light")
-    print(f"{time.monotonic() - start:.0f} s")
-    return 0 if passed == len(statuses) else 1
-
-
-if __name__ == "__main__":
-    sys.exit(main())
+        print(f"not run  {it.name()}: {' and '.join(it.script.lacks())} is missing, or may not do here what it is needed for")
+    failed = len(statuses) - passed - lacking
+    print(f"{passed} scripts passed, {failed} failed, {lacking + len(unmet)} not run for want of a package, {len(SCRIPTS) - len(calls) - len(unmet)} left out", flush=True)
+    return passed, failed + (0 if is_whole else lacking)

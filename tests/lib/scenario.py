@@ -12,6 +12,7 @@ import socket
 import subprocess
 import sys
 import tempfile
+import threading
 import time
 import traceback
 
@@ -33,15 +34,46 @@ def keep_journals_in_memory():
         tempfile.tempdir = str(MEMORY)
 
 
+class Ports:
+    """A range of ports, below those that the system gives to clients, that no other process has from here: it holds a name of the network's for it."""
+
+    FIRST, SPAN = 10_000, 200
+
+    def __init__(self):
+        end = int(pathlib.Path("/proc/sys/net/ipv4/ip_local_port_range").read_text(encoding="ascii").split()[0])
+        ranges = range(max(end - self.FIRST, 2_000) // self.SPAN)
+        self.process, self.count = os.getpid(), 0
+        for number in random.sample(ranges, len(ranges)):
+            self.held, self.first = socket.socket(socket.AF_UNIX), self.FIRST + number * self.SPAN
+            with contextlib.suppress(OSError):
+                self.held.bind(f"\0stompd tests, ports from {self.first}")
+                return
+            self.held.close()
+        raise RuntimeError("other tests have all the ports")
+
+    def next(self):
+        self.count += 1
+        return self.first + self.count % self.SPAN
+
+
+class Shared:
+    """What the threads of this process share."""
+
+    lock, ports = threading.Lock(), None
+
+
 def free_port():
-    """A port that nobody listens at, below those that the system gives to clients: none of these takes it before a server does. It isn't bound to find
-    that out, since a process that another thread is just starting would have it bound for a moment longer."""
-    first = int(pathlib.Path("/proc/sys/net/ipv4/ip_local_port_range").read_text(encoding="ascii").split()[0])
-    while True:
-        port = random.randrange(10_000, max(first, 12_000))
-        with socket.socket() as probe:
-            if probe.connect_ex(("127.0.0.1", port)) != 0:
-                return port
+    """A port at which nobody listens, and that no other test takes. It isn't bound to find that out: a process that another thread is just starting would
+    have it bound for a moment longer."""
+    with Shared.lock:
+        # A child of a fork takes a range of its own.
+        if Shared.ports is None or Shared.ports.process != os.getpid():
+            Shared.ports = Ports()
+        while True:
+            port = Shared.ports.next()
+            with socket.socket() as probe:
+                if probe.connect_ex(("127.0.0.1", port)) != 0:
+                    return port
 
 
 def take_descriptors():
