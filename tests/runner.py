@@ -231,6 +231,19 @@ def run_all(calls, program, processors):
     return endings
 
 
+def tests_of(crate):
+    """What the README of a crate names in its line `Tests: `: crates of tests, folders of tests/scripts, and scripts."""
+    page = (TOP / "crates" / crate / "README.md").read_text(encoding="utf-8")
+    lines = [it.removeprefix("Tests: ") for it in page.splitlines() if it.startswith("Tests: ")]
+    return lines[0].split("; ") if len(lines) == 1 else []
+
+
+def untested():
+    """The crates whose README names no tests, or some that aren't there."""
+    known = {it.path for it in SCRIPTS} | {f"{it.relative_to(TOP)}" for it in (TOP / "tests" / "scripts").rglob("")} | {it.parent.name for it in TOP.glob("crates/*/src")}
+    return [it for it in sorted(it.parent.name for it in TOP.glob("crates/*/src")) if not tests_of(it) or not known.issuperset(tests_of(it))]
+
+
 def chosen(only, is_whole):
     """The calls of these scripts, and the scripts that lack a program. One that is named runs with its light words, or else with those that it has."""
     scripts = [it for it in SCRIPTS if not only or any(word in f"{it.path} {it.words}" for word in only)]
@@ -253,7 +266,7 @@ def run(program, only=(), is_whole=False, processors=None):
         if it.status not in (0, LACKS):
             print(f"FAILED  {it.call.name()}")
     for it in unmet:
-        print(f"not run  {it.name()}: {' and '.join(it.script.lacks())} is missing, or may not do here what it is needed for")
+        print(f"not run  {it.path}: {' and '.join(it.lacks())} is missing, or may not do here what it is needed for")
     failed = len(statuses) - passed - lacking
     print(f"{passed} scripts passed, {failed} failed, {lacking + len(unmet)} not run for want of a package, {len(SCRIPTS) - len(calls) - len(unmet)} left out", flush=True)
-    return passed, failed + (0 if is_whole else lacking)
+    return passed, failed + lacking
