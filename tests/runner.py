@@ -50,7 +50,7 @@ class Script:
     words: str = ""
     light: str | None = None
     needs: tuple[str, ...] = ()
-    # Whether it mostly waits: those that do take no processor from the others.
+    # Whether it mostly waits: all that do are begun at once.
     waits: bool = False
     # Why it can't run beside others: it runs alone, after all that can.
     alone: str = ""
@@ -88,14 +88,14 @@ SCRIPTS = [
     Script("tests/scripts.py", "--everywhere"),
     Script("tests/program/statuses.py", light=""),
     Script("tests/program/version.py", light=""),
-    Script("tests/program/ping.py", light=""),
-    Script("tests/program/client.py", light=""),
+    Script("tests/program/ping.py", light="", waits=True),
+    Script("tests/program/client.py", light="", waits=True),
     Script("tests/program/client_calls.py", light="", needs=("strace",)),
-    Script("tests/program/move.py", light=""),
+    Script("tests/program/move.py", light="", waits=True),
     Script("tests/program/closed_streams.py", light=""),
     Script("tests/program/ending.py", light="--few"),
     Script("tests/program/telling.py", light=""),
-    Script("tests/program/log_objects.py", light=""),
+    Script("tests/program/log_objects.py", light="", waits=True),
     Script("tests/program/kinds.py", light="", waits=True),
     Script("tests/program/alerts.py", light=""),
     Script("tests/program/metrics.py", light=""),
@@ -107,42 +107,42 @@ SCRIPTS = [
     Script("tests/program/picture.py", light=""),
     Script("tests/program/trace_format.sh"),
     Script("tests/program/trace_serve.py", light="", needs=("strace",)),
-    Script("tests/program/failing_disk.py", light="", needs=("strace",)),
+    Script("tests/program/failing_disk.py", light="", needs=("strace",), waits=True),
     Script("tests/program/lost_writes.py", light="", needs=("strace",)),
     Script("tests/program/start_calls.py"),
     Script("tests/program/replaced_journal.py", light=""),
-    Script("tests/program/handshakes.py", light=""),
+    Script("tests/program/handshakes.py", light="", waits=True),
     Script("tests/program/closes.py", light=""),
     Script("tests/program/pauses.py", light="", waits=True),
     Script("tests/program/slow_disk.py", "--few", light="--few", needs=("cc",)),
     # The sync of 100 seconds.
     Script("tests/program/slow_disk.py", "--held", light="--held", needs=("cc",), waits=True),
-    Script("tests/program/guests.py", light=""),
+    Script("tests/program/guests.py", light="", waits=True),
     Script("tests/program/refusals.py", light=""),
     Script("tests/program/no_memory.py"),
     Script("tests/attack/under_attack.py"),
-    Script("tests/attack/dear_frames.py", light="--few"),
+    Script("tests/attack/dear_frames.py", light="--few", alone="it measures receipts while clients take all processors"),
     Script("tests/attack/joins.py", light="--few"),
     Script("tests/program/memory_budget.py"),
     Script("tests/program/holders.py", light=""),
     Script("tests/program/long_names.py", light=""),
     Script("tests/attack/soak.py", "--minutes 1"),
-    Script("tests/program/waits.py", "--minutes 10", light="--minutes 1"),
+    Script("tests/program/waits.py", "--minutes 10", light="--minutes 1", alone="it measures the longest wait"),
     Script("tests/program/readiness.py"),
     Script("tests/program/unproved.py"),
     Script("tests/program/packing.py"),
     Script("tests/program/hardening.py"),
     Script("tests/program/manual.py"),
     Script("tests/program/rooms.py"),
-    Script("tests/program/crowd.py", light=""),
+    Script("tests/program/crowd.py", light="", alone="it measures how soon 700 are connected, and what idle ones cost"),
     Script("tests/program/crowd.py", "--many"),
-    Script("tests/program/backpressure.py", light=""),
-    Script("tests/program/slow_reader.py", light="--few"),
+    Script("tests/program/backpressure.py", light="", alone="it measures that nobody else waits"),
+    Script("tests/program/slow_reader.py", light="--few", alone="it measures that nobody else waits"),
     Script("tests/program/steady_readers.py", light="", waits=True),
     Script("tests/program/starved_readers.py"),
     Script("tests/program/waiting_queue.py", light=""),
     Script("tests/program/unread.py", light=""),
-    Script("tests/program/rubbish.py", light=""),
+    Script("tests/program/rubbish.py", light="", waits=True),
     Script("tests/program/holding.py", light="", waits=True),
     Script("clients/independent.py"),
     Script("tests/program/full_journal.py", light="", waits=True),
@@ -213,15 +213,17 @@ def run_all(calls, program, processors):
     """Runs these, and answers how each ended."""
     under_way, endings = Calls(program), []
     alone = [it for it in calls if it.script.alone]
-    waiting = [it for it in calls if it.script.waits and not it.script.alone]
+    waiting = [it for it in calls if it.script.waits]
     busy = [it for it in calls if it not in alone and it not in waiting]
+    # All that wait take about one.
+    at_once = max(1, processors - bool(waiting))
 
     def hear(futures):
         for it in concurrent.futures.as_completed(futures):
             endings.append(it.result())
             tell(endings[-1], len(endings), len(calls))
 
-    with concurrent.futures.ThreadPoolExecutor(max(1, len(waiting))) as patient, concurrent.futures.ThreadPoolExecutor(processors) as eager:
+    with concurrent.futures.ThreadPoolExecutor(max(1, len(waiting))) as patient, concurrent.futures.ThreadPoolExecutor(at_once) as eager:
         try:
             hear([*(patient.submit(under_way.run, it) for it in waiting), *(eager.submit(under_way.run, it) for it in busy)])
             for it in alone:

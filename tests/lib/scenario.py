@@ -1,6 +1,7 @@
 """What the scripts share: a broker over a journal in a temporary folder, and a line for each check."""
 
 import argparse
+import concurrent.futures
 import contextlib
 import os
 import pathlib
@@ -247,4 +248,19 @@ def run_over(program, scenarios):
             try_one(scenario, broker, checks)
         checks.check("the broker still runs", broker.is_running(), broker.process.poll())
     checks.tell(f"{time.monotonic() - start:.1f} s")
+    return checks.status()
+
+
+def run_side_by_side(text, scenarios, program=PROGRAM):
+    """The same of scenarios that mostly wait: all at once, each over a broker of its own."""
+    program, checks = words_of(text, program).parse_args().program, Checks()
+
+    def run_one(one):
+        with serving(program) as broker:
+            try_one(one, broker, checks)
+            checks.check(f"{one.__name__}: the broker still runs", broker.is_running(), broker.process.poll())
+
+    with concurrent.futures.ThreadPoolExecutor(len(scenarios)) as side_by_side:
+        for it in [side_by_side.submit(run_one, one) for one in scenarios]:
+            it.result()
     return checks.status()
