@@ -114,10 +114,7 @@ SCRIPTS = [
     Script("tests/program/handshakes.py", light="", waits=True),
     Script("tests/program/closes.py", light=""),
     Script("tests/program/pauses.py", light="", waits=True),
-    Script("tests/program/slow_disk.py", "--few", light="--few", needs=("cc",)),
-    # The sync of 100 seconds.
-    Script("tests/program/slow_disk.py", "--held", light="--held", needs=("cc",), waits=True),
-    Script("tests/program/guests.py", light="", waits=True),
+    Script("tests/program/slow_disk.py", light="", needs=("cc",)),
     Script("tests/program/refusals.py", light=""),
     Script("tests/program/no_memory.py"),
     Script("tests/attack/under_attack.py"),

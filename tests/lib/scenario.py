@@ -3,10 +3,13 @@
 import argparse
 import concurrent.futures
 import contextlib
+import io
 import os
 import pathlib
 import random
+import re
 import resource
+import select
 import shutil
 import signal
 import socket
@@ -23,6 +26,9 @@ PROGRAM, BUILT = TOP / "bin" / "stompd", TOP / "crates" / "stompd" / "out" / "st
 
 # Two areas of 512 MiB. The file is sparse: it takes what is written. Most scripts see no compaction so.
 JOURNAL_BYTES = 1_073_741_856
+
+# A line of the log: `stompd: `, the moment (RFC 3339, section 5.6, in UTC), and what happened.
+LINE = re.compile(r"stompd: (\d{4}-\d\d-\d\dT\d\d:\d\d:\d\dZ) (.*)\n")
 
 # Where a journal in memory is, and how many bytes have to be free there.
 MEMORY, ROOM_FOR_JOURNAL = pathlib.Path("/dev/shm"), 1 << 30
@@ -96,26 +102,101 @@ def processor_seconds_of(number):
 
 
 class Broker:
-    """The program, serving a journal."""
+    """The program, serving a journal. What it logs is read all the while."""
 
-    def __init__(self, program, journal, port=None, more=()):
-        """With `more` words of its command line."""
-        self.program, self.journal, self.port, self.more = program, journal, port or free_port(), more
+    def __init__(self, program, journal, port=None, more=(), before=(), limits=None, is_read=True, **how):
+        """With `more` words of its command line, behind words as those of strace, and under limits by their names in `resource`. How is for Popen."""
+        self.program, self.journal, self.port, self.more, self.before = program, journal, port or free_port(), more, before
+        self.how = {"stdin": subprocess.PIPE if "--until-eof" in more else subprocess.DEVNULL, "stderr": subprocess.PIPE, **how}
+        if limits:
+            self.how["preexec_fn"] = lambda: [set_limit(*it) for it in limits.items()]
+        self.is_read = is_read
         self.serve()
 
     def serve(self):
-        words = [self.program, "serve", self.journal, str(self.port), *self.more]
-        self.process = subprocess.Popen(words, stdout=subprocess.PIPE, stderr=subprocess.PIPE)
-        line = self.process.stdout.readline().decode()
-        if line != f"listening {self.port}\n":
-            self.process.kill()
-            raise RuntimeError(f"the broker does not serve: {line!r}, {self.process.stderr.read().decode()!r}")
+        # Its lines, each with the moment at which it came.
+        self.lines, self.reader = [], None
+        words = [*self.before, self.program, "serve", self.journal, self.port, *self.more]
+        self.process = subprocess.Popen(list(map(str, words)), stdout=subprocess.PIPE, bufsize=0, **self.how)
+        if self.is_read:
+            self.read()
+        if not self.listens():
+            self.kill()
+            raise RuntimeError(f"the broker does not serve: {self.text()}")
+
+    def listens(self, seconds=60):
+        """Whether it says that it listens, at its start or again."""
+        return bool(select.select([self.process.stdout], [], [], seconds)[0]) and self.process.stdout.readline() == b"listening %d\n" % self.port
+
+    def read(self):
+        if self.process.stderr:
+            self.reader = threading.Thread(target=self.read_on, daemon=True)
+            self.reader.start()
+
+    def read_on(self):
+        for line in io.BufferedReader(self.process.stderr):
+            self.lines.append((time.monotonic(), line.decode(errors="replace")))
+
+    def fill_log(self):
+        """Takes all room of the pipe into which it logs."""
+        with open(f"/proc/{self.number()}/fd/2", "wb", buffering=0) as pipe:
+            os.set_blocking(pipe.fileno(), False)
+            for size in (4_096, 64, 1):
+                while pipe.write(b"\n" * size):
+                    pass
+
+    def text(self):
+        return "".join(line for _, line in list(self.lines))
+
+    def told(self, word, seconds=3.0):
+        """What its lines with that word say after their moment, once there is one or so much time has passed."""
+        end = time.monotonic() + seconds
+        while True:
+            found = [LINE.fullmatch(line)[2] for _, line in list(self.lines) if word in line and LINE.fullmatch(line)]
+            if found or time.monotonic() > end:
+                return found
+            time.sleep(0.05)
+
+    def count(self, form):
+        """How many were told by lines of that form, which has a group for the number."""
+        return sum(int(it) for it in re.findall(form, self.text()))
+
+    def await_count(self, form, count, seconds):
+        end = time.monotonic() + seconds
+        while self.count(form) < count and time.monotonic() < end:
+            time.sleep(0.1)
+        return self.count(form)
+
+    def number(self):
+        """The number of its process, which is not that of a program that traces it."""
+        return child_of(self.process.pid) if self.before else self.process.pid
+
+    def end(self):
+        """Closes its input. The status with which it ends, and after how many seconds."""
+        began = time.monotonic()
+        self.process.stdin.close()
+        return self.await_end(), time.monotonic() - began
+
+    def await_end(self, seconds=20):
+        """Waits until it ends by itself: the status."""
+        status = self.process.wait(seconds)
+        self.close()
+        return status
 
     def kill(self):
-        self.process.send_signal(signal.SIGKILL)
+        # A program that traces it ends with it, and by the same signal.
+        if self.process.poll() is None:
+            with contextlib.suppress(ValueError, OSError):
+                os.kill(self.number(), signal.SIGKILL)
         self.process.wait()
-        self.process.stdout.close()
-        self.process.stderr.close()
+        self.close()
+
+    def close(self):
+        if self.reader:
+            self.reader.join(10)
+        for stream in (self.process.stdin, self.process.stdout, self.process.stderr):
+            if stream:
+                stream.close()
 
     def has_failed(self):
         """Whether one that was killed had ended by itself before."""
@@ -140,31 +221,47 @@ class Broker:
         return self.process.poll() is None
 
     def processor_seconds(self):
-        return processor_seconds_of(self.process.pid)
+        return processor_seconds_of(self.number())
 
     def memory(self, name):
         """So many KiB of it, as the system counts them: `VmRSS` now, `VmHWM` at most since `forget_peak`. It has to run."""
-        with open(f"/proc/{self.process.pid}/status", encoding="ascii") as status:
-            for line in status:
-                if line.startswith(name + ":"):
-                    return int(line.split()[1])
-        raise RuntimeError(f"the system tells no {name} of the broker")
+        with open(f"/proc/{self.number()}/status", encoding="ascii") as status:
+            return next(int(line.split()[1]) for line in status if line.startswith(name + ":"))
 
     def forget_peak(self):
-        with open(f"/proc/{self.process.pid}/clear_refs", "w", encoding="ascii") as clear:
+        with open(f"/proc/{self.number()}/clear_refs", "w", encoding="ascii") as clear:
             clear.write("5")
 
     def count_of_threads(self):
-        return len(os.listdir(f"/proc/{self.process.pid}/task"))
+        return len(os.listdir(f"/proc/{self.number()}/task"))
+
+    def count_of_descriptors(self):
+        return len(os.listdir(f"/proc/{self.number()}/fd"))
+
+
+def set_limit(name, value):
+    """Sets the limit that counts, under the one that it may be raised to."""
+    kind = getattr(resource, f"RLIMIT_{name}")
+    resource.setrlimit(kind, (value, resource.getrlimit(kind)[1]))
+
+
+def slow_syncs(folder, **settings):
+    """The environment of a program whose syncs wait, as the settings of bench/slow_sync.c say. Needs a C compiler."""
+    built = f"{folder}/slow_sync.so"
+    subprocess.run(["cc", "-O2", "-shared", "-fPIC", "-o", built, TOP / "bench" / "slow_sync.c"], check=True)
+    return {**os.environ, "LD_PRELOAD": built, **{name: str(value) for name, value in settings.items()}}
+
+
+def make_journal(program, path, journal_bytes=JOURNAL_BYTES):
+    subprocess.run([program, "format", "--sparse", path, str(journal_bytes)], check=True)
+    return path
 
 
 @contextlib.contextmanager
-def serving(program=PROGRAM, journal_bytes=JOURNAL_BYTES, kind=Broker):
+def serving(program=PROGRAM, journal_bytes=JOURNAL_BYTES, kind=Broker, **options):
     """A broker over a new journal, which is killed at the end."""
     with tempfile.TemporaryDirectory(prefix="stompd-") as folder:
-        journal = os.path.join(folder, "journal")
-        subprocess.run([program, "format", "--sparse", journal, str(journal_bytes)], check=True)
-        broker = kind(program, journal)
+        broker = kind(program, make_journal(program, os.path.join(folder, "journal"), journal_bytes), **options)
         try:
             yield broker
         finally:

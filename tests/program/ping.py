@@ -13,25 +13,25 @@ import contextlib
 import http.server
 import os
 import re
-import resource
 import signal
 import socket
 import struct
-import subprocess
 import sys
 import threading
 import time
 
 from lib.commands import FULL, NOBODY, UNWRITTEN, run_for_text, told
 from lib.fake_peer import CONNECT, CONNECTED, Peer, answering, close, closing, connected, ending, nothing, receipt_of, receipted, saying
-from lib.scenario import BUILT, Broker, Checks, built_program, free_port, serving, words_of
+from lib.scenario import BUILT, Checks, built_program, free_port, serving, words_of
 from lib.stomp_client import Client, Closed, Refused
-from lib.wire import BINARY, CLOSE, PING, TEXT
+from lib.wire import BINARY, CLOSE, PING, TEXT, handshake
 
 # A step may take five seconds. What a busy machine may add to that.
 STEP, BUSY = 5, 4
 # How many places a full server keeps for pings.
 KEPT = 16
+# So many that are refused stay, and as many say nothing.
+STAYING = 90
 ANSWERED = re.compile(r"receipt after \d+\.\d{3} ms\n")
 NO_ADDRESS = "stompd: '{}': PORT is a number from 1 to 65535, or ws://HOST:PORT/PATH in small letters; there is no TLS\n"
 
@@ -274,43 +274,38 @@ def running(program, checks):
         broker.process.send_signal(signal.SIGTERM)
         broker.process.wait()
         checks.same("a server that has ended", ping(program, broker.port)[0], untold(NOBODY))
-    with serving(program, kind=lambda *words: Broker(*words, more=("--origin", "https://chat.example"))) as broker:
+    with serving(program, more=("--origin", "https://chat.example")) as broker:
         seen, _ = ping(program, broker.port)
         checks.check("a server with origins", is_answered(seen), seen)
 
 
+def stay(port, asked):
+    """A socket that asks this, if anything, reads the first of the answer, and stays."""
+    one = socket.create_connection(("127.0.0.1", port), timeout=10)
+    with contextlib.suppress(OSError):
+        one.sendall(asked)
+        if asked:
+            one.recv(1)
+    return one
+
+
 def full(program, checks):
-    """A server that takes no more clients answers 503 to all but sixteen pings, and one whose journal is full has ended."""
-
-    def few():
-        resource.setrlimit(resource.RLIMIT_NOFILE, (300, 300))
-
-    class Small(Broker):
-        def serve(self):
-            words = [self.program, "serve", self.journal, str(self.port)]
-            self.process = subprocess.Popen(words, stdout=subprocess.PIPE, stderr=subprocess.DEVNULL, stdin=subprocess.DEVNULL, preexec_fn=few)
-            assert self.process.stdout.readline().decode() == f"listening {self.port}\n"
-
-        def kill(self):
-            self.process.kill()
-            self.process.wait()
-            self.process.stdout.close()
-
-    with serving(program, kind=Small) as broker:
+    """A server that takes no more clients answers 503 to all but sixteen pings, also if those that it refused stay."""
+    with serving(program, limits={"NOFILE": 300}) as broker:
         clients = []
         with contextlib.suppress(Refused, Closed):
             while len(clients) < 300:
-                clients.append(Client(broker.port))
+                clients.append(Client(broker.port).connect())
         checks.check("a server may be full", 0 < len(clients) < 300, len(clients))
-        checks.check("a server that is full has a place for a ping", is_answered(ping(program, broker.port)[0]))
-        with contextlib.suppress(Refused, Closed):
-            while len(clients) < 300:
-                clients.append(Client(broker.port))
-        # Those that were refused have such a place for two seconds.
+        # It has so many descriptors left for what it refuses, for two seconds each, and for pings.
+        staying = [stay(broker.port, asked) for _ in range(STAYING) for asked in (handshake(broker.port), b"")]
         time.sleep(3)
+        seen = [is_answered(ping(program, broker.port)[0]) for _ in range(3)]
+        checks.same("it answers three pings though clients that it refused stay, and others say nothing", seen, [True] * 3)
+        checks.same("and none that it took is disconnected", [one.publish("/topic/none", "x") for one in clients], [[]] * len(clients))
         clients += [Client(broker.port, path="/stompd-ping") for _ in range(KEPT)]
         checks.same("a server whose places for pings are taken is alive", ping(program, broker.port)[0], untold(NO_HANDSHAKE + "HTTP status 503", 3))
-        for client in clients:
+        for client in [*clients, *staying]:
             client.close()
         # Its workers look at their sockets one after another.
         taken, end = False, time.monotonic() + 10
@@ -319,11 +314,6 @@ def full(program, checks):
                 Client(broker.port).close()
                 taken = True
         checks.check("a server that was full takes another client", taken)
-    with serving(program, journal_bytes=8_224) as broker:
-        os.unlink(broker.journal)
-        broker.process.wait(timeout=10)
-        checks.same("it has ended by a fault", broker.process.returncode, 1)
-        checks.same("a server that has ended by a fault", ping(program, broker.port)[0], untold(NOBODY))
 
 
 def other_servers(program, checks):
