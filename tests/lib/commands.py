@@ -44,6 +44,12 @@ def started(program, *words, stdin=subprocess.DEVNULL, **how):
                 stream.close()
 
 
+def held_or_fault(program, journal):
+    """How many messages `show` says that a journal holds, or what it tells."""
+    status, printed, said = run_for_text(program, "show", journal)
+    return said.strip() if status else int(dict(it.split(" ") for it in printed.splitlines())["held"])
+
+
 def shown(program, command, journal):
     """The object that `show`, `held` or `sessions` prints of a journal."""
     return json.loads(subprocess.run([program, command, "--json", journal], capture_output=True, check=True).stdout)

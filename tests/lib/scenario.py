@@ -101,6 +101,14 @@ def processor_seconds_of(number):
     return (int(fields[11]) + int(fields[12])) / os.sysconf("SC_CLK_TCK")
 
 
+class Unserved(RuntimeError):
+    """A broker does not say that it listens: the status with which it ended, and what it told."""
+
+    def __init__(self, status, told):
+        super().__init__(f"the broker does not serve: {told}")
+        self.status, self.told = status, told
+
+
 class Broker:
     """The program, serving a journal. What it logs is read all the while."""
 
@@ -121,8 +129,10 @@ class Broker:
         if self.is_read:
             self.read()
         if not self.listens():
+            with contextlib.suppress(subprocess.TimeoutExpired):
+                self.process.wait(10)
             self.kill()
-            raise RuntimeError(f"the broker does not serve: {self.text()}")
+            raise Unserved(self.process.returncode, self.text())
 
     def listens(self, seconds=60):
         """Whether it says that it listens, at its start or again."""
