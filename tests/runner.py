@@ -128,7 +128,7 @@ SCRIPTS = [
     Script("tests/program/packing.py"),
     Script("tests/program/hardening.py"),
     Script("tests/program/manual.py"),
-    Script("tests/program/rooms.py"),
+    Script("tests/program/rooms.py", light=""),
     Script("tests/program/crowd.py", light="", alone="it measures how soon 700 are connected, and what idle ones cost"),
     Script("tests/program/crowd.py", "--many"),
     Script("tests/program/backpressure.py", light="", alone="it measures that nobody else waits"),
