@@ -135,7 +135,6 @@ SCRIPTS = [
     Script("tests/program/slow_reader.py", light="--few", alone="it measures that nobody else waits"),
     Script("tests/program/steady_readers.py", light="", waits=True),
     Script("tests/program/starved_readers.py"),
-    Script("tests/program/waiting_queue.py", light=""),
     Script("tests/program/unread.py", light=""),
     Script("tests/program/rubbish.py", light="", waits=True),
     Script("tests/program/holding.py", light="", waits=True),
