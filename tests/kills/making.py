@@ -9,27 +9,25 @@ Python 3 alone.
 - The device is played here, page by page, from a trace. At each call the power fails, with none, the first half, the second half or all of the pages that were
   written since the last sync. What the device holds of the file, under whatever name, is then refused by a named error, or is the whole journal; and under
   the file's own name it is the whole one.
-- A file that is there stays, and so do a `FILE.new` that another process has locked, one that begins like no unfinished journal, and a link or folder there.
 """
 
-import fcntl
 import os
 import pathlib
 import re
-import select
 import shutil
 import signal
 import subprocess
 import sys
 import tempfile
 
-from lib.scenario import BUILT, BriefChecks, Broker, built_program, child_of, free_port, words_of
+from lib.commands import run_for_text
+from lib.scenario import BUILT, BriefChecks, Broker, built_program, child_of, free_port, make_journal, words_of
 from lib.stomp_client import Client
+from lib.tracing import SYNC, WRITE, Device, bytes_of, need_strace, strace, text_of
 
 # The journal that is copied, and the copy: areas that hold some messages of several pages.
 JOURNAL_BYTES, COPY_BYTES, SMALLEST = 524_320, 262_176, 8_224
 MESSAGES, BODY = 24, "x" * 3_000
-PAGE = 4_096
 
 CALLS = "openat,ftruncate,fallocate,pwrite64,write,pread64,fsync,fdatasync,flock,link,linkat,unlink,unlinkat,rename,renameat,renameat2,newfstatat,statx,fstat,lseek"
 CALL = re.compile(r"^\d+ +(\w+)\(")
@@ -38,14 +36,12 @@ EMPTY = "messages 0 of 4096\nbytes 0 of 16777216\n0 0 topics\n"
 REFUSED = re.compile(r"stompd: (J1 not a journal|J2 damaged at \d+|J7 unknown version|J8 disk too small)\n")
 
 OPENED = re.compile(r'openat\(AT_FDCWD, "([^"]*)", [^)]*O_CREAT[^)]*\) += (\d+)')
-WRITE = re.compile(r'pwrite64\((\d+), "((?:\\x[0-9a-f]{2})*)", \d+, (\d+)\) += \d+')
 SIZED = re.compile(r"ftruncate\((\d+), (\d+)\) += 0")
-SYNC = re.compile(r"(?:fdatasync|fsync)\((\d+)\) += 0")
 LINK = re.compile(r'link(?:at)?\((?:AT_FDCWD, )?"([^"]*)", (?:AT_FDCWD, )?"([^"]*)"[^)]*\) += 0')
 
 
-def text_of(escaped):
-    return bytes.fromhex(escaped.replace("\\x", "")).decode()
+def named(escaped):
+    return bytes_of(escaped).decode()
 
 
 class Making:
@@ -66,14 +62,9 @@ class Making:
         return process.returncode, errors.decode()
 
 
-def printed(program, word, path):
-    done = subprocess.run([program, word, path], stdin=subprocess.DEVNULL, capture_output=True, text=True, timeout=60)
-    return done.returncode, done.stdout, done.stderr
-
-
 def state_of(program, making, path):
     """Whether a file there is the whole journal, is refused, or is neither."""
-    held, sessions, shown = (printed(program, word, path) for word in ("held", "sessions", "show"))
+    held, sessions, shown = (run_for_text(program, word, path) for word in ("held", "sessions", "show"))
     if (held[:2], sessions[:2], shown[0]) == ((0, making.held), (0, making.sessions), 0):
         return "whole"
     if all(status == 1 and REFUSED.fullmatch(told) for status, _, told in (held, sessions, shown)):
@@ -96,7 +87,7 @@ class Folder:
 def calls_of(checks, making, top):
     """The name of each call of a run that isn't killed, with its number among those of that name, from the first that has the file's name on."""
     folder = Folder(top)
-    status, told = making.run(checks.program, folder.made, ["strace", "-f", "-o", folder.trace, "-e", f"trace={CALLS}"])
+    status, told = making.run(checks.program, folder.made, strace(folder.trace, CALLS))
     checks.same(f"{making.name}: it succeeds", (status, told), (None, "") if making.serves else (0, ""))
     checks.same(f"{making.name}: and makes", state_of(checks.program, making, folder.made), "whole")
     checks.same(f"{making.name}: and leaves nothing else", [it.name for it in folder.path.iterdir()], ["made"])
@@ -116,8 +107,7 @@ def calls_of(checks, making, top):
 def kill_at(checks, making, top, call, number):
     folder = Folder(top)
     what = f"{making.name}, killed at {call} {number}"
-    inject = ["strace", "-f", "-o", folder.trace, "-e", f"trace={call}", "-e", f"inject={call}:signal=KILL:when={number}"]
-    status, _ = making.run(checks.program, folder.made, inject)
+    status, _ = making.run(checks.program, folder.made, strace(folder.trace, call, f"{call}:signal=KILL:when={number}"))
     checks.check(f"{what}: it was killed", status in (-signal.SIGKILL, 128 + signal.SIGKILL), status)
     is_made = folder.made.exists()
     if is_made:
@@ -138,115 +128,54 @@ def kill_at(checks, making, top, call, number):
     folder.remove()
 
 
-class Device:
-    """What the system has in memory of a file, and what the device has of it."""
-
-    def __init__(self):
-        self.cache, self.stable, self.dirty, self.names = bytearray(), bytearray(), [], set()
-
-    def size(self, count):
-        self.cache[count:], self.stable[count:] = b"", b""
-        self.cache.extend(bytes(count - len(self.cache)))
-        self.stable.extend(bytes(count - len(self.stable)))
-
-    def write(self, data, at):
-        self.cache[at : at + len(data)] = data
-        self.dirty += [page for page in range(at // PAGE, (at + len(data) - 1) // PAGE + 1) if page not in self.dirty]
-
-    def give(self, content, pages):
-        for page in pages:
-            content[page * PAGE : (page + 1) * PAGE] = self.cache[page * PAGE : (page + 1) * PAGE]
-
-    def sync(self):
-        self.give(self.stable, self.dirty)
-        self.dirty = []
-
-    def losses(self):
-        half = len(self.dirty) // 2
-        for pages in ([], self.dirty[:half], self.dirty[half:], self.dirty):
-            content = bytearray(self.stable)
-            self.give(content, pages)
-            yield bytes(content)
-
-
 def lose_power(checks, making, top):
     """Plays the device of a run that isn't killed, and looks at what it holds at each call."""
     folder = Folder(top)
-    words = ["strace", "-f", "-o", folder.trace, "-xx", "-s", "1000000", "-e", "trace=openat,ftruncate,pwrite64,fsync,fdatasync,link,linkat"]
-    making.run(checks.program, folder.made, words)
-    device, descriptors, looked = Device(), set(), {}
-    for number, line in enumerate(folder.trace.read_text(encoding="ascii").splitlines()):
-        if (found := OPENED.search(line)) and text_of(found[1]).startswith(str(folder.made)):
+    making.run(checks.program, folder.made, strace(folder.trace, "openat,ftruncate,pwrite64,fsync,fdatasync,link,linkat", has_texts=True))
+    device, names, descriptors, looked = Device(), set(), set(), {}
+    for number, line in enumerate(text_of(folder.trace).splitlines()):
+        if (found := OPENED.search(line)) and named(found[1]).startswith(str(folder.made)):
             descriptors.add(found[2])
-            device.names.add(text_of(found[1]))
-        elif "openat(" in line and "O_RDWR" in line and (found := re.search(r'openat\(AT_FDCWD, "([^"]*)".*\) += (\d+)', line)) and text_of(found[1]) in device.names:
+            names.add(named(found[1]))
+        elif "openat(" in line and "O_RDWR" in line and (found := re.search(r'openat\(AT_FDCWD, "([^"]*)".*\) += (\d+)', line)) and named(found[1]) in names:
             descriptors.add(found[2])
         elif (found := SIZED.search(line)) and found[1] in descriptors:
             device.size(int(found[2]))
         elif (found := WRITE.search(line)) and found[1] in descriptors:
-            device.write(bytes.fromhex(found[2].replace("\\x", "")), int(found[3]))
-        elif (found := SYNC.search(line)) and found[1] in descriptors:
+            device.write(bytes_of(found[2]), int(found[3]))
+        elif (found := SYNC.search(line)) and found[1] in descriptors and found[2] == "0":
             device.sync()
-        elif (found := LINK.search(line)) and text_of(found[1]) in device.names:
-            device.names.add(text_of(found[2]))
-        for content in set(device.losses()) if device.names else ():
+        elif (found := LINK.search(line)) and named(found[1]) in names:
+            names.add(named(found[2]))
+        for content in set(device.losses()) if names else ():
             if content not in looked:
                 (folder.path / "image").write_bytes(content)
                 looked[content] = state_of(checks.program, making, folder.path / "image")
-            allowed = ("whole",) if str(folder.made) in device.names else ("whole", "refused")
+            allowed = ("whole",) if str(folder.made) in names else ("whole", "refused")
             checks.check(f"{making.name}, power lost at line {number} of its trace", looked[content] in allowed, (looked[content], line[:80]))
     checks.check(f"{making.name}: images that were looked at", len(looked) > 2, len(looked))
     checks.check(f"{making.name}: some are refused, and one is whole", {"refused", "whole"} <= set(looked.values()), set(looked.values()))
     folder.remove()
 
 
-def keeps_others(checks, making, top):
-    """What is there already stays, and the line says so."""
-    def try_over(what, prepare, told):
-        folder = Folder(top)
-        held = prepare(folder)
-        seen = lambda: sorted((it.name, it.lstat().st_ino, hash(it.read_bytes()) if it.is_file() else None) for it in folder.path.iterdir())
-        before = seen()
-        checks.same(f"{making.name}: {what}", making.run(checks.program, folder.made), (1, told.replace("FILE", str(folder.made))))
-        checks.same(f"{making.name}: {what}: all stays", seen(), before)
-        del held
-        folder.remove()
-
-    def locked(folder):
-        file = folder.draft.open("wb")
-        fcntl.flock(file, fcntl.LOCK_EX)
-        return file
-
-    foreign = "stompd: cannot open: FILE.new: it is there, and no unfinished journal; rename or remove it\n"
-    if not making.serves:
-        try_over("a file is there", lambda folder: folder.made.write_bytes(b"mine"), "stompd: cannot open: FILE: it is there already\n")
-        try_over("a link to nothing is there", lambda folder: folder.made.symlink_to("nowhere"), "stompd: cannot open: FILE: it is there already\n")
-    try_over("FILE.new is locked", locked, "stompd: cannot open: FILE.new: it is locked, since another stompd makes the file\n")
-    try_over("FILE.new is somebody's", lambda folder: folder.draft.write_bytes(b"mine"), foreign)
-    try_over("FILE.new is a folder", lambda folder: folder.draft.mkdir(), foreign)
-    try_over("FILE.new is a link", lambda folder: folder.draft.symlink_to("nowhere"), foreign)
-
-
 def source_of(checks, top):
     """A journal with messages, and an open session with a subscription and messages in hand."""
     path = f"{top}/source"
-    subprocess.run([checks.program, "format", path, str(JOURNAL_BYTES)], check=True)
+    make_journal(checks.program, path, JOURNAL_BYTES)
     broker = Broker(checks.program, path)
     client = Client(broker.port).connect("a shop")
     for number in range(MESSAGES):
         client.publish("/queue/kept", f"{number} {BODY}")
     client.subscribe("0", "/queue/kept", ack="client-individual")
     broker.kill()
-    held, sessions = printed(checks.program, "held", path), printed(checks.program, "sessions", path)
+    held, sessions = run_for_text(checks.program, "held", path), run_for_text(checks.program, "sessions", path)
     checks.check("the source has messages and a session", str(MESSAGES) in held[1] and "session" in sessions[1], (held, sessions))
     return path, held[1], sessions[1]
 
 
 def main():
     checks = BriefChecks(built_program(words_of(__doc__, BUILT).parse_args()))
-    if shutil.which("strace") is None:
-        print("making: strace is missing", file=sys.stderr)
-        return 2
+    need_strace()
     with tempfile.TemporaryDirectory() as top:
         path, held, sessions = source_of(checks, top)
         makings = [
@@ -259,7 +188,6 @@ def main():
             for call, number in calls_of(checks, making, top):
                 kill_at(checks, making, top, call, number)
             lose_power(checks, making, top)
-            keeps_others(checks, making, top)
     return checks.status()
 
 

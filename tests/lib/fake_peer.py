@@ -1,6 +1,7 @@
 """A peer of the program's own client: a socket that takes one connection, and does what a test gives it."""
 
 import base64
+import contextlib
 import hashlib
 import re
 import socket
@@ -9,6 +10,8 @@ import threading
 from .wire import CLOSE, PONG, TEXT, message_bytes, take_frame
 
 CONNECTED = b"CONNECTED\nversion:1.2\n\n\0"
+# What the program's client says first and last.
+CONNECT, LEAVE = b"CONNECT\naccept-version:1.2\nhost:127.0.0.1\n\n\0", b"DISCONNECT\nreceipt:left\n\n\0"
 
 
 class Peer:
@@ -84,3 +87,41 @@ def receipt_of(frame):
 
 def close(peer, code=1000):
     peer.say(code.to_bytes(2, "big"), CLOSE)
+
+
+def answering(*steps):
+    """A peer that accepts the handshake, and does each of these once it has heard a frame; then it waits."""
+
+    def act(peer):
+        peer.shake()
+        for step in steps:
+            step(peer, peer.hear()[1])
+        with contextlib.suppress(EOFError):
+            while True:
+                peer.hear()
+
+    return act
+
+
+def saying(payload, kind=TEXT):
+    return lambda peer, _: peer.say(payload, kind)
+
+
+def connected(peer, _):
+    peer.say(CONNECTED)
+
+
+def receipted(peer, frame):
+    peer.say(receipt_of(frame))
+
+
+def closing(code):
+    return lambda peer, _: close(peer, code)
+
+
+def ending(peer, _):
+    peer.socket.shutdown(socket.SHUT_RDWR)
+
+
+def nothing(*_):
+    pass

@@ -9,7 +9,6 @@ PROGRAM is the built program; without it, the one that bin/stompd leaves in crat
 
 import concurrent.futures
 import contextlib
-import json
 import os
 import pathlib
 import select
@@ -22,7 +21,8 @@ import tempfile
 import threading
 import time
 
-from lib.fake_peer import CONNECTED, Peer, close, receipt_of
+from lib.commands import FULL, NOBODY, NONE, UNWRITTEN, run, shown, started, told
+from lib.fake_peer import CONNECT, CONNECTED, LEAVE, Peer, answering, close, closing, connected, ending, nothing, receipted, saying
 from lib.scenario import BUILT, Checks, built_program, free_port, serving, words_of
 from lib.stomp_client import Client
 from lib.wire import CLOSE, PING, PONG, TEXT, message_bytes
@@ -32,7 +32,6 @@ UNKNOWN = "; the server may have taken it, or not"
 QUIET = 7
 # For how long a step may last, and how long one lasts in some trials: two of these are longer.
 STEP, SLOW = 5, 2.6
-NOBODY = "no connection: nobody listens there"
 # Headers that nobody may give to `send` (docs/CLI.md).
 OWN = "send sets destination, receipt and content-length itself, and the server subscription, message-id and ack"
 OWN_NAMES = ("destination", "receipt", "content-length", "subscription", "message-id", "ack")
@@ -53,41 +52,16 @@ COMMANDS = {
 }
 
 
-def run(program, *words, given=b"", seconds=60):
-    """The status, what was printed and what was told."""
-    done = subprocess.run([program, *map(str, words)], input=given, capture_output=True, timeout=seconds)
-    return done.returncode, done.stdout, done.stderr.decode()
-
-
-def told(text):
-    return f"stompd: {text}\n"
-
-
 def held(program, broker):
     """What `held` has between its two lines of totals and that of the topics."""
-    lines = subprocess.run([program, "held", broker.journal], capture_output=True, text=True, check=True).stdout.splitlines()
+    lines = run(program, "held", broker.journal)[1].decode().splitlines()
     assert lines[-1].endswith(" topics"), lines
     return lines[2:-1]
 
 
 def sessions(program, broker):
     """The sessions that are open, by what `sessions` has of each."""
-    shown = subprocess.run([program, "sessions", "--json", broker.journal], capture_output=True, check=True).stdout
-    return {it["session"] for it in json.loads(shown)["sessions"]}
-
-
-@contextlib.contextmanager
-def started(program, *words, stdin=subprocess.DEVNULL):
-    """The program, running; it is killed at the end."""
-    process = subprocess.Popen([program, *map(str, words)], stdin=stdin, stdout=subprocess.PIPE, stderr=subprocess.PIPE)
-    try:
-        yield process
-    finally:
-        process.kill()
-        process.wait()
-        for stream in (process.stdin, process.stdout, process.stderr):
-            if stream:
-                stream.close()
+    return {it["session"] for it in shown(program, "sessions", broker.journal)["sessions"]}
 
 
 def helps(program, checks):
@@ -108,9 +82,7 @@ def helps(program, checks):
     for words in (["relay"], ["send", "relay"], ["--send"]):
         status, printed, said = run(program, "help", *words)
         checks.check(f"no help of {words}", (status, printed) == (2, b"") and words[-1] in said, (status, printed, said))
-    with open("/dev/full", "wb") as full:
-        done = subprocess.run([program, "help"], stdin=subprocess.DEVNULL, stdout=full, stderr=subprocess.PIPE, timeout=60)
-    checks.same("help that can't be printed", (done.returncode, done.stderr.decode()), (1, told("input or output failed")))
+    checks.same("help that can't be printed", run(program, "help", sink=FULL), (1, b"", UNWRITTEN))
 
 
 def bad_words(program, checks):
@@ -175,14 +147,13 @@ def bodies(program, checks):
         message = client.receive()
         checks.same("sends headers", (seen[0], [message.headers.get(it) for it in ("colour", "kind", "empty")]), (0, ["dark:blue", "\n\\", ""]))
         checks.same("65,537 bytes", run(program, "send", *at, given=b"x" * 65_537), (1, b"", told("a body has at most 65536 bytes")))
-        nothing = (1, b"", told("no BODY is given, and standard input has none; '' sends an empty one"))
-        checks.same("no body", run(program, "send", *at), nothing)
-        closed = subprocess.run(["sh", "-c", 'exec "$@" <&-', "sh", program, "send", *map(str, at)], capture_output=True, timeout=60)
-        checks.same("no body on a closed standard input", (closed.returncode, closed.stdout, closed.stderr.decode()), nothing)
+        no_body = (1, b"", told("no BODY is given, and standard input has none; '' sends an empty one"))
+        checks.same("no body", run(program, "send", *at), no_body)
+        checks.same("no body on a closed standard input", run("sh", "-c", 'exec "$@" <&-', "sh", program, "send", *at), no_body)
         folder = os.open("/", os.O_RDONLY)
         for more, rest in (([], ""), (["--lines"], told("0 lines before it were taken"))):
             unread = subprocess.run([program, "send", *map(str, at), *more], stdin=folder, capture_output=True, timeout=60)
-            wanted = (1, b"", told("input or output failed") + rest)
+            wanted = (1, b"", UNWRITTEN + rest)
             checks.same(f"standard input that can't be read {more}", (unread.returncode, unread.stdout, unread.stderr.decode()), wanted)
         os.close(folder)
         seen = run(program, "send", broker.port, "/nowhere", "x")
@@ -300,14 +271,12 @@ def ends(program, checks):
                 checks.same(f"prints at once, and ends by signal {number}", (seen, ended, listener.stdout.read(), listener.stderr.read()), ((b"one\n", b"two\n"), -number, b"", b""))
             checks.same("and what it has shown goes back", run(program, "listen", broker.port, "/queue/a", "--count", 2), (0, b"one\ntwo\n", ""))
         checks.same("all of it", held(program, broker), before)
-        with open("/dev/full", "wb") as full:
-            done = subprocess.run([program, "listen", str(broker.port), "/queue/a", "--settle", "--count", "1"], stdout=full, stderr=subprocess.PIPE, timeout=60)
-        checks.same("what can't be printed", (done.returncode, done.stderr.decode()), (1, told("input or output failed")))
+        checks.same("what can't be printed", run(program, "listen", broker.port, "/queue/a", "--settle", "--count", 1, sink=FULL), (1, b"", UNWRITTEN))
         reads, writes = os.pipe()
         os.close(reads)
         piped = subprocess.run([program, "listen", str(broker.port), "/queue/a", "--settle"], stdout=writes, stderr=subprocess.PIPE, timeout=60)
         os.close(writes)
-        checks.same("a pipe that is broken", (piped.returncode, piped.stderr.decode()), (1, told("input or output failed")))
+        checks.same("a pipe that is broken", (piped.returncode, piped.stderr.decode()), (1, UNWRITTEN))
         checks.same("is not settled", held(program, broker), before)
         with started(program, "listen", broker.port, "/topic/t", "--once") as listener:
             time.sleep(1)
@@ -357,14 +326,11 @@ def restarts(program, checks):
             seen = listener.wait(15), listener.stdout.read(), listener.stderr.read().decode()
             checks.same("whose server stays away for so long as it waits", seen, (4, b"", told(GONE) + told(NONE)))
     checks.same("no server from the first", run(program, "listen", broker.port, "/topic/t", "--timeout", 9), (1, b"", told(NOBODY)))
-    for what, step, text in (("an ERROR", saying(ERROR), "ERROR: E12 no room for the message"), ("a close by 1002", lambda peer, _: close(peer, 1002), "closed with 1002")):
+    for what, step, text in (("an ERROR", saying(ERROR), "ERROR: E12 no room for the message"), ("a close by 1002", closing(1002), "closed with 1002")):
         peer = Peer(answering(connected, step))
         seen = run(program, "listen", peer.port, "/queue/a")
         peer.end()
         checks.same(f"{what} ends it", seen, (1, b"", told(f"no more messages: {text}")))
-
-
-NONE = "no more messages: none came within --timeout"
 
 
 def timeouts(program, checks):
@@ -384,39 +350,9 @@ def timeouts(program, checks):
                 time.sleep(1)
                 run(program, "send", broker.port, "/topic/t", number)
             checks.same("each message begins it anew", (listener.wait(10), listener.stdout.read()), (4, b"0\n1\n2\n3\n"))
-    steps = [connected, lambda *_: None, receipted]
+    steps = [connected, nothing, receipted]
     seen, said = frames_said(program, ["listen", "/queue/a", "--timeout", "1"], *steps)
-    checks.same("it says DISCONNECT, and closes", (seen, said[2:]), ((4, b"", told(NONE)), [b"DISCONNECT\nreceipt:left\n\n\0"]))
-
-
-def answering(*steps):
-    """A peer that accepts the handshake, and does each of these once it has heard a frame; then it waits."""
-
-    def act(peer):
-        peer.shake()
-        for step in steps:
-            step(peer, peer.hear()[1])
-        with contextlib.suppress(EOFError):
-            while True:
-                peer.hear()
-
-    return act
-
-
-def saying(payload):
-    return lambda peer, _: peer.say(payload)
-
-
-def connected(peer, _):
-    peer.say(CONNECTED)
-
-
-def receipted(peer, frame):
-    peer.say(receipt_of(frame))
-
-
-def ending(peer, _):
-    peer.socket.shutdown(2)
+    checks.same("it says DISCONNECT, and closes", (seen, said[2:]), ((4, b"", told(NONE)), [LEAVE]))
 
 
 def message(body, number, subscription="heard"):
@@ -429,10 +365,10 @@ ERROR = b"ERROR\nmessage:E12 no room for the message\nreceipt-id:sent\n\n\0"
 UNSENT = {
     "the RECEIPT of another frame": (saying(b"RECEIPT\nreceipt-id:another\n\n\0"), "no RECEIPT: RECEIPT came" + UNKNOWN),
     "an ERROR": (saying(ERROR), "no RECEIPT: ERROR: E12 no room for the message"),
-    "a close": (lambda peer, _: close(peer, 1001), "no RECEIPT: closed with 1001" + UNKNOWN),
+    "a close": (closing(1001), "no RECEIPT: closed with 1001" + UNKNOWN),
     "a close without a code": (lambda peer, _: peer.say(b"", CLOSE), "no RECEIPT: closed with 1005" + UNKNOWN),
     "the end": (ending, "no RECEIPT: the connection has ended" + UNKNOWN),
-    "nothing": (lambda *_: None, "no RECEIPT: no answer within 5 s" + UNKNOWN),
+    "nothing": (nothing, "no RECEIPT: no answer within 5 s" + UNKNOWN),
     "what is no STOMP": (saying(b"hello\n\n\0"), "no RECEIPT: what came is no STOMP" + UNKNOWN),
 }
 
@@ -518,7 +454,7 @@ def windows(program, checks):
         ("all but the last", 3, map(receipt, (1, 2)), ending, told(ended) + told("2 lines before it were taken")),
         ("a RECEIPT twice", 3, map(receipt, (1, 1)), ending, told("no RECEIPT: RECEIPT came" + UNKNOWN) + told("1 lines before it were taken") + told(unsure(2))),
         ("an ERROR after two", 3, [receipt(1), receipt(2), ERROR], ending, told("no RECEIPT: ERROR: E12 no room for the message") + told("2 lines before it were taken")),
-        ("a close after two", 4, map(receipt, (1, 2)), lambda peer, _: close(peer, 1001), told("no RECEIPT: closed with 1001" + UNKNOWN) + told("2 lines before it were taken") + told(unsure(2))),
+        ("a close after two", 4, map(receipt, (1, 2)), closing(1001), told("no RECEIPT: closed with 1001" + UNKNOWN) + told("2 lines before it were taken") + told(unsure(2))),
     ):
         checks.same(f"lines are answered by {what}", broken_after(program, sent, payloads, leaves), ((1, b"", text), None))
     with serving(program) as broker:
@@ -551,18 +487,17 @@ def frames_said(program, words, *steps, given=b"", leaves=close):
 
 def frames(program, checks):
     """Which frames are said (STOMP 1.2, "CONNECT", "SEND", "SUBSCRIBE", "ACK", "UNSUBSCRIBE", "DISCONNECT")."""
-    connect, leave = b"CONNECT\naccept-version:1.2\nhost:127.0.0.1\n\n\0", b"DISCONNECT\nreceipt:left\n\n\0"
     seen, said = frames_said(program, ["send", "/queue/a", "a:b", "--header", "c:d:e"], connected, receipted, receipted)
     send = b"SEND\ndestination:/queue/a\nreceipt:sent\ncontent-length:3\nc:d\\ce\n\na:b\0"
-    checks.same("of one who sends", (seen, said), ((0, b"", ""), [connect, send, leave]))
+    checks.same("of one who sends", (seen, said), ((0, b"", ""), [CONNECT, send, LEAVE]))
     steps = [connected, lambda peer, _: peer.say(receipt(1)), receipted]
     seen, said = frames_said(program, ["send", "/queue/a", "--lines", "--header", "c:d:e"], *steps, given=b"one\n")
     line = b"SEND\ndestination:/queue/a\nreceipt:1\ncontent-length:3\nc:d\\ce\n\none\0"
-    checks.same("of one who sends a line", (seen, said), ((0, b"", ""), [connect, line, leave]))
+    checks.same("of one who sends a line", (seen, said), ((0, b"", ""), [CONNECT, line, LEAVE]))
     seen, said = frames_said(program, ["forget", "c", "n"], connected, receipted, receipted)
     forget = b"UNSUBSCRIBE\nactivemq.subscriptionName:n\nreceipt:sent\n\n\0"
-    named = connect.replace(b"\n\n", b"\nclient-id:c\n\n")
-    checks.same("of one who forgets", (seen, said), ((0, b"", ""), [named, forget, leave]))
+    named = CONNECT.replace(b"\n\n", b"\nclient-id:c\n\n")
+    checks.same("of one who forgets", (seen, said), ((0, b"", ""), [named, forget, LEAVE]))
     three = message(b"one", 7) + message(b"two", 8) + message(b"three", 9)
     ack = b"ACK\nid:%d\n\n\0"
     for words, mode, acks in (
@@ -574,9 +509,9 @@ def frames(program, checks):
     ):
         name = b"activemq.subscriptionName:n\n" if "--durable" in words else b""
         subscribe = b"SUBSCRIBE\nid:heard\ndestination:%s\nack:%s\n%s\n\0" % (words[0].encode(), mode, name)
-        steps = [connected, saying(three), *[lambda *_: None for _ in acks], receipted]
+        steps = [connected, saying(three), *[nothing for _ in acks], receipted]
         seen, said = frames_said(program, ["listen", *words], *steps)
-        checks.same(f"of one who listens by {words}", (seen, said[1:]), ((0, b"one\ntwo\n", ""), [subscribe, *acks, leave]))
+        checks.same(f"of one who listens by {words}", (seen, said[1:]), ((0, b"one\ntwo\n", ""), [subscribe, *acks, LEAVE]))
     for what, leaves, text in (
         ("isn't answered", lambda _: None, "no answer within 5 s"),
         ("finds the end", lambda peer: peer.socket.shutdown(2), "the connection has ended"),
@@ -602,7 +537,7 @@ def frames(program, checks):
 
 def farewells(program, checks):
     """A RECEIPT is success, however the peer takes the DISCONNECT after it: no answer, an ERROR, no close, or nobody there any more."""
-    for what, farewell in (("isn't answered", lambda *_: None), ("is answered by an ERROR", saying(ERROR)), ("finds the end", ending)):
+    for what, farewell in (("isn't answered", nothing), ("is answered by an ERROR", saying(ERROR)), ("finds the end", ending)):
         for words, given in ((["send", "/queue/a", "x"], b""), (["send", "/queue/a", "--lines"], b"x\n"), (["forget", "c", "n"], b"")):
             peer = Peer(answering(connected, receipted, farewell))
             seen = run(program, words[0], peer.port, *words[1:], given=given)

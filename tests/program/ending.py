@@ -9,8 +9,7 @@ take nothing do not keep it. What waits for a slow disk is stored before the end
 with --few this is not tried if there is no `cc`.
 """
 
-import fcntl
-import os
+import contextlib
 import pathlib
 import shutil
 import socket
@@ -21,10 +20,11 @@ import threading
 import time
 
 from lib import scenario
+from lib.commands import shown
 from lib.stomp_client import Client, Closed
 from lib.wire import handshake
 
-JOURNAL_BYTES = "67108896"
+JOURNAL_BYTES = 67_108_896
 # In seconds: a server has so long to end.
 LONGEST = 5.0
 # One that has nobody to wait for ends in this time, in the quickest of a few tries.
@@ -73,66 +73,56 @@ class Sender:
             heard += 1
 
 
-def begun(program, journal, port, env=None):
-    words = [program, "serve", journal, str(port), "--until-eof"]
-    process = subprocess.Popen(words, stdin=subprocess.PIPE, stdout=subprocess.PIPE, stderr=subprocess.PIPE, env=env)
-    line = process.stdout.readline().decode()
-    assert line == f"listening {port}\n", line
-    return process
+def begun(program, journal, **options):
+    return scenario.Broker(program, journal, more=("--until-eof",), **options)
 
 
-def ended(process):
-    """Closes its input; the status, how long it took, and what it told."""
-    start = time.monotonic()
-    process.stdin.close()
-    status = process.wait(timeout=4 * LONGEST)
-    return status, time.monotonic() - start, process.stderr.read().decode()
+def alone(server):
+    return contextlib.nullcontext()
+
+
+@contextlib.contextmanager
+def left(server):
+    client = Client(server.port).connect()
+    client.disconnect()
+    client.close()
+    yield
+
+
+@contextlib.contextmanager
+def asking(server, request):
+    with socket.create_connection(("127.0.0.1", server.port), timeout=5) as one:
+        one.sendall(request)
+        if request.endswith(b"\r\n\r\n"):
+            assert one.recv(4096).startswith(b"HTTP/1.1 426 ")
+        else:
+            time.sleep(0.1)
+        yield
+
+
+# Who is there when a server is asked to end that has nobody to wait for.
+IDLE = {
+    "nobody has come": alone,
+    "its client has left": left,
+    "one that it refused stays": lambda server: asking(server, b"GET / HTTP/1.1\r\nHost: x\r\n\r\n"),
+    "one is in the midst of its request": lambda server: asking(server, handshake(server.port)[:-2]),
+}
 
 
 def idle(program, journal, checks):
-    """a server that nobody has come to, whose client has left, or one that it refused stays, or one whose request is not whole"""
-    alone, left, refused, half = [], [], [], []
-    for _ in range(TRIES):
-        process = begun(program, journal, scenario.free_port())
-        started = process.stderr.readline().decode()
-        checks.check("it says that it started", " started: " in started, started)
-        process.stdin.write(b"not the end\n")
-        process.stdin.flush()
-        time.sleep(0.1)
-        checks.check("what its input has is no end", process.poll() is None)
-        status, seconds, told = ended(process)
-        checks.same("a server without clients ends with status 0", status, 0)
-        checks.check("it says that it was asked to", " ending: asked to\n" in told, told)
-        alone.append(seconds)
-    for _ in range(TRIES):
-        port = scenario.free_port()
-        process = begun(program, journal, port)
-        client = Client(port).connect()
-        client.disconnect()
-        client.close()
-        status, seconds, _ = ended(process)
-        checks.same("so does one whose client has left", status, 0)
-        left.append(seconds)
-    for _ in range(TRIES):
-        port = scenario.free_port()
-        process = begun(program, journal, port)
-        with socket.create_connection(("127.0.0.1", port), timeout=5) as asks:
-            asks.sendall(b"GET / HTTP/1.1\r\nHost: x\r\n\r\n")
-            checks.check("one that was refused stays", asks.recv(4096).startswith(b"HTTP/1.1 426 "))
-            status, seconds, _ = ended(process)
-        checks.same("a server with it ends with status 0", status, 0)
-        refused.append(seconds)
-    for _ in range(TRIES):
-        port = scenario.free_port()
-        process = begun(program, journal, port)
-        with socket.create_connection(("127.0.0.1", port), timeout=5) as asks:
-            asks.sendall(handshake(port)[:-2])
+    """a server that has nobody to wait for"""
+    for what, comes in IDLE.items():
+        seen = []
+        for _ in range(TRIES):
+            server = begun(program, journal)
+            server.process.stdin.write(b"not the end\n")
             time.sleep(0.1)
-            status, seconds, _ = ended(process)
-        checks.same("so does one with a client in the midst of its request", status, 0)
-        half.append(seconds)
-    for took in (alone, left, refused, half):
-        checks.check(f"the quickest within {AT_ONCE} s", min(took) <= AT_ONCE, took)
+            checks.check("what its input has is no end", server.is_running())
+            with comes(server):
+                seen.append(server.end())
+            checks.check("it says that it started, and that it was asked to end", len(server.told(" started: ")) == 1 and server.told(" ending: asked to"), server.text())
+        checks.same(f"{what}: it ends with status 0", [status for status, _ in seen], [0] * TRIES)
+        checks.check(f"{what}: the quickest within {AT_ONCE} s", min(seen)[1] <= AT_ONCE, seen)
 
 
 def at_once(program, journal, checks):
@@ -146,51 +136,26 @@ def at_once(program, journal, checks):
     checks.same(f"{STARTS} servers that are asked to end at once end so, and tell it last", silent, 0)
 
 
-def full_pipe():
-    """A pipe that takes nothing more: its ends."""
-    reading, writing = os.pipe()
-    os.write(writing, b"x" * fcntl.fcntl(writing, fcntl.F_SETPIPE_SZ, 4096))
-    return reading, writing
-
-
 def unread_fault(program, journal, checks):
     """its journal is removed while nobody reads what it logs"""
-    journal = journal.with_name("small")
-    subprocess.run([program, "format", journal, "8224"], check=True)
-    reading, writing = full_pipe()
-    port = scenario.free_port()
-    process = subprocess.Popen([program, "serve", journal, str(port)], stdin=subprocess.DEVNULL, stdout=subprocess.PIPE, stderr=writing)
-    checks.same("it serves", process.stdout.readline().decode(), f"listening {port}\n")
-    start = time.monotonic()
-    journal.unlink()
-    try:
-        status = process.wait(timeout=LONGEST)
-    except subprocess.TimeoutExpired:
-        process.kill()
-        status = process.wait()
-    checks.same("a server with a fault and a full standard error ends with status 1", status, 1)
-    checks.check(f"within {LONGEST} s", time.monotonic() - start <= LONGEST, time.monotonic() - start)
-    os.close(reading)
-    os.close(writing)
+    server = scenario.Broker(program, scenario.make_journal(program, journal.with_name("small"), 8_224), is_read=False)
+    server.fill_log()
+    pathlib.Path(server.journal).unlink()
+    checks.same(f"a server with a fault and a full standard error ends with status 1 within {LONGEST} s", server.await_end(LONGEST), 1)
 
 
 def unread(program, journal, checks):
     """asked to end while nobody reads what it tells"""
-    reading, writing = full_pipe()
-    words = [program, "serve", journal, str(scenario.free_port()), "--until-eof"]
-    start = time.monotonic()
-    status = subprocess.run(words, stdin=subprocess.DEVNULL, stdout=subprocess.DEVNULL, stderr=writing, timeout=4 * LONGEST).returncode
-    seconds = time.monotonic() - start
-    checks.same("a server whose standard error is full ends with status 0", status, 0)
-    checks.check(f"within {LONGEST} s", seconds <= LONGEST, seconds)
-    os.close(reading)
-    os.close(writing)
+    server = begun(program, journal, is_read=False)
+    server.fill_log()
+    status, seconds = server.end()
+    checks.check(f"a server whose standard error is full ends with status 0 within {LONGEST} s", status == 0 and seconds <= LONGEST, (status, seconds))
 
 
 def at_work(program, journal, checks):
     """a server with clients of all kinds"""
-    port = scenario.free_port()
-    process = begun(program, journal, port)
+    server = begun(program, journal)
+    port = server.port
     quiet = [Client(port).connect() for _ in range(QUIET)]
     unopened = [Client(port) for _ in range(10)]
     reader = Client(port).connect()
@@ -201,10 +166,9 @@ def at_work(program, journal, checks):
     deaf = [Client(port, receive_bytes=4_096).connect() for _ in range(DEAF)]
     senders = [Sender(port, number) for number in range(SENDERS)]
     time.sleep(1)
-    status, seconds, told = ended(process)
+    status, seconds = server.end()
     checks.same("it ends with status 0", status, 0)
     checks.check(f"within {LONGEST} s", seconds <= LONGEST, seconds)
-    checks.check("it says that it was asked to", " ending: asked to\n" in told, told)
     codes = [one.to_the_end() for one in quiet]
     checks.same("each quiet client hears 1001", [code for _, code in codes], [1001] * QUIET)
     checks.same("and so does one without a session", [one.to_the_end()[1] for one in unopened], [1001] * len(unopened))
@@ -215,7 +179,7 @@ def at_work(program, journal, checks):
     checks.same("senders hear 1001", [(one.code, one.fault) for one in senders], [(1001, None)] * SENDERS)
     checks.check("and had receipts", all(len(one.receipted) > 10 for one in senders), [len(one.receipted) for one in senders])
     del deaf
-    again = begun(program, journal, port)
+    again = begun(program, journal, port=port)
     for one in senders:
         taker = Client(port).connect()
         taker.send("SEND", [("destination", f"/queue/q{one.number}")], "last")
@@ -225,15 +189,7 @@ def at_work(program, journal, checks):
             found.append(taker.receive().body)
         lost = [body for body in one.receipted if body not in found]
         checks.same(f"what was receipted to sender {one.number} is there", lost, [])
-    checks.same("and it ends again", ended(again)[0], 0)
-
-
-def slow_sync(folder):
-    """The environment of a program whose syncs are slow."""
-    built = folder / "slow_sync.so"
-    source = pathlib.Path(__file__).resolve().parents[2] / "bench" / "slow_sync.c"
-    subprocess.run(["cc", "-O2", "-shared", "-fPIC", "-o", built, source], check=True)
-    return {**os.environ, "LD_PRELOAD": str(built), "SLOW_SYNC": str(SLOW_SYNC)}
+    checks.same("and it ends again", again.end()[0], 0)
 
 
 def newcomers(port, seconds, found):
@@ -254,16 +210,28 @@ def newcomers(port, seconds, found):
         time.sleep(0.02)
 
 
-def held(program, journal):
-    told = subprocess.run([program, "show", journal], capture_output=True, text=True, check=True).stdout
-    return int(next(line.split()[1] for line in told.splitlines() if line.startswith("held ")))
+def text_size(text):
+    return 4 + len(text)
+
+
+def a_snapshot(program, journal, checks):
+    """what is used of an area after an end in good order: a snapshot, and nothing that a start would repeat"""
+    queue, bodies = "/queue/few", [f"{number}" for number in range(100)]
+    server = begun(program, journal)
+    client = Client(server.port).connect()
+    client.publish_all(queue, bodies)
+    checks.same("it ends with status 0", server.end()[0], 0)
+    # Of a message: command, place, destination, how many headers, body. The session that was open is there without a name.
+    messages = sum(8 + 4 + text_size(queue) + 2 + text_size(body) for body in bodies)
+    state = 8 + 8 + (4 + 8 + 1) + 4 + (4 + text_size(queue) + 4 + messages) + 4
+    seen = shown(program, "show", journal)
+    checks.same("8 bytes of length, the snapshot, and a gate, with all of them", (seen["used"], seen["held"]), (8 + state + 1, len(bodies)))
 
 
 def full_ring(program, journal, checks):
     """a server whose disk is slow, while as much waits for it as may"""
-    port = scenario.free_port()
-    process = begun(program, journal, port, slow_sync(journal.parent))
-    clients = [Client(port) for _ in range(SLOWED)]
+    server = begun(program, journal, env=scenario.slow_syncs(journal.parent, SLOW_SYNC=SLOW_SYNC))
+    clients = [Client(server.port) for _ in range(SLOWED)]
     for one in clients:
         one.send("CONNECT", [("accept-version", "1.2")])
     for one in clients:
@@ -273,15 +241,15 @@ def full_ring(program, journal, checks):
             one.send("SEND", [("destination", f"/queue/q{number}")], "x")
     time.sleep(0.1)
     kept = []
-    coming = threading.Thread(target=newcomers, args=(port, 0.1, kept))
+    coming = threading.Thread(target=newcomers, args=(server.port, 0.1, kept))
     coming.start()
-    status, seconds, told = ended(process)
+    status, seconds = server.end()
     coming.join()
     checks.same("it ends with status 0", status, 0)
     checks.check(f"within {LONGEST} s", seconds <= LONGEST, seconds)
     checks.check("some came meanwhile", len(kept) >= 3, kept)
     checks.check(f"each was let go within {LET_GO} s", all(it <= LET_GO for it in kept), max(kept, default=0))
-    stored = held(program, journal)
+    stored = shown(program, "show", journal)["held"]
     checks.check("all that waited for the disk is stored", stored >= SLOWED * UNDER_WAY, f"{stored} of {SLOWED * BURST}, of which {SLOWED * UNDER_WAY} were under way")
     checks.tell(f"{stored} of {SLOWED * BURST} messages are stored, after {seconds:.1f} s")
 
@@ -294,14 +262,10 @@ def main():
     has_slow_disk = not given.few or shutil.which("cc") is not None
     if not has_slow_disk:
         checks.tell("a slow disk is not tried: there is no cc")
-    for part in (idle, at_once, unread, unread_fault, at_work, *((full_ring,) if has_slow_disk else ())):
+    for part in (idle, at_once, unread, unread_fault, at_work, a_snapshot, *((full_ring,) if has_slow_disk else ())):
         with tempfile.TemporaryDirectory(prefix="ending-") as folder:
             journal = pathlib.Path(folder) / "journal"
-            subprocess.run([program, "format", "--sparse", journal, JOURNAL_BYTES], check=True)
-            try:
-                part(program, journal, checks)
-            except Exception as error:
-                checks.check(f"{part.__doc__} is tried to the end", False, repr(error))
+            part(program, scenario.make_journal(program, journal, JOURNAL_BYTES), checks)
     return checks.status()
 
 

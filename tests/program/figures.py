@@ -6,10 +6,8 @@ that does nothing, whatever else is logged meanwhile. Needs Python 3 alone, and 
 """
 
 import json
-import pathlib
 import re
 import socket
-import subprocess
 import sys
 import tempfile
 import threading
@@ -24,8 +22,8 @@ LONGEST = 130
 # It comes each minute. So many seconds may pass on a busy machine.
 MINUTE, LATE = 60, 4
 LINE = re.compile(
-    r"stompd: \S+ doing: (\d+) connections, (\d+) bytes of memory for them, (\d+) commands, (\d+) frames out, (\d+) ERRORs, (\d+) messages held,"
-    r" (\d+) bytes held, (\d+) dead letters, (\d+) bytes used, (\d+) commands to repeat\n"
+    r"doing: (\d+) connections, (\d+) bytes of memory for them, (\d+) commands, (\d+) frames out, (\d+) ERRORs, (\d+) messages held,"
+    r" (\d+) bytes held, (\d+) dead letters, (\d+) bytes used, (\d+) commands to repeat"
 )
 
 
@@ -51,66 +49,33 @@ def do_something(port):
     return (one, other), 3 + 1 + 5 + 2 + 1, 3 + 1 + 5 + 5 + 2 + 2
 
 
-def line_of(process, found):
-    for line in process.stderr:
-        match = LINE.fullmatch(line)
-        if match:
-            found.append([int(it) for it in match.groups()])
-            return
-
-
 def figures(program, checks):
-    with tempfile.TemporaryDirectory(prefix="figures-") as folder:
-        journal, port = pathlib.Path(folder) / "journal", scenario.free_port()
-        subprocess.run([program, "format", "--sparse", journal, str(JOURNAL_BYTES)], check=True)
-        process = subprocess.Popen([program, "serve", journal, str(port)], stdout=subprocess.PIPE, stderr=subprocess.PIPE, text=True)
-        try:
-            assert process.stdout.readline() == f"listening {port}\n"
-            found = []
-            reader = threading.Thread(target=line_of, args=(process, found))
-            reader.start()
-            clients, commands, frames = do_something(port)
-            reader.join(LONGEST)
-            checks.check("the line comes", found)
-            if found:
-                compare(found[0], commands, frames, checks)
-            for client in clients:
-                client.close()
-        finally:
-            process.kill()
-            process.wait()
+    with scenario.serving(program, JOURNAL_BYTES) as server:
+        clients, commands, frames = do_something(server.port)
+        found = server.told(" doing: ", LONGEST)
+        match = LINE.fullmatch(found[0]) if found else None
+        checks.check("the line comes", match, found)
+        if match:
+            compare([int(it) for it in match.groups()], commands, frames, checks)
+        for client in clients:
+            client.close()
 
 
 def idle(program, checks):
     """A server over five messages, with no client and one refused request: the log's objects, each with when it came."""
     with tempfile.TemporaryDirectory(prefix="figures-") as folder:
-        journal, port = pathlib.Path(folder) / "journal", scenario.free_port()
-        subprocess.run([program, "format", "--sparse", journal, str(JOURNAL_BYTES)], check=True)
-        found = []
-        for is_idle in (False, True):
-            words = [program, "serve", journal, str(port), "--json", "--until-eof"]
-            process = subprocess.Popen(words, stdin=subprocess.PIPE, stdout=subprocess.PIPE, stderr=subprocess.PIPE, text=True)
-            try:
-                assert process.stdout.readline() == f"listening {port}\n"
-                began = time.monotonic()
-                if is_idle:
-                    # In the midst of the second minute: what is logged then puts nothing off.
-                    asking = threading.Timer(1.5 * MINUTE, ask_in_vain, [port])
-                    asking.start()
-                    for line in process.stderr:
-                        found.append((time.monotonic() - began, json.loads(line)))
-                        if len([it for _, it in found if it["kind"] == "doing"]) == 2 or time.monotonic() - began > 3 * MINUTE:
-                            break
-                    asking.cancel()
-                else:
-                    sender = Client(port).connect()
-                    for number in range(5):
-                        sender.publish("/queue/work", f"{number}")
-                    sender.disconnect()
-            finally:
-                process.stdin.close()
-                process.kill()
-                process.wait()
+        journal = scenario.make_journal(program, f"{folder}/journal", JOURNAL_BYTES)
+        server = scenario.Broker(program, journal)
+        Client(server.port).connect().publish_all("/queue/work", ["x"] * 5)
+        server.kill()
+        server = scenario.Broker(program, journal, more=("--json",))
+        began = time.monotonic()
+        # In the midst of the second minute: what is logged then puts nothing off.
+        time.sleep(1.5 * MINUTE)
+        ask_in_vain(server.port)
+        time.sleep(max(0, began + 2 * MINUTE + LATE - time.monotonic()))
+        server.kill()
+        found = [(when - began, json.loads(line)) for when, line in server.lines]
         started = [it["messages"] for _, it in found if it["kind"] == "started"]
         checks.same("a server says at its start how many messages it holds", started, [5])
         told = [(when, it) for when, it in found if it["kind"] == "doing"]

@@ -5,11 +5,7 @@ grows, at the same port. All that was receipted is there then. It takes a minute
     python3 tests/program/full_journal.py [PROGRAM]
 """
 
-import os
-import select
-import subprocess
 import sys
-import tempfile
 import threading
 import time
 
@@ -20,12 +16,10 @@ from lib.stomp_client import Client, Closed
 JOURNAL_BYTES = 131_104
 BODY = "x" * 1_000
 # What a server logs before its end.
-LOGGED = (b" started: ", b" compacted: ", b" compacted slowly: ", b" journal small: ", b" journal nearly full: ")
-FULL = b"stompd: J4 journal full\n"
+LOGGED = (" started: ", " compacted: ", " compacted slowly: ", " journal small: ", " journal nearly full: ")
+FULL = "stompd: J4 journal full\n"
 # An opened journal of this size is ready at once; a busy machine gets a minute.
 PATIENCE = 60
-# In so many seconds the threads of a start and of the last server are gone.
-SETTLED = 3
 
 # After a server that ran for so long, in seconds, the next pause is the shortest again.
 LONG = 66
@@ -48,75 +42,48 @@ def send_until_closed(client):
         receipted.append(body)
 
 
-def next_line(stream, seconds=PATIENCE):
-    """The next line of a pipe that is not buffered; nothing if none comes in that time."""
-    line, end = b"", time.monotonic() + seconds
-    while not line.endswith(b"\n") and select.select([stream], [], [], max(0, end - time.monotonic()))[0]:
-        one = os.read(stream.fileno(), 1)
-        if not one:
-            break
-        line += one
-    return line
+def serving(program):
+    return scenario.serving(program, JOURNAL_BYTES, more=("--until-eof",))
 
 
-def lines_until(stream, last):
-    lines = []
-    while not lines or (lines[-1] != last and lines[-1]):
-        lines.append(next_line(stream))
-    return lines
+def pause_after(server, number=1):
+    """The lines before the end of that number by a full journal, and the one after it, which says how long the pause is."""
+    end = time.monotonic() + PATIENCE
+    while True:
+        lines = [line for _, line in list(server.lines)]
+        ends = [at for at, line in enumerate(lines) if line == FULL]
+        if len(ends) >= number and len(lines) > ends[number - 1] + 1:
+            return lines[: ends[0]], lines[ends[number - 1] + 1]
+        if time.monotonic() > end:
+            return lines, ""
+        time.sleep(0.02)
 
 
-class Full:
-    """A server over a small journal, whose two streams are read by hand."""
-
-    def __init__(self, program, folder):
-        self.journal = os.path.join(folder, "journal")
-        subprocess.run([program, "format", self.journal, str(JOURNAL_BYTES)], check=True)
-        self.port = scenario.free_port()
-        pipes = {"stdin": subprocess.PIPE, "stdout": subprocess.PIPE, "stderr": subprocess.PIPE, "bufsize": 0}
-        self.process = subprocess.Popen([program, "serve", self.journal, str(self.port), "--until-eof"], **pipes)
-
-    def listens(self):
-        return next_line(self.process.stdout) == f"listening {self.port}\n".encode()
-
-    def count_all(self, awaited=None):
-        """How many threads and descriptors it has, once it has as many as awaited, or after some seconds: its own are gone soon after it listens."""
-        folder, end = f"/proc/{self.process.pid}", time.monotonic() + SETTLED
-        while True:
-            counts = len(os.listdir(f"{folder}/task")), len(os.listdir(f"{folder}/fd"))
-            if counts == awaited or time.monotonic() > end:
-                return counts
-            time.sleep(0.1)
-
-    def __enter__(self):
-        return self
-
-    def __exit__(self, *_):
-        self.process.kill()
-        self.process.wait()
-        for pipe in (self.process.stdin, self.process.stdout, self.process.stderr):
-            pipe.close()
+def opened_again(seconds):
+    return f"stompd: opening the journal again in {seconds} s, which makes room\n"
 
 
 def one_at_a_time(program, checks):
     """a client that waits for each receipt, and one that says nothing"""
-    with tempfile.TemporaryDirectory(prefix="stompd-") as folder, Full(program, folder) as server:
-        checks.check("it serves", server.listens())
-        there = server.count_all()
+    with serving(program) as server:
+        there = server.count_of_threads(), server.count_of_descriptors()
         sender, idle = Client(server.port).connect(), Client(server.port).connect()
         receipted, code = send_until_closed(sender)
         # It may have made room before, and logs that first.
-        logged = lines_until(server.process.stderr, FULL)
-        checks.same("it logs why it serves no more", logged[-1], FULL)
-        checks.check("and nothing else but its start and what compactions won", all(any(word in line for word in LOGGED) for line in logged[:-1]), logged)
-        checks.same("and when it opens the journal again", next_line(server.process.stderr), b"stompd: opening the journal again in 1 s, which makes room\n")
+        logged, pause = pause_after(server)
+        checks.check("it logs nothing but its start and what compactions won before it serves no more", all(any(word in line for word in LOGGED) for line in logged), logged)
+        checks.same("and then when it opens the journal again", pause, opened_again(1))
         paused = time.monotonic()
         checks.check("messages were receipted before", len(receipted) >= 20, len(receipted))
         checks.same("who sends is closed with 1001", code, 1001)
         checks.same("who is silent is closed with 1001", idle.to_the_end(), ([], 1001))
         checks.tell(f"{len(receipted)} messages of some 1,000 bytes were receipted, in an area of 65,536 bytes")
         checks.check("it listens again, at the same port", server.listens())
-        checks.same("with as many threads and descriptors as before", server.count_all(there), there)
+        # Its own are gone soon after it listens.
+        end = time.monotonic() + PATIENCE
+        while (counts := (server.count_of_threads(), server.count_of_descriptors())) != there and time.monotonic() < end:
+            time.sleep(0.1)
+        checks.same("with as many threads and descriptors as before", counts, there)
         checks.check("after that second", time.monotonic() - paused >= 0.9, time.monotonic() - paused)
         reader = Client(server.port).connect()
         found = [frame.body for frame in reader.subscribe("r", "/queue/full")]
@@ -125,19 +92,15 @@ def one_at_a_time(program, checks):
         reader.close()
         again, code = send_until_closed(Client(server.port).connect())
         checks.same("the next sender is closed with 1001", code, 1001)
-        lines_until(server.process.stderr, FULL)
-        checks.same("and the next pause is twice as long", next_line(server.process.stderr), b"stompd: opening the journal again in 2 s, which makes room\n")
-        ended = time.monotonic()
-        server.process.stdin.close()
-        checks.same("the end of its input breaks the pause off, with status 0", server.process.wait(timeout=PATIENCE), 0)
-        checks.check("and at once", time.monotonic() - ended < 1, time.monotonic() - ended)
-        checks.same("and it isn't opened again", server.process.stdout.read(), b"")
+        checks.same("and the next pause is twice as long", pause_after(server, 2)[1], opened_again(2))
+        status, seconds = server.end()
+        checks.same("the end of its input breaks the pause off, with status 0", status, 0)
+        checks.check("and at once", seconds < 1, seconds)
 
 
 def all_at_once(program, checks):
     """a client that waits for no receipt"""
-    with tempfile.TemporaryDirectory(prefix="stompd-") as folder, Full(program, folder) as server:
-        checks.check("it serves", server.listens())
+    with serving(program) as server:
         eager = Client(server.port).connect()
         for number in range(UNASKED):
             eager.send("SEND", [("destination", "/queue/full"), ("receipt", f"{number}")], f"{number} {LONG_BODY}")
@@ -155,14 +118,8 @@ def all_at_once(program, checks):
 
 def nobody_reads(program, checks):
     """standard error is full and unread while the journal becomes full"""
-    with tempfile.TemporaryDirectory(prefix="stompd-") as folder, Full(program, folder) as server:
-        checks.check("it serves", server.listens())
-        # What is left of the pipe's room is taken, so that no line fits any more.
-        with open(f"/proc/{server.process.pid}/fd/2", "wb", buffering=0) as pipe:
-            os.set_blocking(pipe.fileno(), False)
-            for size in (4_096, 64, 1):
-                while pipe.write(b"x" * size):
-                    pass
+    with scenario.serving(program, JOURNAL_BYTES, more=("--until-eof",), is_read=False) as server:
+        server.fill_log()
         receipted, _ = send_until_closed(Client(server.port).connect())
         checks.check("messages were receipted", len(receipted) >= 20, len(receipted))
         checks.check("it listens again all the same", server.listens())
@@ -170,20 +127,17 @@ def nobody_reads(program, checks):
         found = [frame.body for frame in reader.subscribe("r", "/queue/full")]
         checks.check("and has each of them", found[: len(receipted)] == receipted, len(found))
         reader.close()
-        server.process.stdin.close()
-        checks.same("and ends in good order", server.process.wait(timeout=PATIENCE), 0)
+        checks.same("and ends in good order", server.end()[0], 0)
 
 
 def after_a_minute(program, checks):
     """a server that ran for over a minute: the next pause is the shortest"""
-    with tempfile.TemporaryDirectory(prefix="stompd-") as folder, Full(program, folder) as server:
-        for seconds, rest in ((1, 0), (2, 0), (1, LONG)):
-            checks.check("it serves", server.listens())
+    with serving(program) as server:
+        for number, (seconds, rest) in enumerate(((1, 0), (2, 0), (1, LONG)), 1):
+            checks.check("it serves", number == 1 or server.listens())
             time.sleep(rest)
             send_until_closed(Client(server.port).connect())
-            lines_until(server.process.stderr, FULL)
-            line = f"stompd: opening the journal again in {seconds} s, which makes room\n".encode()
-            checks.same(f"after {rest} s at rest the next pause is of {seconds} s", next_line(server.process.stderr), line)
+            checks.same(f"after {rest} s at rest the next pause is of {seconds} s", pause_after(server, number)[1], opened_again(seconds))
 
 
 def main():

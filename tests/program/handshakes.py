@@ -1,7 +1,6 @@
 #!/usr/bin/env python3
 """Asks a running server for a WebSocket late and in parts: docs/PROTOCOL.md gives a client time between two parts of its
-request, so each is to be accepted. A request that names its key or its version twice, and STOMP with no WebSocket, are answered
-400. Then clients that never open a session, each in its way, are to be let go once their
+request, so each is to be accepted. Then clients that never open a session, each in its way, are to be let go once their
 minute is over, and so is one that has opened its session and answers no ping, once its 80 seconds are; one that answers is to
 be kept. That takes a minute and a half. Needs Python 3 alone; the gate does not run it.
 
@@ -15,7 +14,7 @@ import sys
 import time
 
 from lib.scenario import BUILT, Checks, built_program, serving, words_of
-from lib.wire import PONG, TEXT, handshake, message_bytes, stomp_bytes, stomp_message
+from lib.wire import PONG, TEXT, handshake, message_bytes, stomp_message
 
 REQUEST = handshake(0)
 CONNECT = stomp_message("CONNECT", [("accept-version", "1.2")])
@@ -39,37 +38,6 @@ def is_accepted(port, pauses):
             return one.recv(4_096).startswith(b"HTTP/1.1 101")
         except OSError:
             return False
-
-
-def with_field(line):
-    """The request with one more field."""
-    return REQUEST.replace(b"\r\n\r\n", b"\r\n" + line + b"\r\n\r\n")
-
-
-KEY = next(line for line in REQUEST.split(b"\r\n") if line.startswith(b"Sec-WebSocket-Key: "))
-# Neither field may appear more than once (RFC 6455, sections 11.3.1 and 11.3.5), whatever the case of its letters (RFC 9110, section 5.1). Bytes that
-# are STOMP with no WebSocket are no request of HTTP; the answer names what is spoken.
-BAD_REQUESTS = {
-    "with its key twice": with_field(KEY),
-    "with two keys": with_field(b"sec-websocket-key: AAAAAAAAAAAAAAAAAAAAAA=="),
-    "with its version twice": with_field(b"Sec-WebSocket-Version: 13"),
-    "with two versions": with_field(b"SEC-WEBSOCKET-VERSION: 8"),
-    "that is a CONNECT of STOMP": stomp_bytes("CONNECT", [("accept-version", "1.2"), ("host", "a")]),
-    "that is a STOMP of STOMP": stomp_bytes("STOMP", [("accept-version", "1.2"), ("host", "a")]),
-}
-
-
-def answer_to(port, request):
-    """All that is answered until the server closes the connection."""
-    with socket.create_connection(("127.0.0.1", port), timeout=5) as one:
-        one.sendall(request)
-        answer = b""
-        try:
-            while data := one.recv(4_096):
-                answer += data
-        except OSError:
-            pass
-    return answer
 
 
 def is_over(one):
@@ -148,10 +116,6 @@ def main():
     with serving(program, 2_097_184) as server:
         for pauses in ((0,), (0.001,), (0.1,), (0, 0.05), (0.01, 0.01, 0.01, 0.01)):
             checks.same(f"with pauses of {pauses} s all are accepted", sum(is_accepted(server.port, pauses) for _ in range(TRIES)), TRIES)
-        for what, request in BAD_REQUESTS.items():
-            answer = answer_to(server.port, request)
-            is_told = answer.startswith(b"HTTP/1.1 400 ") and (what.startswith("with") or b"STOMP over WebSocket" in answer)
-            checks.check(f"a request {what} is answered 400", is_told, answer)
         for way, end in let_go(server.port).items():
             told = "kept" if end is None else f"let go after {end:.0f} s"
             checks.check(f"a client that {way} is {told}", is_in_time(way, end))

@@ -8,14 +8,11 @@ still. Those that telling.py provokes are left out: clients without the subproto
 """
 
 import contextlib
-import fcntl
-import os
 import pathlib
 import re
 import resource
 import shutil
 import socket
-import subprocess
 import sys
 import tempfile
 import threading
@@ -34,7 +31,7 @@ HALF = 20
 # A client that says nothing for so many seconds is sent a ping, up to so many.
 QUIET, PINGS = 20, 3
 # A silent client is given up after so many seconds. While a command of it waits for room, its silence doesn't count. It has more
-# commands than may be under way.
+# commands than may be under way, and its answers to pings would not be read.
 SILENT, WAITING = 80, 40
 # None is given up a second before that; and each was told within so many after it.
 EARLY, LATE = 1, 6
@@ -46,62 +43,8 @@ GUESTS = 16 + 4
 UNTOLD = 64
 
 
-class Told:
-    """A server, and what it tells on standard error."""
-
-    def __init__(self, program, more=(), limit=None, size=67_108_896, env=None):
-        self.folder = tempfile.TemporaryDirectory(prefix="kinds-")
-        journal = f"{self.folder.name}/journal"
-        subprocess.run([program, "format", "--sparse", journal, str(size)], check=True)
-        self.port, self.text = scenario.free_port(), ""
-        ours = (lambda: resource.setrlimit(resource.RLIMIT_NOFILE, (limit, limit))) if limit else None
-        self.reads, writes = os.pipe()
-        self.process = subprocess.Popen([program, "serve", journal, str(self.port), *more], stdout=subprocess.PIPE, stderr=writes, preexec_fn=ours, env=env)
-        # The server has it, and the test that fills it.
-        self.writes = writes
-        self.lock, self.reader = threading.Lock(), None
-        assert self.process.stdout.readline() == f"listening {self.port}\n".encode()
-
-    def listen(self):
-        self.reader = threading.Thread(target=self.read, daemon=True)
-        self.reader.start()
-
-    def read(self):
-        while piece := os.read(self.reads, 65_536):
-            with self.lock:
-                self.text += piece.decode()
-
-    def count(self, form):
-        """How many were told by lines of that form, which has a group for the number."""
-        with self.lock:
-            return sum(int(it) for it in re.findall(form, self.text))
-
-    def await_count(self, form, count, seconds):
-        end = time.monotonic() + seconds
-        while self.count(form) < count and time.monotonic() < end:
-            time.sleep(0.1)
-        return self.count(form)
-
-    def end(self):
-        self.process.kill()
-        self.process.wait()
-        self.process.stdout.close()
-        os.close(self.writes)
-        if self.reader:
-            self.reader.join()
-        os.close(self.reads)
-        self.folder.cleanup()
-
-
-@contextlib.contextmanager
-def told(program, listens=True, **options):
-    server = Told(program, **options)
-    if listens:
-        server.listen()
-    try:
-        yield server
-    finally:
-        server.end()
+def serving(program, journal_bytes=67_108_896, **options):
+    return scenario.serving(program, journal_bytes, **options)
 
 
 def status_of(port, request):
@@ -131,7 +74,7 @@ REQUESTS = (
 
 def refused_requests(program, checks):
     """handshakes that are refused, each by its status"""
-    with told(program, more=["--origin", ORIGIN]) as server:
+    with serving(program, more=["--origin", ORIGIN]) as server:
         for number, (form, status, request) in enumerate(REQUESTS, 1):
             seen = [status_of(server.port, request(server.port)) for _ in range(number)]
             checks.same(f"{form}: it is answered so", seen, [status] * number)
@@ -141,7 +84,7 @@ def refused_requests(program, checks):
 
 def full(program, checks):
     """a server that is full"""
-    with told(program, limit=FEW) as server:
+    with serving(program, limits={"NOFILE": FEW}) as server:
         server.await_count(r"(\d+) clients allowed", 1, 3)
         allowed = server.count(r"(\d+) clients allowed")
         # As many leave in the midst of their handshakes, and keep nobody out.
@@ -171,9 +114,9 @@ def full(program, checks):
 
 def no_descriptors(program, checks):
     """a server to which the system gives no descriptor any more"""
-    with told(program) as server:
+    with serving(program) as server:
         here = Client(server.port).connect()
-        used = len(os.listdir(f"/proc/{server.process.pid}/fd"))
+        used = server.count_of_descriptors()
         soft, hard = resource.getrlimit(resource.RLIMIT_NOFILE)
         try:
             resource.prlimit(server.process.pid, resource.RLIMIT_NOFILE, (used, hard))
@@ -182,7 +125,7 @@ def no_descriptors(program, checks):
             return
         waiting = socket.create_connection(("127.0.0.1", server.port), timeout=5)
         form = r"failed to accept (\d+) clients: out of descriptors or memory"
-        checks.check("that is told", server.await_count(form, 1, 3) >= 1, server.text)
+        checks.check("that is told", server.await_count(form, 1, 3) >= 1, server.text())
         time.sleep(1)
         # It rests for 20 ms after each.
         checks.check("and it is not tried more than fifty times a second", server.count(form) <= 150, server.count(form))
@@ -195,13 +138,13 @@ def no_descriptors(program, checks):
 
 def most_memory(program, checks):
     """a client that holds most of all, and more than all may"""
-    with told(program, more=["--memory", str(LEAST_BUDGET)]) as server:
+    with serving(program, more=["--memory", str(LEAST_BUDGET)]) as server:
         sender, readers = Client(server.port).connect(), [Client(server.port, receive_bytes=4_096).connect() for _ in range(2)]
         for one in readers:
             one.subscribe("r", "/topic/large")
         for _ in range(LEAST_BUDGET // EACH):
             sender.publish("/topic/large", "x" * EACH)
-        checks.check("one or both are given up", 1 <= server.await_count(r"gave up (\d+) clients that took the most memory", 1, 3) <= 2, server.text)
+        checks.check("one or both are given up", 1 <= server.await_count(r"gave up (\d+) clients that took the most memory", 1, 3) <= 2, server.text())
         checks.check("the sender is not", sender.publish("/topic/none", "served") == [])
 
 
@@ -268,7 +211,7 @@ class Quiet(threading.Thread):
 
 def given_up(program, checks):
     """clients that don't answer a close, open no session, or take nothing: none before its time, and each soon after; and one that only answers pings"""
-    with told(program) as server:
+    with serving(program) as server:
         quiet, slow = Quiet(server.port), Slow(server.port)
         for (form, _, least, _), first in zip(SLOW, slow.first):
             time.sleep(max(0, first + least - EARLY - time.monotonic()))
@@ -283,7 +226,7 @@ def given_up(program, checks):
 def half_asked(program, checks):
     """a client that sends half of its handshake"""
     form = r"gave up (\d+) clients that opened no session in time"
-    with told(program) as server, socket.create_connection(("127.0.0.1", server.port), timeout=5) as half:
+    with serving(program) as server, socket.create_connection(("127.0.0.1", server.port), timeout=5) as half:
         half.sendall(handshake(server.port)[:40])
         time.sleep(HALF - EARLY)
         checks.same("half a handshake is waited for", server.count(form), 0)
@@ -293,7 +236,7 @@ def half_asked(program, checks):
 def pinged(program, checks):
     """a client that says nothing: it is sent three pings, and then is given up"""
     form = r"gave up (\d+) clients that answered no ping or close"
-    with told(program) as server:
+    with serving(program) as server:
         silent = Client(server.port).connect()
         for number in range(1, PINGS + 1):
             checks.check(f"ping {number} is not sent before its time", not silent.hears_within(QUIET - EARLY))
@@ -309,10 +252,8 @@ def waits_for_room(program, checks):
         checks.tell(f"{waits_for_room.__doc__}: not tried, since there is no cc")
         return
     with tempfile.TemporaryDirectory(prefix="kinds-") as folder:
-        built, held = f"{folder}/slow_sync.so", pathlib.Path(folder) / "held"
-        source = pathlib.Path(__file__).resolve().parents[2] / "bench" / "slow_sync.c"
-        subprocess.run(["cc", "-O2", "-shared", "-fPIC", "-o", built, source], check=True)
-        with told(program, env={**os.environ, "LD_PRELOAD": built, "SYNCS_HELD": str(held)}) as server:
+        held = pathlib.Path(folder) / "held"
+        with serving(program, env=scenario.slow_syncs(folder, SYNCS_HELD=held)) as server:
             client = Client(server.port, timeout=20).connect()
             held.touch()
             for number in range(WAITING):
@@ -328,26 +269,16 @@ def waits_for_room(program, checks):
 def left_out(program, checks):
     """lines that nobody reads: those over 64 are counted, and what was left out is told once somebody reads again"""
     # A small journal is compacted often, and each time has a line.
-    with told(program, listens=False, size=1_048_608) as server:
-        # Until it is full.
-        flags = fcntl.fcntl(server.writes, fcntl.F_GETFL)
-        other = os.open(f"/proc/self/fd/{server.writes}", os.O_WRONLY | os.O_NONBLOCK)
-        with contextlib.suppress(BlockingIOError):
-            while True:
-                os.write(other, b"\n" * 4_096)
-        with contextlib.suppress(BlockingIOError):
-            while True:
-                os.write(other, b"\n")
-        os.close(other)
-        checks.same("the server's end is as it was", fcntl.fcntl(server.writes, fcntl.F_GETFL), flags)
+    with serving(program, 1_048_608, is_read=False) as server:
+        server.fill_log()
         sender = Client(server.port, timeout=20).connect()
         # Some eight fill an area.
         for start in range(8 * 2 * UNTOLD):
             sender.publish("/topic/none", "x" * EACH)
-        server.listen()
+        server.read()
         left = server.await_count(r"left out (\d+) lines that nobody read in time", 1, 5)
-        lines = len(re.findall(r"^stompd: ", server.text, re.M))
-        checks.check("some were left out", left > 0, server.text[-500:])
+        lines = len(re.findall(r"^stompd: ", server.text(), re.M))
+        checks.check("some were left out", left > 0, server.text()[-500:])
         checks.check(f"and {UNTOLD} at least are told", lines >= UNTOLD, lines)
         checks.check("the server serves on", sender.publish("/topic/none", "x") == [])
 
@@ -360,7 +291,7 @@ def small_journal(program, checks):
     """a compaction that leaves less than a quarter of an area, and no other"""
     form = r"journal nearly full: (\d+) of 65536 bytes are used after a compaction \(J4 is near\)"
     began = time.monotonic()
-    with told(program, size=32 + 2 * SMALL_AREA) as server:
+    with serving(program, 32 + 2 * SMALL_AREA) as server:
         sender = Client(server.port, timeout=20).connect()
 
         def keep(count):
@@ -371,14 +302,14 @@ def small_journal(program, checks):
 
         keep(SMALL_AREA // 2 // SMALL)
         time.sleep(0.5)
-        checks.same("half an area that is kept is not reported", re.findall(form, server.text), [])
+        checks.same("half an area that is kept is not reported", re.findall(form, server.text()), [])
         keep(SMALL_AREA // 4 // SMALL + 4)
         server.await_count(form, 1, 5)
-        found = [int(it) for it in re.findall(form, server.text)]
-        checks.check("over three quarters are, after the compaction", found and all(SMALL_AREA * 3 // 4 <= it <= SMALL_AREA for it in found), server.text)
+        found = [int(it) for it in re.findall(form, server.text())]
+        checks.check("over three quarters are, after the compaction", found and all(SMALL_AREA * 3 // 4 <= it <= SMALL_AREA for it in found), server.text())
         checks.check("and the server goes on", sender.publish("/topic/none", "x") == [])
-        checks.check("each compaction tells that once", len(found) <= len(re.findall(r" compacted(?: slowly)?: ", server.text)), server.text)
-        took = [int(it) for it in re.findall(r" compacted(?: slowly)?: \d+ bytes won in (\d+) ms", server.text)]
+        checks.check("each compaction tells that once", len(found) <= len(re.findall(r" compacted(?: slowly)?: ", server.text())), server.text())
+        took = [int(it) for it in re.findall(r" compacted(?: slowly)?: \d+ bytes won in (\d+) ms", server.text())]
         checks.check("each compaction has a line, and all together took no longer than this", took and sum(took) <= 1_000 * (time.monotonic() - began), took)
 
 
@@ -386,21 +317,14 @@ def main():
     program = scenario.words_of(__doc__).parse_args().program
     scenario.take_descriptors()
     checks = scenario.Checks()
-    slow = [threading.Thread(target=tried, args=(part, program, checks)) for part in (given_up, half_asked, pinged, waits_for_room)]
+    slow = [threading.Thread(target=scenario.try_one, args=(part, program, checks)) for part in (given_up, half_asked, pinged, waits_for_room)]
     for one in slow:
         one.start()
     for part in (refused_requests, full, no_descriptors, most_memory, left_out, small_journal):
-        tried(part, program, checks)
+        scenario.try_one(part, program, checks)
     for one in slow:
         one.join()
     return checks.status()
-
-
-def tried(part, program, checks):
-    try:
-        part(program, checks)
-    except Exception as error:
-        checks.check(f"{part.__doc__} is tried to the end", False, repr(error))
 
 
 if __name__ == "__main__":

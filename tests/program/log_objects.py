@@ -11,13 +11,12 @@ import json
 import pathlib
 import re
 import socket
-import subprocess
 import sys
 import tempfile
-import threading
 import time
 
 from lib import scenario
+from lib.commands import run, run_for_text
 from lib.scenario import TOP
 from lib.stomp_client import Client, Closed
 from lib.wire import handshake
@@ -45,25 +44,11 @@ def table():
     return found
 
 
-class Server:
-    """A server whose log is kept, line by line."""
-
-    def __init__(self, program, journal, *more):
-        self.port, self.lines = scenario.free_port(), []
-        words = [program, "serve", journal, str(self.port), "--json", *more]
-        self.process = subprocess.Popen(words, stdin=subprocess.PIPE, stdout=subprocess.PIPE, stderr=subprocess.PIPE)
-        self.reader = threading.Thread(target=self.read)
-        self.reader.start()
-
-    def read(self):
-        for line in self.process.stderr:
-            self.lines.append(line)
-
-    def listens(self):
-        return self.process.stdout.readline() == f"listening {self.port}\n".encode()
+class Server(scenario.Broker):
+    """A server whose log is objects."""
 
     def objects(self, kind):
-        return [it for it in map(json.loads, list(self.lines)) if it["kind"] == kind]
+        return [it for _, line in list(self.lines) for it in [json.loads(line)] if it["kind"] == kind]
 
     def awaited(self, kind, seconds=4):
         """The first object of that kind, once there is one; without the moment."""
@@ -72,28 +57,20 @@ class Server:
             time.sleep(0.05)
         return next(({name: value for name, value in it.items() if name != "time"} for it in self.objects(kind)), None)
 
-    def wait(self, seconds=10):
-        status = self.process.wait(seconds)
-        self.reader.join()
-        return status
-
 
 @contextlib.contextmanager
 def serving(program, journal, *more):
-    server = Server(program, journal, *more)
+    server = Server(program, journal, more=("--json", *more))
     try:
         yield server
     finally:
-        server.process.kill()
-        server.wait()
-        server.process.stdout.close()
-        server.process.stdin.close()
+        server.kill()
 
 
-def by_the_table(name, server, checks):
+def by_the_table(name, lines, checks):
     """Each line is an object of the table, and nothing else is in the log."""
     rows, wrong = table(), []
-    for line in server.lines:
+    for line in lines:
         try:
             found = json.loads(line)
             pairs = json.loads(line, object_pairs_hook=list)
@@ -108,14 +85,13 @@ def by_the_table(name, server, checks):
             wrong.append(line)
         elif abs(time.time() - datetime.datetime.strptime(found["time"], "%Y-%m-%dT%H:%M:%S%z").timestamp()) > 120:
             wrong.append(line)
-    checks.check(f"{name}: it has lines, and each is an object of the table", server.lines and not wrong, wrong)
+    checks.check(f"{name}: it has lines, and each is an object of the table", lines and not wrong, wrong)
 
 
 def a_life(program, folder, checks):
     """a server from its journal's making to its end"""
     journal = folder / FILE_NAME
     with serving(program, journal, "--new", str(JOURNAL_BYTES), "--until-eof", "--memory", "33554432") as server:
-        checks.check("it listens", server.listens())
         checks.same("the journal was made", server.awaited("made"), {"kind": "made", "file": str(journal)})
         area = (JOURNAL_BYTES - 32) // 2
         began = {"kind": "started", "version": 2, "area_bytes": area, "messages": 0, "clients": 16384, "memory_bytes": 33554432}
@@ -133,20 +109,18 @@ def a_life(program, folder, checks):
         checks.same("it is counted by its code", server.awaited("errors"), {"kind": "errors", "code": 10, "count": 1})
         keeper = Client(server.port).connect()
         keeper.publish_all("/queue/kept", 7 * ["kept"])
-        server.process.stdin.close()
-        checks.same("it ends in good order", server.wait(), 0)
-        checks.same("its last line says that", json.loads(server.lines[-1])["kind"], "ending")
-        by_the_table("a life", server, checks)
-        checks.same("and nothing else came", {it["kind"] for it in map(json.loads, server.lines)} - {"opening"}, {"made", "started", "journal_small", "refused", "errors", "ending"})
+        checks.same("it ends in good order", server.end()[0], 0)
+        lines = server.text().splitlines(keepends=True)
+        checks.same("its last line says that", json.loads(lines[-1])["kind"], "ending")
+        by_the_table("a life", lines, checks)
+        checks.same("and nothing else came", {it["kind"] for it in map(json.loads, lines)} - {"opening"}, {"made", "started", "journal_small", "refused", "errors", "ending"})
     with serving(program, journal, "--until-eof") as server:
-        checks.check("it listens again", server.listens())
         checks.same("its start says how many messages are held", (server.awaited("started") or {}).get("messages"), 7)
 
 
 def nearly_full(program, folder, checks):
     """a durable name that holds nearly all, with characters that JSON escapes"""
     with serving(program, folder / "crowded", "--new", str(JOURNAL_BYTES)) as server:
-        checks.check("it listens", server.listens())
         named = Client(server.port).connect(CLIENT)
         named.subscribe("d", "/topic/news", headers=[("activemq.subscriptionName", NAME)], ack="client")
         named.disconnect()
@@ -156,38 +130,36 @@ def nearly_full(program, folder, checks):
         checks.same("the limits", (found.get("messages_limit"), found.get("bytes_limit")), (MOST_MESSAGES, 16_777_216))
         checks.check("and how many are held", 0.9 * MOST_MESSAGES <= found.get("messages", 0) == found.get("most") <= MANY, found)
         # As `held` spells it: with %XX for bytes that no line may have as they are.
-        shown = subprocess.run([program, "held", folder / "crowded"], capture_output=True, text=True).stdout
+        shown = run_for_text(program, "held", folder / "crowded")[1]
         checks.check("the place is that of `held`", found.get("place") and found["place"] in shown and 'durable client-id:c"' in found["place"], (found, shown[:300]))
-        by_the_table("nearly full", server, checks)
+        by_the_table("nearly full", server.text().splitlines(), checks)
 
 
 def faults(program, folder, checks):
     """a server that is not started, and one whose journal is removed"""
-    with serving(program, folder / "missing") as server:
-        checks.same("a missing journal ends it with 1", server.wait(), 1)
-        wanted = {"kind": "fault", "text": f"cannot open: {folder / 'missing'}: there is no such file; --new BYTES makes one"}
-        checks.same("and its fault is the last object", server.awaited("fault"), wanted)
-        by_the_table("a missing journal", server, checks)
+    status, _, said = run(program, "serve", folder / "missing", scenario.free_port(), "--json")
+    by_the_table("a missing journal", said.splitlines(), checks)
+    wanted = {"kind": "fault", "text": f"cannot open: {folder / 'missing'}: there is no such file; --new BYTES makes one"}
+    last = json.loads(said.splitlines()[-1])
+    checks.same("a missing journal ends it with 1, and its fault is the last object", (status, last), (1, {"time": last["time"], **wanted}))
     journal = folder / "removed"
     with serving(program, journal, "--new", str(JOURNAL_BYTES)) as server:
-        checks.check("it listens", server.listens())
         journal.unlink()
-        checks.same("a removed journal ends it with 1", server.wait(), 1)
+        checks.same("a removed journal ends it with 1", server.await_end(), 1)
         checks.same("and says so", server.awaited("fault"), {"kind": "fault", "text": "J3 device failed: the file was removed"})
-        by_the_table("a removed journal", server, checks)
+        by_the_table("a removed journal", server.text().splitlines(), checks)
 
 
 def reopened(program, folder, checks):
     """a journal that gets full, and is opened again"""
     with serving(program, folder / "small", "--new", "1048608") as server:
-        checks.check("it listens", server.listens())
         with contextlib.suppress(Closed, ConnectionError, OSError):
             sender = Client(server.port, timeout=20).connect()
             for number in range(400):
                 sender.publish("/queue/kept", "x" * 4_000)
         checks.same("it says when it is opened again", server.awaited("reopening", 10), {"kind": "reopening", "seconds": 1})
         checks.same("and why", (server.objects("fault") or [{}])[0].get("text"), "J4 journal full")
-        by_the_table("a full journal", server, checks)
+        by_the_table("a full journal", server.text().splitlines(), checks)
 
 
 def main():

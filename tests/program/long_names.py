@@ -8,11 +8,7 @@ PROGRAM is the built program; without it, bin/stompd. It takes some seconds, and
 """
 
 import contextlib
-import os
-import resource
-import subprocess
 import sys
-import time
 
 from lib import scenario
 from lib.stomp_client import Client, Closed
@@ -23,20 +19,6 @@ OWN, DESKS = 160, 64
 ID_BYTES, MOST = 500, 16
 # A session has 9 bytes, and a subscription to /topic/a 34 and those of its id. A desk of two clients has 16,384.
 EACH, OWN_BYTES, DESK_BYTES = 34 + ID_BYTES, 9, 2 * 8_192
-
-
-class Small(scenario.Broker):
-    """A server of two clients a desk, since it may have no more descriptors."""
-
-    def serve(self):
-        most = (OWN + 2 * DESKS, resource.getrlimit(resource.RLIMIT_NOFILE)[1])
-        self.process = subprocess.Popen(
-            [self.program, "serve", self.journal, str(self.port)],
-            stdout=subprocess.PIPE,
-            stderr=subprocess.PIPE,
-            preexec_fn=lambda: resource.setrlimit(resource.RLIMIT_NOFILE, most),
-        )
-        self.process.stdout.readline()
 
 
 def name(number):
@@ -63,13 +45,6 @@ def all_that_is_allowed(broker, checks):
     client.disconnect()
 
 
-def told(broker, words):
-    """How many clients the server says that it gave up so."""
-    os.set_blocking(broker.process.stderr.fileno(), False)
-    lines = (broker.process.stderr.read() or b"").decode().splitlines()
-    return sum(int(line.split(" gave up ")[1].split()[0]) for line in lines if " gave up " in line and words in line)
-
-
 def a_desk_is_full(broker, checks):
     """the clients of a desk share what their names may take"""
     first = [Client(broker.port, timeout=20).connect() for _ in range(DESKS)]
@@ -79,10 +54,11 @@ def a_desk_is_full(broker, checks):
     second = [Client(broker.port, timeout=20).connect() for _ in range(DESKS)]
     left = fits - own
     checks.same("the second get what is left, and then end with 1001", {subscribe(one, MOST) for one in second}, {(left, 1001)})
+    # Their closes are waited for for ten seconds.
+    form = r"gave up (\d+) clients whose names have no room beside the others'"
+    checks.same("the server's lines count them, though they keep their connections", broker.await_count(form, DESKS, 3), DESKS)
     for one in second:
         one.close()
-    time.sleep(1.5)
-    checks.same("the server's lines count them", told(broker, "whose names have no room"), DESKS)
     for number, one in enumerate(first):
         one.send("SEND", [("destination", "/topic/none"), ("receipt", f"{number}")], "x")
         one.receipt(f"{number}")
@@ -104,7 +80,8 @@ def main():
     checks = scenario.Checks()
     with scenario.serving(program) as broker:
         scenario.try_one(all_that_is_allowed, broker, checks)
-    with scenario.serving(program, kind=Small) as broker:
+    # So a desk has two clients at most.
+    with scenario.serving(program, limits={"NOFILE": OWN + 2 * DESKS}) as broker:
         scenario.try_one(a_desk_is_full, broker, checks)
         checks.check("the broker still runs", broker.is_running(), broker.process.poll())
     return checks.status()

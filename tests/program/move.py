@@ -20,7 +20,9 @@ import sys
 import threading
 import time
 
-from lib.fake_peer import CONNECTED, Peer, receipt_of
+from lib.commands import FULL, NOBODY, NONE, UNWRITTEN, told
+from lib.commands import run_for_text as run
+from lib.fake_peer import CONNECT, LEAVE, Peer, answering, connected, ending, receipt_of, receipted, saying
 from lib.scenario import BUILT, Checks, built_program, free_port, serving, words_of
 from lib.stomp_client import Client
 from lib.wire import BINARY, CLOSE, PING, message_bytes, take_frame
@@ -37,19 +39,7 @@ ANEW = ("destination", "receipt", "transaction", "content-length", "subscription
 NOT_COUNTED = "; one more message may be moved, or not"
 TWICE = "; one message may be at both servers, and would be moved again"
 STAYS = "; the message stays where it was"
-NOBODY = "no connection: nobody listens there"
-NONE = "no more messages: none came within --timeout"
 DURABLE = ("--durable", "kiosk", "news")
-
-
-def told(text):
-    return f"stompd: {text}\n"
-
-
-def run(program, *words):
-    """The status, what was printed and what was told."""
-    done = subprocess.run([program, *map(str, words)], stdin=subprocess.DEVNULL, capture_output=True, timeout=120)
-    return done.returncode, done.stdout.decode(), done.stderr.decode()
 
 
 def message_of(number):
@@ -100,7 +90,7 @@ def all_in(broker, destination, count):
 
 def held(program, broker):
     """How many messages each queue and durable name holds, by its name."""
-    lines = subprocess.run([program, "held", broker.journal], capture_output=True, text=True, check=True).stdout.splitlines()
+    lines = run(program, "held", broker.journal)[1].splitlines()
     rows = [it.split(" ", 2) for it in lines[2:-1]]
     return {it[2]: int(it[0]) for it in rows}
 
@@ -116,7 +106,7 @@ WHOLE = [message_of(it) for it in range(COUNT)]
 def await_returned(program, broker):
     """Returns once the server has heard of the end of all who subscribed: until then what they had in hand is nobody else's, and later messages come first."""
     for _ in range(100):
-        if "subscription" not in subprocess.run([program, "sessions", broker.journal], capture_output=True, text=True, check=True).stdout:
+        if "subscription" not in run(program, "sessions", broker.journal)[1]:
             return
         time.sleep(0.1)
 
@@ -148,9 +138,7 @@ def moves(program, checks):
         refused = run(program, "move", broker.port, "/queue/e", "/nowhere")
         checks.same("where the server refuses", refused, (1, "moved 0 messages\n", told("no RECEIPT: ERROR: E8 bad destination" + STAYS)))
         checks.same("and they stay", counts(program, broker, "/queue/e"), (3,))
-        with open("/dev/full", "wb") as full:
-            done = subprocess.run([program, "move", str(broker.port), "/queue/e", "/queue/f", "--count", "1"], stdout=full, stderr=subprocess.PIPE, timeout=60)
-        checks.same("a count that can't be printed", (done.returncode, done.stderr.decode()), (1, told("input or output failed")))
+        checks.same("a count that can't be printed", run(program, "move", broker.port, "/queue/e", "/queue/f", "--count", 1, sink=FULL), (1, "", UNWRITTEN))
 
 
 def many_headers(program, checks):
@@ -231,10 +219,6 @@ class Relay:
                 return True
 
 
-def moved_in(printed):
-    return int(re.fullmatch(r"moved (\d+) messages\n", printed)[1])
-
-
 def again(program, left, *words):
     """Moves what is left. That may be nothing, for which it waits."""
     return run(program, "move", *words, *(("--count", left) if left else ("--timeout", 1)))
@@ -308,36 +292,6 @@ def killed_between(program, checks):
                 checks.check(f"{what}: which was told", len(wanted) - COUNT in (0, 1), len(wanted))
 
 
-def answering(*steps):
-    """A peer that does each of these once it has heard a frame, and then waits."""
-
-    def act(peer):
-        peer.shake()
-        for step in steps:
-            step(peer, peer.hear()[1])
-        with contextlib.suppress(EOFError):
-            while True:
-                peer.hear()
-
-    return act
-
-
-def saying(payload):
-    return lambda peer, _: peer.say(payload, BINARY)
-
-
-def connected(peer, _):
-    peer.say(CONNECTED)
-
-
-def receipted(peer, frame):
-    peer.say(receipt_of(frame))
-
-
-def ending(peer, _):
-    peer.socket.shutdown(2)
-
-
 def delivery(number, body, more=b""):
     head = b"MESSAGE\nsubscription:heard\nmessage-id:%d.0\ndestination:/queue/a\nack:%d\ncontent-length:%d\n" % (number, number, len(body))
     return head + more + b"\n" + body + b"\0"
@@ -345,9 +299,7 @@ def delivery(number, body, more=b""):
 
 MORE = b"b:1\nreceipt:x\nb:2\ntransaction:y\nack:9\na\\cb:c\\nd\ndestination:/queue/z\nsubscription:z\nmessage-id:z\nempty:\n"
 KEPT = b"b:1\nb:2\na\\cb:c\\nd\nempty:\n"
-CONNECT = b"CONNECT\naccept-version:1.2\nhost:127.0.0.1\n\n\0"
 SUBSCRIBE = b"SUBSCRIBE\nid:heard\ndestination:/queue/a\nack:client-individual\n\n\0"
-LEAVE = b"DISCONNECT\nreceipt:left\n\n\0"
 
 
 def transaction(number, delivered, body, kept=b""):
@@ -371,13 +323,13 @@ def said_to(program, peer, *more):
 def frames(program, checks):
     """Which frames are said, one message after the other (STOMP 1.2, "BEGIN", "SEND", "ACK", "COMMIT", "Repeated Header Entries")."""
     two = delivery(7, b"x\0y\xff", MORE) + delivery(8, b"")
-    seen, said = said_to(program, Peer(answering(connected, saying(two), receipted, receipted, receipted)), "--count", 2)
+    seen, said = said_to(program, Peer(answering(connected, saying(two, BINARY), receipted, receipted, receipted)), "--count", 2)
     wanted = [CONNECT, SUBSCRIBE, transaction(1, 7, b"x\0y\xff", KEPT), transaction(2, 8, b""), LEAVE]
     checks.same("of a move", (seen, said), ((0, "moved 2 messages\n", ""), wanted))
-    peer = Peer(answering(connected, saying(two), receipted, receipted, receipted))
+    peer = Peer(answering(connected, saying(two, BINARY), receipted, receipted, receipted))
     said_to(program, peer, "--count", 2)
     checks.same("and last a close (RFC 6455, section 5.5.1)", peer.heard[-1], (CLOSE, (1000).to_bytes(2, "big")))
-    peer = Peer(answering(connected, saying(two), receipted, receipted, receipted))
+    peer = Peer(answering(connected, saying(two, BINARY), receipted, receipted, receipted))
     seen, said = said_to(program, peer, "--count", 3, "--timeout", 1)
     checks.same("of one for which too few come", (seen, said), ((4, "moved 2 messages\n", told(NONE)), wanted))
     for what, answer, text in (
@@ -386,7 +338,7 @@ def frames(program, checks):
         ("an ERROR", saying(b"ERROR\nmessage:E12 no room for the message\nreceipt-id:1\n\n\0"), "no RECEIPT: ERROR: E12 no room for the message" + STAYS),
         ("what is no STOMP", saying(b"hello\n\n\0"), "no RECEIPT: what came is no STOMP" + NOT_COUNTED),
     ):
-        seen, said = said_to(program, Peer(answering(connected, saying(two), answer)))
+        seen, said = said_to(program, Peer(answering(connected, saying(two, BINARY), answer)))
         checks.same(f"a COMMIT is answered by {what}", (seen, said), ((1, "moved 0 messages\n", told(text)), wanted[:3]))
     seen, said = said_to(program, Peer(answering(connected, ending)))
     checks.same("the end before a message", (seen, len(said)), ((1, "moved 0 messages\n", told("no more messages: the connection has ended")), 2))
@@ -399,7 +351,7 @@ def far_frames(program, checks):
     two = delivery(7, b"x\0y\xff", MORE) + delivery(8, b"")
     ack = b"ACK\nid:%d\nreceipt:%d\n\n\0"
     there = Peer(answering(connected, receipted, receipted, receipted))
-    seen, said = said_to(program, Peer(answering(connected, saying(two), receipted, receipted, receipted)), "--to", there.port, "--count", 2)
+    seen, said = said_to(program, Peer(answering(connected, saying(two, BINARY), receipted, receipted, receipted)), "--to", there.port, "--count", 2)
     there.end()
     checks.same("here", (seen, said), ((0, "moved 2 messages\n", ""), [CONNECT, SUBSCRIBE, ack % (7, 1), ack % (8, 2), LEAVE]))
     checks.same("and there", frames_to(there), [CONNECT, send, next_send, LEAVE])
@@ -410,15 +362,15 @@ def far_frames(program, checks):
         ("what is no STOMP", saying(b"hello\n\n\0"), "no RECEIPT: what came is no STOMP" + TWICE),
     ):
         there = Peer(answering(connected, answer))
-        seen, said = said_to(program, Peer(answering(connected, saying(two))), "--to", there.port)
+        seen, said = said_to(program, Peer(answering(connected, saying(two, BINARY))), "--to", there.port)
         there.end()
         checks.same(f"a SEND there is answered by {what}", (seen, said), ((1, "moved 0 messages\n", told(text)), [CONNECT, SUBSCRIBE]))
     there = Peer(answering(connected, receipted))
-    seen, said = said_to(program, Peer(answering(connected, saying(two), ending)), "--to", there.port)
+    seen, said = said_to(program, Peer(answering(connected, saying(two, BINARY), ending)), "--to", there.port)
     there.end()
     checks.same("the ACK is answered by the end", (seen, said[2:]), ((1, "moved 0 messages\n", told("no RECEIPT: the connection has ended" + TWICE)), [ack % (7, 1)]))
     there = Peer(answering(connected, receipted, receipted))
-    here = Peer(answering(connected, saying(delivery(7, b"x\0y\xff", MORE)), receipted, receipted))
+    here = Peer(answering(connected, saying(delivery(7, b"x\0y\xff", MORE), BINARY), receipted, receipted))
     seen = run(program, "move", here.port, "/topic/a", "/queue/b", "--to", there.port, "--count", 2, "--timeout", 3, *DURABLE)
     here.end()
     there.end()
@@ -544,7 +496,7 @@ def broken_pipe(program, checks):
         time.sleep(1)
         os.close(reads)
         errors = process.communicate(timeout=30)[1].decode()
-        checks.same("it ends", (process.returncode, errors), (1, told("input or output failed")))
+        checks.same("it ends", (process.returncode, errors), (1, UNWRITTEN))
         checks.same("three lines were read", lines.decode().split("\n"), [*bodies[:3], ""])
         await_returned(program, broker)
         checks.same("and all others are there", run(program, "listen", broker.port, "/queue/a", "--settle", "--timeout", 1)[:2], (4, "".join(it + "\n" for it in bodies[3:])))

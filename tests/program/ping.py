@@ -13,24 +13,25 @@ import contextlib
 import http.server
 import os
 import re
-import resource
 import signal
 import socket
 import struct
-import subprocess
 import sys
 import threading
 import time
 
-from lib.fake_peer import CONNECTED, Peer, close, receipt_of
-from lib.scenario import BUILT, Broker, Checks, built_program, free_port, serving, words_of
+from lib.commands import FULL, NOBODY, UNWRITTEN, run_for_text, told
+from lib.fake_peer import CONNECT, CONNECTED, Peer, answering, close, closing, connected, ending, nothing, receipt_of, receipted, saying
+from lib.scenario import BUILT, Checks, built_program, free_port, serving, words_of
 from lib.stomp_client import Client, Closed, Refused
-from lib.wire import BINARY, CLOSE, PING, TEXT
+from lib.wire import BINARY, CLOSE, PING, TEXT, handshake
 
 # A step may take five seconds. What a busy machine may add to that.
 STEP, BUSY = 5, 4
 # How many places a full server keeps for pings.
 KEPT = 16
+# So many that are refused stay, and as many say nothing.
+STAYING = 90
 ANSWERED = re.compile(r"receipt after \d+\.\d{3} ms\n")
 NO_ADDRESS = "stompd: '{}': PORT is a number from 1 to 65535, or ws://HOST:PORT/PATH in small letters; there is no TLS\n"
 
@@ -38,8 +39,8 @@ NO_ADDRESS = "stompd: '{}': PORT is a number from 1 to 65535, or ws://HOST:PORT/
 def ping(program, port):
     """The status, and what is written and told; and how long that took."""
     start = time.monotonic()
-    done = subprocess.run([program, "ping", str(port)], capture_output=True, text=True, timeout=60)
-    return (done.returncode, done.stdout, done.stderr), time.monotonic() - start
+    seen = run_for_text(program, "ping", port)
+    return seen, time.monotonic() - start
 
 
 def is_answered(seen):
@@ -47,10 +48,7 @@ def is_answered(seen):
 
 
 def untold(line, status=1):
-    return status, "", f"stompd: {line}\n"
-
-
-CONNECT_TEXT = b"CONNECT\naccept-version:1.2\nhost:127.0.0.1\n\n\0"
+    return status, "", told(line)
 
 
 def converse(peer, say=Peer.say):
@@ -81,39 +79,6 @@ def with_ends_of_lines(peer, payload):
     peer.say(payload + b"\n\r\n")
 
 
-def answering(*steps):
-    """A peer that accepts the handshake, and does each of these once it has heard a frame; then it waits."""
-
-    def act(peer):
-        peer.shake()
-        for step in steps:
-            frame = peer.hear()[1]
-            step(peer, frame)
-        peer.wait()
-
-    return act
-
-
-def connected(peer, _):
-    peer.say(CONNECTED)
-
-
-def receipted(peer, frame):
-    peer.say(receipt_of(frame))
-
-
-def saying(payload):
-    return lambda peer, _: peer.say(payload)
-
-
-def closing(code):
-    return lambda peer, _: close(peer, code)
-
-
-def ending(peer, _):
-    peer.socket.shutdown(socket.SHUT_RDWR)
-
-
 def resetting(peer, _):
     """Ends with a reset, as a system does whose program has left something unread."""
     peer.socket.setsockopt(socket.SOL_SOCKET, socket.SO_LINGER, struct.pack("ii", 1, 0))
@@ -121,10 +86,6 @@ def resetting(peer, _):
     peer.stream.close()
     peer.socket.close()
     raise ConnectionResetError
-
-
-def nothing(*_):
-    pass
 
 
 def drip(peer):
@@ -253,7 +214,7 @@ def what_is_said(program, checks):
     frames = [(kind, payload) for kind, payload in peer.heard]
     commands = [payload.split(b"\n", 1)[0] for _, payload in frames[:3]]
     checks.same("it says CONNECT, SEND, DISCONNECT, and closes with 1000", (commands, frames[3]), ([b"CONNECT", b"SEND", b"DISCONNECT"], (CLOSE, b"\x03\xe8")))
-    checks.same("its CONNECT asks for STOMP 1.2", frames[0][1], CONNECT_TEXT)
+    checks.same("its CONNECT asks for STOMP 1.2", frames[0][1], CONNECT)
     checks.check("its SEND goes where nobody hears it", b"\ndestination:/topic/stompd-ping\n" in frames[1][1], frames[1])
 
 
@@ -284,27 +245,22 @@ def hosts(program, checks):
 def ports(program, checks):
     """Words that name no port."""
     for word in ("0", "65536", "x", "+8080", "", "18446744073709551616", "wss://localhost:1/", "ws://", "ws:///x", "ws://a b:1/", "http://localhost:1/", "ws://localhost:1/a b", "ws://localhost:1/#a"):
-        done = subprocess.run([program, "ping", word], capture_output=True, text=True)
-        checks.same(f"no port: {word!r}", (done.returncode, done.stdout, done.stderr), (2, "", NO_ADDRESS.format(word)))
+        checks.same(f"no port: {word!r}", run_for_text(program, "ping", word), (2, "", NO_ADDRESS.format(word)))
     for words in (["ping"], ["ping", "1", "2"], ["ping", "1", "--origin", "null"]):
-        done = subprocess.run([program, *words], capture_output=True, text=True)
-        checks.check(f"no such words: {words}", done.returncode == 2 and done.stdout == "" and done.stderr, done)
-    done = subprocess.run([program, "--help"], capture_output=True, text=True)
-    checks.check("the help names it", "  ping " in done.stdout + done.stderr, done)
+        status, printed, said = run_for_text(program, *words)
+        checks.check(f"no such words: {words}", (status, printed) == (2, "") and said, (status, printed, said))
 
 
 def running(program, checks):
     """A server that runs, with and without origins, is stopped for a while, and ends."""
-    checks.same("nobody listens", ping(program, free_port())[0], untold("no connection: nobody listens there"))
+    checks.same("nobody listens", ping(program, free_port())[0], untold(NOBODY))
     with serving(program) as broker:
         for turn in range(20):
             seen, _ = ping(program, broker.port)
             checks.check(f"a running server, {turn}", is_answered(seen), seen)
-        held = subprocess.run([program, "held", broker.journal], capture_output=True, text=True).stdout
+        held = run_for_text(program, "held", broker.journal)[1]
         checks.check("nothing of it is held", held.startswith("messages 0 "), held)
-        with open("/dev/full", "w") as full:
-            done = subprocess.run([program, "ping", str(broker.port)], stdout=full, stderr=subprocess.PIPE, text=True)
-        checks.same("its line can't be written", (done.returncode, done.stderr), (1, "stompd: input or output failed\n"))
+        checks.same("its line can't be written", run_for_text(program, "ping", broker.port, sink=FULL), (1, "", UNWRITTEN))
         with broker.standing_still():
             seen, seconds = ping(program, broker.port)
         checks.same("a server that is stopped", seen, untold(NO_HANDSHAKE + LATE))
@@ -317,44 +273,39 @@ def running(program, checks):
         checks.same("a host that is none", ping(program, f"ws://no.such.host.invalid:{broker.port}/")[0], untold("no connection: there is no such host"))
         broker.process.send_signal(signal.SIGTERM)
         broker.process.wait()
-        checks.same("a server that has ended", ping(program, broker.port)[0], untold("no connection: nobody listens there"))
-    with serving(program, kind=lambda *words: Broker(*words, more=("--origin", "https://chat.example"))) as broker:
+        checks.same("a server that has ended", ping(program, broker.port)[0], untold(NOBODY))
+    with serving(program, more=("--origin", "https://chat.example")) as broker:
         seen, _ = ping(program, broker.port)
         checks.check("a server with origins", is_answered(seen), seen)
 
 
+def stay(port, asked):
+    """A socket that asks this, if anything, reads the first of the answer, and stays."""
+    one = socket.create_connection(("127.0.0.1", port), timeout=10)
+    with contextlib.suppress(OSError):
+        one.sendall(asked)
+        if asked:
+            one.recv(1)
+    return one
+
+
 def full(program, checks):
-    """A server that takes no more clients answers 503 to all but sixteen pings, and one whose journal is full has ended."""
-
-    def few():
-        resource.setrlimit(resource.RLIMIT_NOFILE, (300, 300))
-
-    class Small(Broker):
-        def serve(self):
-            words = [self.program, "serve", self.journal, str(self.port)]
-            self.process = subprocess.Popen(words, stdout=subprocess.PIPE, stderr=subprocess.DEVNULL, stdin=subprocess.DEVNULL, preexec_fn=few)
-            assert self.process.stdout.readline().decode() == f"listening {self.port}\n"
-
-        def kill(self):
-            self.process.kill()
-            self.process.wait()
-            self.process.stdout.close()
-
-    with serving(program, kind=Small) as broker:
+    """A server that takes no more clients answers 503 to all but sixteen pings, also if those that it refused stay."""
+    with serving(program, limits={"NOFILE": 300}) as broker:
         clients = []
         with contextlib.suppress(Refused, Closed):
             while len(clients) < 300:
-                clients.append(Client(broker.port))
+                clients.append(Client(broker.port).connect())
         checks.check("a server may be full", 0 < len(clients) < 300, len(clients))
-        checks.check("a server that is full has a place for a ping", is_answered(ping(program, broker.port)[0]))
-        with contextlib.suppress(Refused, Closed):
-            while len(clients) < 300:
-                clients.append(Client(broker.port))
-        # Those that were refused have such a place for two seconds.
+        # It has so many descriptors left for what it refuses, for two seconds each, and for pings.
+        staying = [stay(broker.port, asked) for _ in range(STAYING) for asked in (handshake(broker.port), b"")]
         time.sleep(3)
+        seen = [is_answered(ping(program, broker.port)[0]) for _ in range(3)]
+        checks.same("it answers three pings though clients that it refused stay, and others say nothing", seen, [True] * 3)
+        checks.same("and none that it took is disconnected", [one.publish("/topic/none", "x") for one in clients], [[]] * len(clients))
         clients += [Client(broker.port, path="/stompd-ping") for _ in range(KEPT)]
         checks.same("a server whose places for pings are taken is alive", ping(program, broker.port)[0], untold(NO_HANDSHAKE + "HTTP status 503", 3))
-        for client in clients:
+        for client in [*clients, *staying]:
             client.close()
         # Its workers look at their sockets one after another.
         taken, end = False, time.monotonic() + 10
@@ -363,11 +314,6 @@ def full(program, checks):
                 Client(broker.port).close()
                 taken = True
         checks.check("a server that was full takes another client", taken)
-    with serving(program, journal_bytes=8_224) as broker:
-        os.unlink(broker.journal)
-        broker.process.wait(timeout=10)
-        checks.same("it has ended by a fault", broker.process.returncode, 1)
-        checks.same("a server that has ended by a fault", ping(program, broker.port)[0], untold("no connection: nobody listens there"))
 
 
 def other_servers(program, checks):

@@ -8,14 +8,11 @@ fields that belong to it, and a text of the length that is named. What is expect
 PROGRAM is the built program; without it, the one that bin/stompd leaves in crates/stompd/out.
 """
 
-import contextlib
-import os
 import socket
-import subprocess
 import sys
-import tempfile
 
-from lib.scenario import BUILT, BriefChecks, built_program, free_port, words_of
+from lib.scenario import BUILT, BriefChecks, built_program, serving, words_of
+from lib.wire import stomp_bytes
 
 KEY = "Sec-WebSocket-Key: dGhlIHNhbXBsZSBub25jZQ=="
 HOST, UPGRADE, CONNECTION, VERSION = "Host: localhost", "Upgrade: websocket", "Connection: Upgrade", "Sec-WebSocket-Version: 13"
@@ -62,6 +59,13 @@ ASKED = (
     ("a field of 17,000 bytes", request(GET, *WHOLE, "X-Long: " + 17_000 * "x"), 431),
     ("a field of 70,000 bytes", request(GET, *WHOLE, "X-Long: " + 70_000 * "x"), 431),
     ("a field of a megabyte", request(GET, *WHOLE, "X-Long: " + 1_048_576 * "x"), 431),
+    # Neither field may appear more than once (RFC 6455, sections 11.3.1 and 11.3.5), whatever the case of its letters (RFC 9110, section 5.1).
+    ("its key twice", request(GET, *WHOLE, KEY), 400),
+    ("two keys", request(GET, *WHOLE, "sec-websocket-key: AAAAAAAAAAAAAAAAAAAAAA=="), 400),
+    ("its version twice", request(GET, *WHOLE, VERSION), 400),
+    ("two versions", request(GET, *WHOLE, "SEC-WEBSOCKET-VERSION: 8"), 400),
+    ("STOMP with no WebSocket", stomp_bytes("CONNECT", [("accept-version", "1.2"), ("host", "a")]), 400),
+    ("that with the other command", stomp_bytes("STOMP", [("accept-version", "1.2"), ("host", "a")]), 400),
     ("a field of 16,000 bytes", request(GET, *WHOLE, "X-Long: " + 16_000 * "x"), 101),
 )
 
@@ -77,22 +81,6 @@ ORIGINS = (
     (("Origin: http://localhost:8000", "Origin: http://evil.example"), 101, 403),
     (("Origin:",), 101, 403),
 )
-
-
-@contextlib.contextmanager
-def serving(program, *options):
-    """A server over a new journal, at a port that was free."""
-    with tempfile.TemporaryDirectory() as folder:
-        journal = os.path.join(folder, "journal")
-        subprocess.run([program, "format", journal, "2097184"], check=True)
-        port = free_port()
-        words = [program, "serve", *options[:1], *options[1:2], journal, str(port), *options[2:]]
-        with subprocess.Popen(words, stdout=subprocess.PIPE) as server:
-            try:
-                server.stdout.readline()
-                yield port
-            finally:
-                server.kill()
 
 
 def answer(port, asked):
@@ -141,9 +129,13 @@ def main():
     checks = BriefChecks(program)
 
     def check(port, what, asked, status):
-        checks.same(f"faults of the answer to one that asks for {what}", faults(*answer(port, asked), status, not asked.startswith(b"HEAD ")), [])
+        head, body = answer(port, asked)
+        checks.same(f"faults of the answer to one that asks for {what}", faults(head, body, status, not asked.startswith(b"HEAD ")), [])
+        if asked.startswith((b"CONNECT\n", b"STOMP\n")):
+            checks.check(f"{what}: the answer names what is spoken", b"STOMP over WebSocket" in body, body)
 
-    with serving(program) as port:
+    with serving(program, 2_097_184) as server:
+        port = server.port
         for what, asked, status in TRIES * ASKED:
             check(port, what, asked, status)
         for fields, status, _ in ORIGINS:
@@ -151,9 +143,9 @@ def main():
         # None of them has kept a worker.
         for _ in range(40):
             check(port, "a plain GET, again", request(GET, HOST), 426)
-    with serving(program, "--origin", SERVED[0], f"--origin={SERVED[1]}") as port:
+    with serving(program, 2_097_184, more=("--origin", SERVED[0], f"--origin={SERVED[1]}")) as server:
         for fields, _, status in ORIGINS:
-            check(port, f"a WebSocket with {fields}, where {SERVED} are served", request(GET, *WHOLE, *fields), status)
+            check(server.port, f"a WebSocket with {fields}, where {SERVED} are served", request(GET, *WHOLE, *fields), status)
     return checks.status()
 
 

@@ -24,7 +24,8 @@ import tempfile
 import threading
 import time
 
-from lib.scenario import BUILT, Broker, Checks, built_program, words_of
+from lib.commands import held_or_fault
+from lib.scenario import BUILT, Broker, Checks, built_program, make_journal, words_of
 from lib.stomp_client import Client, Closed
 
 # Two areas of 64 KiB.
@@ -60,16 +61,15 @@ class Server:
 
     def __init__(self, program, folder, is_busy, link=None):
         self.program, self.folder, self.journal = program, folder, folder / "journal"
-        subprocess.run([program, "format", self.journal, str(JOURNAL_BYTES)], check=True)
+        make_journal(program, self.journal, JOURNAL_BYTES)
         if link:
             link.parent.mkdir()
             link.symlink_to(self.journal)
         # An earlier life, and a backup from its end: the selector of its header is another one.
-        earlier = Broker(program, str(self.journal))
-        earlier.kill()
+        Broker(program, self.journal).kill()
         self.backup = folder / "backup"
         shutil.copy(self.journal, self.backup)
-        self.broker = Broker(program, str(link or self.journal))
+        self.broker = Broker(program, link or self.journal)
         # The file that the server has open, whatever becomes of its names.
         self.file = open(self.journal, "rb")
         self.receipted = 0
@@ -104,34 +104,25 @@ class Server:
         """The status and the last line once it has ended, and for how many seconds it ran on. It is killed if it runs too long."""
         begun = time.monotonic()
         try:
-            _, errors = self.broker.process.communicate(timeout=PATIENCE)
+            status = self.broker.await_end(PATIENCE)
         except subprocess.TimeoutExpired:
-            self.broker.process.kill()
-            self.broker.process.communicate()
-            self.talks.join()
-            return None, f"it runs {PATIENCE} seconds later", time.monotonic() - begun
+            status = None
         seconds = time.monotonic() - begun
+        self.broker.kill()
         self.talks.join()
-        return self.broker.process.returncode, (errors.decode().splitlines() or [""])[-1], seconds
+        return status, (self.broker.text().splitlines() or [""])[-1], seconds
 
     def held_in_open_file(self):
         """How many messages the file that was open holds."""
         seen = self.folder / "seen"
         self.file.seek(0)
         seen.write_bytes(self.file.read())
-        return held(self.program, seen)
+        return held_or_fault(self.program, seen)
 
     def close(self):
         self.file.close()
         for client in (self.client, *self.others):
             client.close()
-
-
-def held(program, path):
-    shown = subprocess.run([program, "show", path], capture_output=True, text=True, check=False)
-    if shown.returncode:
-        return shown.stderr.strip()
-    return int(dict(line.split(" ") for line in shown.stdout.splitlines())["held"])
 
 
 def moved_away(server):
@@ -150,6 +141,16 @@ def folder_moved(server):
 
 def removed(server):
     os.remove(server.journal)
+
+
+def removed_beside_others(server):
+    """Other files of the folder come and go before and after it, within a tick of the system's clock."""
+    others = [server.folder / f"{number}" for number in range(50)]
+    for it in others:
+        it.touch()
+    os.remove(server.journal)
+    for it in others:
+        it.unlink()
 
 
 def replaced_by_its_copy(server):
@@ -318,8 +319,7 @@ def nothing_lost(program, folder, checks):
     os.chmod(server.journal, 0o640)
     time.sleep(2.5)
     checks.check("a journal beside which files come and go is served on", server.broker.is_running(), server.broker.process.poll())
-    server.broker.process.kill()
-    server.end()
+    server.broker.kill()
     server.close()
 
 
@@ -327,7 +327,7 @@ def main():
     program, checks = built_program(words_of(__doc__, BUILT).parse_args()), Checks()
     tasks = [(lose, loss, is_busy) for loss in LOSSES for is_busy in (False, True) if not (is_busy and loss[0] in AT_REST)]
     tasks += [(link_led_elsewhere,), (header_before_a_compaction,), (header_at_rest,), (nothing_lost,)]
-    tasks += [(sent_after_it, loses) for loses in (removed, renamed_over, truncated, overwritten_by_a_backup)]
+    tasks += [(sent_after_it, loses) for loses in (removed, removed_beside_others, renamed_over, truncated, overwritten_by_a_backup)]
     with tempfile.TemporaryDirectory(prefix="replaced-") as name:
         top = pathlib.Path(name).resolve()
 

@@ -7,15 +7,11 @@
 import socket
 import struct
 import sys
-import threading
 import time
 
 from lib import scenario
 from lib.stomp_client import Client, Closed, Refused, Stream, WebSocket
-from lib.wire import BINARY, CLOSE, PING, PONG, TEXT, handshake, message_bytes
-
-# For how many seconds a client may send nothing within its handshake.
-LONGEST_READ = 20
+from lib.wire import BINARY, CLOSE, PING, PONG, TEXT, message_bytes
 
 DESTINATION = "destination:/queue/rubbish\n"
 SUBSCRIBE = "SUBSCRIBE\nid:a\n" + DESTINATION
@@ -78,41 +74,6 @@ def code_of(stream):
         return closed.code
 
 
-def answer_to(port, request):
-    """The status of the answer, after which the stream ends."""
-    stream = Stream(port)
-    try:
-        stream.write(request)
-    except (BrokenPipeError, ConnectionResetError):
-        # Not all was read before the answer.
-        pass
-    try:
-        while True:
-            stream.fill()
-    except Closed:
-        stream.close()
-    words = bytes(stream.buffer).split(b" ", 2)
-    return int(words[1]) if words[0] == b"HTTP/1.1" else words
-
-
-def no_http(broker, checks):
-    """bytes that are no handshake: the status that says why, and the end"""
-    head = handshake(broker.port, offer="v12.stomp").decode()
-    requests = {
-        "a TLS hello": (400, b"\x16\x03\x01\x02\x00\x01\x00\x01\xfc\x03\x03" + bytes(range(200))),
-        "a line of text": (400, b"hello\r\n\r\n"),
-        "STOMP on plain TCP": (400, b"CONNECT\naccept-version:1.2\n\n\0\r\n\r\n"),
-        "a GET of a page": (426, b"GET / HTTP/1.1\r\nHost: localhost\r\n\r\n"),
-        "version 8 of WebSocket": (426, head.replace("Version: 13", "Version: 8").encode()),
-        "no key": (400, "\r\n".join(line for line in head.split("\r\n") if "-Key" not in line).encode()),
-        "a head of 70,000 bytes": (431, head.replace("\r\n\r\n", "\r\nX: " + "x" * 70_000).encode()),
-        "125 headers": (431, head.replace("\r\n\r\n", "\r\n" + "X: x\r\n" * 119 + "\r\n").encode()),
-    }
-    for name, (status, request) in requests.items():
-        checks.same(f"{name}: the status, and the end", answer_to(broker.port, request), status)
-    still_served(broker, checks, "these")
-
-
 def subprotocols(broker, checks):
     """what is offered, and what is answered"""
     for offer, answer in ((None, None), ("v12.stomp", "v12.stomp"), ("v10.stomp , v12.stomp,v11.stomp", "v12.stomp")):
@@ -127,61 +88,6 @@ def subprotocols(broker, checks):
             status = refused.status
         checks.same(f"offered {offer} alone: the status", status, "400")
     still_served(broker, checks, "a refused handshake")
-
-
-def seconds_to_the_end(port, data, ends):
-    stream = Stream(port, timeout=LONGEST_READ + 10)
-    start = time.perf_counter()
-    stream.write(data)
-    code = code_of(stream)
-    ends.append((time.perf_counter() - start, code, bytes(stream.buffer)))
-
-
-def half_a_handshake(broker, checks):
-    """one that says nothing, and one that says half: each is let go after some 20 seconds"""
-    head = handshake(broker.port, offer="v12.stomp")
-    silent, half = [], []
-    threads = [
-        threading.Thread(target=seconds_to_the_end, args=(broker.port, b"", silent)),
-        threading.Thread(target=seconds_to_the_end, args=(broker.port, head[:60], half)),
-    ]
-    for thread in threads:
-        thread.start()
-    still_served(broker, checks, "these two")
-    for thread in threads:
-        thread.join()
-    for name, ends in (("nothing", silent), ("half a handshake", half)):
-        seconds, code, buffer = ends[0]
-        checks.check(f"{name}: the end", (code, buffer) == (0, b""), (code, buffer))
-        checks.check(f"{name}: after 19 to 25 seconds", LONGEST_READ - 1 <= seconds <= LONGEST_READ + 5, seconds)
-        checks.tell(f"after {seconds:.1f} s")
-
-
-def answer_to_parts(port, parts, pause):
-    """What is answered to a handshake that comes in parts, with a pause before each."""
-    stream = Stream(port)
-    try:
-        for part in parts:
-            time.sleep(pause)
-            stream.write(part)
-        return stream.take_head()
-    except (Closed, ConnectionError) as error:
-        return repr(error).encode()
-    finally:
-        stream.close()
-
-
-def a_slow_handshake(broker, checks):
-    """one that begins a second after the connection, and those that come in parts, are answered"""
-    head = handshake(broker.port, offer="v12.stomp")
-    cases = [
-        ("begins a second late", [head], 1),
-        ("comes in two parts", [head[:60], head[60:]], 0.5),
-        ("comes 32 bytes at a time", [head[at : at + 32] for at in range(0, len(head), 32)], 0.1),
-    ]
-    for name, parts, pause in cases:
-        answer = answer_to_parts(broker.port, parts, pause)
-        checks.check(f"a handshake that {name} is answered with 101", b" 101 " in answer, answer[:80])
 
 
 def faults_of_a_session(broker, checks):
@@ -274,10 +180,7 @@ def pings_and_closes(broker, checks):
 
 
 SCENARIOS = [
-    no_http,
     subprotocols,
-    a_slow_handshake,
-    half_a_handshake,
     faults_of_a_session,
     half_a_frame,
     broken_messages,

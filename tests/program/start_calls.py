@@ -11,19 +11,17 @@ The first sync of a start writes some bytes of the header back. A loss of power 
 the same as the journal, and a start over some of them holds the same messages.
 """
 
-import contextlib
-import os
 import pathlib
 import random
 import re
 import shutil
-import signal
-import subprocess
 import sys
 import tempfile
 
-from lib.scenario import BUILT, Broker, Checks, built_program, child_of, free_port, words_of
+from lib.commands import held_or_fault, run
+from lib.scenario import BUILT, Broker, Checks, Unserved, built_program, make_journal, words_of
 from lib.stomp_client import Client
+from lib.tracing import need_strace, strace, text_of
 
 JOURNAL_BYTES = 32 + 2 * 16_384
 QUEUE, MESSAGES, BODY = "/queue/kept", 12, "x" * 300
@@ -32,13 +30,14 @@ CALLS = "openat,flock,fstat,statx,newfstatat,lseek,fcntl,pread64,pwrite64,fdatas
 # The header's bytes that mean nothing, by docs/JOURNAL.md: those behind the selector.
 SLACK = range(17, 32)
 IMAGES = 300
+# What is told of a start that fails.
+DEVICE, CANNOT_OPEN = "J3 device failed: input/output error", ": the system refuses it"
 
 
 def prepared(program, folder):
     """A journal with messages, each with its receipt."""
-    journal = folder / "journal"
-    subprocess.run([program, "format", journal, str(JOURNAL_BYTES)], check=True)
-    broker = Broker(program, str(journal))
+    journal = make_journal(program, folder / "journal", JOURNAL_BYTES)
+    broker = Broker(program, journal)
     client = Client(broker.port).connect()
     for number in range(MESSAGES):
         client.publish(QUEUE, f"{number} {BODY}")
@@ -47,51 +46,37 @@ def prepared(program, folder):
     return journal
 
 
-class Start:
-    """A start under strace, with further words for that."""
-
-    def __init__(self, program, journal, trace, *more):
-        self.port = free_port()
-        words = ["strace", "-f", "-o", trace, "-P", journal, "-e", f"trace={CALLS}", *more]
-        self.process = subprocess.Popen([*words, program, "serve", journal, str(self.port)], stdout=subprocess.PIPE, stderr=subprocess.PIPE)
-        self.listens = self.process.stdout.readline() == b"listening %d\n" % self.port
-
-    def end(self):
-        """Kills the server if it listens and hasn't ended by itself since. Its last line."""
-        if self.listens:
-            with contextlib.suppress(ValueError, FileNotFoundError, ProcessLookupError):
-                os.kill(child_of(self.process.pid), signal.SIGKILL)
-        errors = self.process.communicate(timeout=60)[1].decode()
-        return (errors.splitlines() or [""])[-1]
+def start(program, journal, trace, *injected):
+    """A start under strace, after which the server is killed: whether it listened, and its last line."""
+    words = strace(trace, CALLS, *injected, path=journal)
+    try:
+        server = Broker(program, journal, before=words)
+    except Unserved as fault:
+        return False, (fault.told.splitlines() or [""])[-1]
+    server.kill()
+    return True, (server.text().splitlines() or [""])[-1]
 
 
 def counts_of(trace):
     """How often each call was made."""
     counts = {}
-    for line in pathlib.Path(trace).read_text(encoding="ascii", errors="replace").splitlines():
+    for line in text_of(trace).splitlines():
         if found := re.match(r"\d+ +(\w+)\(", line):
             counts[found[1]] = counts.get(found[1], 0) + 1
     return counts
 
 
-def held(program, path):
-    shown = subprocess.run([program, "show", path], capture_output=True, text=True, check=False)
-    return shown.stderr.strip() if shown.returncode else int(dict(line.split(" ") for line in shown.stdout.splitlines())["held"])
-
-
 def serves(program, journal):
     """Whether a start over it holds all messages."""
-    broker = Broker(program, str(journal))
-    broker.kill()
-    return held(program, journal)
+    Broker(program, journal).kill()
+    return held_or_fault(program, journal)
 
 
 def try_calls(program, folder, journal, checks):
     trace, copy = str(folder / "trace"), folder / "copy"
     shutil.copy(journal, copy)
-    start = Start(program, str(copy), trace)
-    line = start.end()
-    checks.check("a start listens", start.listens, line)
+    listens, line = start(program, copy, trace)
+    checks.check("a start listens", listens, line)
     counts = counts_of(trace)
     checks.check("a start locks, reads, writes and syncs", {"openat", "flock", "pread64", "pwrite64", "fdatasync"} <= set(counts), counts)
     for name, count in sorted(counts.items()):
@@ -99,11 +84,12 @@ def try_calls(program, folder, journal, checks):
             for fault in ("error=EIO", "signal=SIGKILL"):
                 what = f"{fault} at {name} {number} of {count}"
                 shutil.copy(journal, copy)
-                one = Start(program, str(copy), trace, "-e", f"inject={name}:{fault}:when={number}")
-                line = one.end()
-                if not one.listens and fault == "error=EIO":
-                    checks.check(f"{what}: one line says why", re.match(r"stompd: (J3 device failed: |cannot open: )", line), line)
-                checks.same(f"{what}: what the journal holds", held(program, copy), MESSAGES)
+                listens, line = start(program, copy, trace, f"{name}:{fault}:when={number}")
+                if not listens and fault == "error=EIO":
+                    # The first read is made while the file is opened.
+                    is_open = name in ("pwrite64", "fdatasync") or (name == "pread64" and number > 1)
+                    checks.check(f"{what}: one line says why", line.endswith((DEVICE,) if is_open else (DEVICE, CANNOT_OPEN)), line)
+                checks.same(f"{what}: what the journal holds", held_or_fault(program, copy), MESSAGES)
                 checks.same(f"{what}: and after another start", serves(program, copy), MESSAGES)
 
 
@@ -118,24 +104,19 @@ def fillings():
         yield chance.randbytes(len(SLACK))
 
 
-def show(program, path):
-    done = subprocess.run([program, "show", path], capture_output=True, check=False)
-    return done.returncode, done.stdout, done.stderr
-
-
 def tear_what_is_written_back(program, folder, journal, checks):
     """The range is that of the first write of a start."""
     trace, copy = str(folder / "trace"), folder / "copy"
     shutil.copy(journal, copy)
-    Start(program, str(copy), trace).end()
-    writes = re.findall(r"pwrite64\(.*, (\d+), (\d+)\) += \d+", pathlib.Path(trace).read_text(encoding="ascii", errors="replace"))
+    start(program, copy, trace)
+    writes = re.findall(r"pwrite64\(.*, (\d+), (\d+)\) += \d+", text_of(trace))
     checks.same("the first write of a start", writes[0], (str(len(SLACK)), str(SLACK.start)))
-    before, content = show(program, journal), journal.read_bytes()
+    before, content = run(program, "show", journal), journal.read_bytes()
     wrong = set()
     for number, filling in enumerate(fillings()):
         image = content[: SLACK.start] + filling + content[SLACK.stop :]
         copy.write_bytes(image)
-        if show(program, copy) != before:
+        if run(program, "show", copy) != before:
             wrong.add(filling)
         if number % 40 == 0 and serves(program, copy) != MESSAGES:
             wrong.add(filling)
@@ -145,13 +126,11 @@ def tear_what_is_written_back(program, folder, journal, checks):
 def main():
     program, checks = built_program(words_of(__doc__, BUILT).parse_args()), Checks()
     checks.is_brief = True
-    if not shutil.which("strace"):
-        print("start_calls: strace is missing", file=sys.stderr)
-        return 2
+    need_strace()
     with tempfile.TemporaryDirectory(prefix="start-") as name:
         folder = pathlib.Path(name).resolve()
         journal = prepared(program, folder)
-        checks.same("what the journal holds before", held(program, journal), MESSAGES)
+        checks.same("what the journal holds before", held_or_fault(program, journal), MESSAGES)
         try_calls(program, folder, journal, checks)
         tear_what_is_written_back(program, folder, journal, checks)
     return checks.status()

@@ -141,24 +141,32 @@ def formats(checks, folder):
 
 
 def unfinished(checks, folder):
-    """A file under the name under which a journal is made: one that is locked, or that somebody may need, stays."""
-    draft = folder / "draft.new"
-    with draft.open("wb") as lock:
-        fcntl.flock(lock, fcntl.LOCK_EX)
-        checks.run(["format", str(folder / "draft"), str(SMALLEST)], 1, NOTHING, unopened(draft, "it is locked, since another stompd makes the file"))
+    """Each command that makes a file leaves what is there under its name, and under the name with which it is made: one that is locked, or that somebody may need."""
+    made, draft = folder / "draft", folder / "draft.new"
     foreign = unopened(draft, "it is there, and no unfinished journal; rename or remove it")
-    for data in (b"mine", b"STOMPJ02", bytes(7) + b"x"):
-        draft.write_bytes(data)
-        checks.run(["format", str(folder / "draft"), str(SMALLEST)], 1, NOTHING, foreign)
-        checks.same(f"{data}: it stays", draft.read_bytes(), data)
-    draft.unlink()
-    for make, remove in ((draft.mkdir, draft.rmdir), (lambda: draft.symlink_to(folder / "zeros"), draft.unlink)):
-        make()
-        checks.run(["format", str(folder / "draft"), str(SMALLEST)], 1, NOTHING, foreign)
-        remove()
+    there, is_locked = unopened(made, "it is there already"), unopened(draft, "it is locked, since another stompd makes the file")
+    drafts = [(lambda data=data: draft.write_bytes(data), draft.unlink, foreign) for data in (b"mine", b"STOMPJ02", bytes(7) + b"x")]
+    drafts += [(draft.mkdir, draft.rmdir, foreign), (lambda: draft.symlink_to(folder / "zeros"), draft.unlink, foreign)]
+    taken = [(lambda: made.write_bytes(b"mine"), made.unlink, there), (lambda: made.symlink_to("nowhere"), made.unlink, there)]
+    for words in (["format", made, SMALLEST], ["copy", folder / "zeros", made, SMALLEST], ["serve", made, free_port(), "--new", SMALLEST]):
+        words = [str(it) for it in words]
+        for make, remove, text in drafts + (taken if words[0] != "serve" else []):
+            make()
+            before = state(folder)
+            checks.run(words, 1, NOTHING, text)
+            checks.same(f"{words[0]}: what is there stays", state(folder), before)
+            remove()
+        with draft.open("wb") as lock:
+            fcntl.flock(lock, fcntl.LOCK_EX)
+            checks.run(words, 1, NOTHING, is_locked)
+        draft.unlink()
     draft.write_bytes(bytes(8) + b"x")
-    checks.run(["format", str(folder / "draft"), str(SMALLEST)], 0, NOTHING, NOTHING)
-    checks.check("what a killed run left is made anew", not draft.exists() and (folder / "draft").read_bytes() == (folder / "zeros").read_bytes())
+    checks.run(["format", str(made), str(SMALLEST)], 0, NOTHING, NOTHING)
+    checks.check("what a killed run left is made anew", not draft.exists() and made.read_bytes() == (folder / "zeros").read_bytes())
+
+
+def state(folder):
+    return sorted((it.name, it.lstat().st_ino, it.read_bytes() if it.is_file() else None) for it in folder.iterdir())
 
 
 def places(checks, folder):
@@ -172,14 +180,6 @@ def places(checks, folder):
     checks.run(["format", "most", str(LIMITED)], 0, NOTHING, NOTHING, cwd=folder, preexec_fn=limit)
     checks.run(["format", "more", str(LIMITED + 1)], 1, NOTHING, unopened("more", "no file may be so large here"), cwd=folder, preexec_fn=limit)
     checks.same("what was refused has left nothing", sorted(it.name for it in folder.glob("mo*")), ["most"])
-    (folder / "link").symlink_to(folder / "nothing")
-    with open(folder / "locked.new", "wb") as other:
-        fcntl.flock(other, fcntl.LOCK_EX)
-        for words in (["format"], ["copy", "bare"]):
-            checks.run([*words, "link", str(LIMITED)], 1, NOTHING, unopened("link", "it is there already"), cwd=folder)
-            checks.run([*words, "locked", str(LIMITED)], 1, NOTHING, unopened("locked.new", "it is locked, since another stompd makes the file"), cwd=folder)
-    left = [(folder / it).exists() for it in ("nothing", "locked", "locked.new")]
-    checks.same("a link to nothing leads nowhere still, and what another one makes stays", left, [False, False, True])
 
 
 def broken(folder):

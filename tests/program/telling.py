@@ -3,71 +3,26 @@
 
     python3 tests/program/telling.py [PROGRAM]
 
-A server tells its start; what comes often is counted, and told at most once a second a kind; so is a reader that is too slow; a server with few
-descriptors takes as many clients as they allow; and lawful clients whose names would fill its journal are closed, and told.
+A server tells its start; what comes often is counted, and told at most once a second a kind; so is a reader that is too slow.
 """
 
 import collections
 import contextlib
 import datetime
-import pathlib
 import re
-import resource
 import socket
-import subprocess
 import sys
-import tempfile
-import threading
 import time
 
 from lib import scenario
-from lib.stomp_client import Client, Closed, Refused, WebSocket
+from lib.scenario import LINE
+from lib.stomp_client import Client, Closed
 from lib.wire import handshake
 
-# `stompd: `, the moment (RFC 3339, section 5.6, in UTC), and what happened.
-LINE = re.compile(r"stompd: (\d{4}-\d\d-\d\dT\d\d:\d\d:\d\dZ) (.*)\n")
 JOURNAL_BYTES = 67_108_896
-FEW, ELSEWHERE = 300, 20
-# So many leave before their handshake is done, in each of three ways.
-LEAVING = 5
+ELSEWHERE = 20
 # In seconds, for what is told within two. Nothing else is told meanwhile: the line of a minute comes far later.
 ALONE = 10
-
-
-class Server:
-    """A server whose lines are kept with when they came."""
-
-    def __init__(self, program, journal_bytes=JOURNAL_BYTES, descriptors=None, more=()):
-        self.folder = tempfile.TemporaryDirectory(prefix="telling-")
-        journal = pathlib.Path(self.folder.name) / "journal"
-        subprocess.run([program, "format", "--sparse", journal, str(journal_bytes)], check=True)
-        self.port, self.lines = scenario.free_port(), []
-        # The one that counts, under the one that it may be raised to.
-        limit = (lambda: resource.setrlimit(resource.RLIMIT_NOFILE, (descriptors, resource.getrlimit(resource.RLIMIT_NOFILE)[1]))) if descriptors else None
-        words = [program, "serve", journal, str(self.port), *more]
-        self.process = subprocess.Popen(words, stdout=subprocess.PIPE, stderr=subprocess.PIPE, text=True, preexec_fn=limit)
-        assert self.process.stdout.readline() == f"listening {self.port}\n"
-        self.reader = threading.Thread(target=self.read)
-        self.reader.start()
-
-    def read(self):
-        for line in self.process.stderr:
-            self.lines.append((time.monotonic(), line))
-
-    def end(self):
-        self.process.kill()
-        self.process.wait()
-        self.reader.join()
-        self.folder.cleanup()
-
-    def told(self, word, seconds=3):
-        """What was told with that word, once something was, or so much time has passed."""
-        end = time.monotonic() + seconds
-        while True:
-            found = [LINE.fullmatch(line).group(2) for _, line in self.lines if word in line and LINE.fullmatch(line)]
-            if found or time.monotonic() > end:
-                return found
-            time.sleep(0.05)
 
 
 def by_the_clock(when):
@@ -81,13 +36,8 @@ def moment_of(line):
     return told.replace(tzinfo=datetime.timezone.utc).timestamp()
 
 
-@contextlib.contextmanager
-def serving(program, **options):
-    server = Server(program, **options)
-    try:
-        yield server
-    finally:
-        server.end()
+def serving(program, journal_bytes=JOURNAL_BYTES, **options):
+    return scenario.serving(program, journal_bytes, **options)
 
 
 def refused(port, request):
@@ -120,7 +70,7 @@ def threads(program, checks):
     for count in (1, 3):
         with serving(program, more=["--threads", str(count)]) as server:
             server.told("started")
-            tasks[count] = len(list(pathlib.Path(f"/proc/{server.process.pid}/task").iterdir()))
+            tasks[count] = server.count_of_threads()
     checks.same("three threads are two more than one", tasks[3] - tasks[1], 2)
 
 
@@ -297,70 +247,11 @@ def slow(program, checks):
         checks.same("the server tells it", server.told("outbox"), ["gave up 1 clients whose outbox was full"])
 
 
-def descriptors(program, checks):
-    """few descriptors"""
-    with serving(program, descriptors=FEW) as server:
-        told = server.told("started")
-        allowed = int(re.search(r"(\d+) clients allowed", told[0])[1]) if told else 0
-        checks.check(f"with {FEW} descriptors it allows fewer clients", 0 < allowed < FEW, told)
-        # Who leaves in the midst of its handshake leaves its place.
-        for request in LEAVING * (b"", handshake(server.port)[:40], handshake(server.port)):
-            with socket.create_connection(("127.0.0.1", server.port), timeout=5) as one:
-                one.sendall(request)
-        clients = [Client(server.port).connect() for _ in range(allowed)]
-        try:
-            WebSocket(server.port)
-            checks.check("one more is answered 503", False)
-        except Refused as answer:
-            checks.same("one more is answered 503", answer.status, "503")
-        for client in clients:
-            client.publish("/topic/none", "still served")
-            client.close()
-
-
-def lawful(program, checks):
-    """clients that subscribe with long ids"""
-    with serving(program) as server:
-        # A desk of these areas has room for the names of one of them.
-        taken, closed = [], 0
-        for _ in range(150):
-            client = Client(server.port).connect()
-            try:
-                for place in range(16):
-                    client.send("SUBSCRIBE", [("id", f"{place:04}" + "i" * 6_000), ("destination", "/topic/t"), ("receipt", f"{place}")])
-                    client.receipt(f"{place}")
-                taken.append(client)
-            except Closed as end:
-                closed += end.code == 1001
-                client.close()
-        checks.same("each desk takes one, and the others are closed with 1001", (len(taken), closed), (64, 86))
-        told = server.told("whose names have no room")
-        checks.check("the server tells it", bool(told), server.lines[-3:])
-        checks.check("and the server goes on", server.process.poll() is None, server.lines[-3:])
-        Client(server.port).connect().publish("/queue/q", "still there")
-
-
-def small_journal(program, checks):
-    """a client whose names a small journal has no room for, and that keeps its connection"""
-    with serving(program, journal_bytes=16_777_248) as server:
-        client = Client(server.port).connect()
-        with contextlib.suppress(Closed):
-            for place in range(16):
-                client.send("SUBSCRIBE", [("id", f"{place:04}" + "i" * 496), ("destination", "/topic/t"), ("receipt", f"{place}")])
-                client.receipt(f"{place}")
-        # Its close is waited for for ten seconds.
-        checks.same("that is told at once", server.told("names have no room"), ["gave up 1 clients whose names have no room beside the others'"])
-        client.close()
-
-
 def main():
     program = scenario.words_of(__doc__).parse_args().program
     checks = scenario.Checks()
-    for part in (starts, threads, counts, names, around_the_limit, topics, errors, alone, slow, descriptors, lawful, small_journal):
-        try:
-            part(program, checks)
-        except Exception as error:
-            checks.check(f"{part.__doc__} is tried to the end", False, repr(error))
+    for part in (starts, threads, counts, names, around_the_limit, topics, errors, alone, slow):
+        scenario.try_one(part, program, checks)
     return checks.status()
 
 

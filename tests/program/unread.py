@@ -5,10 +5,11 @@ seen, and how room is made again: docs/RUNNING.md, "No room for messages".
     python3 tests/program/unread.py [PROGRAM]
 """
 
-import subprocess
 import sys
+import time
 
 from lib import scenario
+from lib.commands import run_for_text, shown
 from lib.kept import DEAD
 from lib.stomp_client import Client
 
@@ -30,21 +31,18 @@ def refusal(broker, destination):
     return frame.headers.get("message"), code
 
 
-def told(broker, command):
-    return subprocess.run([broker.program, command, broker.journal], stdout=subprocess.PIPE, check=True, text=True).stdout
-
-
 def held(broker):
     """What `show` says of the journal, once the server is stopped."""
     broker.kill()
-    shown = told(broker, "show")
+    count = shown(broker.program, "show", broker.journal)["held"]
     broker.serve()
-    return int(shown.split("held ")[1])
+    return count
 
 
 def places(broker):
     """What `held` says beside the running server: the totals, and how many messages wait where."""
-    messages, held_bytes, *lines, topics = told(broker, "held").splitlines()
+    _, printed, _ = run_for_text(broker.program, "held", broker.journal)
+    messages, held_bytes, *lines, topics = printed.splitlines()
     assert topics == "0 0 topics", topics
     lots = [line.split(" ", 2) for line in lines]
     totals = int(messages.removeprefix("messages ").removesuffix(" of 4096")), int(held_bytes.removeprefix("bytes ").removesuffix(" of 16777216"))
@@ -166,5 +164,18 @@ def an_abandoned_name(broker, checks):
     checks.same("and a message has room", refusal(broker, "/queue/room"), (None, None))
 
 
+def auto(broker, checks):
+    """an `auto` subscriber is handed all of them at once: its outbox has room for them, also if it reads nothing at first"""
+    for receive_bytes, seconds in ((None, 0), (65_536, 3)):
+        fill(broker, "/queue/many")
+        reader = Client(broker.port, receive_bytes=receive_bytes).connect()
+        reader.send("SUBSCRIBE", [("id", "r"), ("destination", "/queue/many"), ("receipt", "s")])
+        time.sleep(seconds)
+        bodies = [frame.body for frame in reader.receipt("s")]
+        checks.check("all of them come before the receipt, once, in order", bodies == [f"{number}" for number in range(MOST)], len(bodies))
+        reader.disconnect()
+        checks.same("nothing is held then", held(broker), 0)
+
+
 if __name__ == "__main__":
-    sys.exit(scenario.run(__doc__, [many_places, what_workers_refuse, an_unread_queue, an_abandoned_name]))
+    sys.exit(scenario.run(__doc__, [auto, many_places, what_workers_refuse, an_unread_queue, an_abandoned_name]))
