@@ -22,6 +22,7 @@ ghost use Rattle.broker_tables.specs.Answers.{with_outs};
 ghost use Rattle.broker_tables.specs.Handing.{IsTold, LeavesLine, LetsGoIfAuto, MayGet, Serves};
 ghost use Rattle.broker_tables.specs.Places.{HoldsAtKey, StandsSo, with_changed};
 ghost use Rattle.broker_tables.specs.Stocks.{HandsAll, IsStocked};
+ghost use Rattle.broker_tables.specs.Alike.{Knows, KnowsAlike, plain_frame};
 ghost use Rattle.broker_tables.specs.AtOnce.{AreAuto, AreSwift, GoesToEach, Turns, names_bound};
 ghost use Rattle.broker_tables.specs.Sendings.{IsCarriedOut};
 ghost use Rattle.broker_tables.specs.CursorOrder.{cursor_cmp};
@@ -35,7 +36,7 @@ use crate::messages::{find_room, names_of, share};
 use crate::shared_lines::SharedLines;
 use crate::tables::Tables;
 use broker_state::{Held, LAST_DELIVERY, Subscription};
-use command_core::{AckMode, Fault, Out, Sending};
+use command_core::{AckMode, Alike, Fault, HeaderText, Out, Sending};
 use line_core::{Message, MessageNumber, size};
 use std::alloc::{AllocError, Global};
 use std::cmp::Ordering;
@@ -172,17 +173,20 @@ impl Stock {
         number: u64,
         group: usize,
         message: &Message,
+        last: &mut Option<Told>,
         answers: &mut Answers,
     ) -> Result<(), AllocError>
         requires some { is_none (members (is_in group) self.old.order.all) ≡ false }
         requires number { self.old.next_delivery < 2 ^ 63 }
         requires stocked { IsStocked self.old }
-        ensures { OnOk result (Turns number group message.now self.old answers.old self.new answers.new) }
+        requires told { Knows message.now last.old }
+        ensures turns { OnOk result (Turns number group message.now self.old answers.old self.new answers.new) }
+        ensures told { OnOk result (Knows message.now last.new) }
     {
         let delivery = self.next_delivery;
         let place = first_in(&self.order, group);
         let sub = self.order.get(place.key);
-        tell(alloc, number, sub, delivery, message, answers)?;
+        tell_next(alloc, number, sub, delivery, message, last, answers)?;
         self.order.move_last(place.key);
         self.next_delivery = delivery + 1;
         Ok(())
@@ -207,9 +211,10 @@ impl Stock {
         ensures none { OnOk result (NoneReady self.new) }
     {
         let told = for_answers(alloc, message, answers)?;
+        let mut last = None;
         let mut left = count;
         while left > 0 {
-            self.turn(alloc, number, group, &told, answers)?;
+            self.turn(alloc, number, group, &told, &mut last, answers)?;
             left -= 1;
         }
         Ok(())
@@ -453,6 +458,78 @@ fn tell(
     }
     let copy = message.clone()?;
     reply(alloc, number, sub, delivery, copy, answers)
+}
+
+// The id of the subscription that a message went to last, and the MESSAGE that those of this id get alike, once there are two in a row.
+#[derive(Drop)]
+pub(crate) struct Told {
+    id: HeaderText,
+    alike: Option<Alike>,
+}
+
+impl Told {
+    /// The MESSAGE of that message for a session whose subscription has this id. It is written only once.
+    fn out(
+        &mut self,
+        alloc: Global,
+        number: u64,
+        session: u64,
+        message: &Message,
+    ) -> Result<Out, AllocError>
+        requires knows { KnowsAlike message.now self.old }
+        ensures out { IfOk result (λ out. out ≡ record { number = number; session = session; frame = plain_frame self.old.id message.now }) }
+        ensures knows { OnOk result (KnowsAlike message.now self.new) }
+    {
+        if let Some(alike) = &self.alike {
+            return Out::alike(number, session, alike);
+        }
+        let alike = alike_of(alloc, &self.id, message)?;
+        let out = Out::alike(number, session, &alike)?;
+        self.alike = Some(alike);
+        Ok(out)
+    }
+}
+
+/// The MESSAGE of that message for all subscriptions of that id that don't acknowledge.
+fn alike_of(alloc: Global, id: &HeaderText, message: &Message) -> Result<Alike, AllocError>
+    ensures { IfOk result (λ alike. alike ≡ plain_frame id.now message.now) }
+{
+    let Message {
+        number: name,
+        sending,
+    } = message.clone()?;
+    Alike::new(alloc, id, name.command, name.place, sending)
+}
+
+/// The same as `tell` for one subscription after another: those of the same id in a row get one MESSAGE alike.
+fn tell_next(
+    alloc: Global,
+    number: u64,
+    sub: &Subscription,
+    delivery: u64,
+    message: &Message,
+    last: &mut Option<Told>,
+    answers: &mut Answers,
+) -> Result<(), AllocError>
+    requires knows { Knows message.now last.old }
+    ensures told { OnOk result (answers.new ≡ with_outs (message_out number sub.now delivery message.now ∷ []) answers.old) }
+    ensures knows { OnOk result (Knows message.now last.new) }
+{
+    if !answers.are_kept() {
+        return Ok(());
+    }
+    if !is_auto(sub) {
+        return tell(alloc, number, sub, delivery, message, answers);
+    }
+    if let Some(told) = last
+        && told.id.as_str() == sub.id.as_str()
+    {
+        let out = told.out(alloc, number, sub.session, message)?;
+        return answers.add(out);
+    }
+    let id = sub.id.clone()?;
+    drop(last.replace(Told { id, alike: None }));
+    tell(alloc, number, sub, delivery, message, answers)
 }
 
 /// The same message, ready to be cloned if the outputs are kept. If memory is refused, it is gone.

@@ -11,11 +11,14 @@ pub returns : goal.returns
 returns c =
     let first = c.first_in-place.ensures in
     record {
-      place = c.first_in-place.result;
-      first = first;
-      order = c.move_last.ensures first.at first.waiter first.there;
-      delivery = refl;
-      shared = refl;
-      held = refl;
-      answers = c.in_ok-tell.ensures ∙ ap (λ (x : Subscription). with_outs (message_out c.args.number x c.args.self.now.next_delivery c.args.message.now ∷ []) c.args.answers.now) (c.get-sub.ensures.sub first.at first.waiter first.there);
+      told = c.in_ok-tell_next.ensures.knows;
+      turns = record {
+        place = c.first_in-place.result;
+        first = first;
+        order = c.move_last.ensures first.at first.waiter first.there;
+        delivery = refl;
+        shared = refl;
+        held = refl;
+        answers = c.in_ok-tell_next.ensures.told ∙ ap (λ (x : Subscription). with_outs (message_out c.args.number x c.args.self.now.next_delivery c.args.message.now ∷ []) c.args.answers.now) (c.get-sub.ensures.sub first.at first.waiter first.there);
+      };
     }
