@@ -1,4 +1,4 @@
-//! Messages are sent.
+//! Messages are sent, acknowledged and refused, and what waits is handed out.
 
 ghost use Rattle.std.specs.Prelude.{◌≡◌, ◌+◌, ◌<◌, ◌≤◌, ◌&&◌, ◌^◌, ℕ, IfOk, IsErr, OnOk, count_by, false, fold, map, true, MatchOption, OnErr, ◌-◌, Some, if◌then◌else◌, length, nat_le, ◌∷◌, [], drop, IfSome};
 ghost use Rattle.std.specs.List.{list_any};

@@ -14,7 +14,7 @@ use Rattle.session_core.specs.declared.session.Phase.TheVariants.{Failed}
 use Rattle.session_core.specs.Sessions.{Hearing, Hears, fresh, held_in, is_held}
 use Rattle.clients.specs.Progress.{IsNext, after, asked, over}
 use Rattle.clients.specs.Stages.{given_up, lost}
-use Rattle.clients.specs.Tasks.{Tasks, tasks, all_of}
+use Rattle.clients.specs.Acts.{Tasks, tasks, all_of}
 use Rattle.clients.specs.Weights.{weight_of_all}
 use Rattle.clients.specs.Footprints.{FootprintValue, none_standing, settled}
 use Rattle.clients.specs.declared.footprint.Cut.TheVariants as cuts

@@ -9,7 +9,7 @@ use Rattle.clients.specs.declared.desk.NotAdmitted.{NotAdmitted}
 use Rattle.clients.specs.declared.desk.NotAdmitted.TheVariants.{Memory, Taken}
 use Rattle.clients.specs.declared.desk.Seated.{Seated}
 use Rattle.clients.specs.declared.turned.Turned.{Turned}
-use Rattle.clients.specs.Answers.{Answers}
+use Rattle.clients.specs.TurnAnswers.{Answers}
 use Rattle.clients.specs.Continues.{AreSaid}
 use Rattle.clients.specs.Effects.{Effect, commands_of, told_of}
 use Rattle.clients.specs.Conversations.{Converse, Speaks}
@@ -17,7 +17,7 @@ use Rattle.clients.specs.Halting.{FindsEnd, HasHalted}
 use Rattle.clients.specs.Histories.{Heeds, Idles}
 use Rattle.clients.specs.Places.{ChangedAt, HasLimit, counted_at, is_over, progress_at}
 use Rattle.clients.specs.Clients.{IsNew, Served, Unserved, number_at}
-use Rattle.clients.specs.Spending.{IsEvicted}
+use Rattle.clients.specs.SessionBytes.{IsEvicted}
 
 -- The seat as it was when the desk was made, as it is, what sits at the places, and how many bytes all sessions there may have together in
 -- a snapshot of the broker.

@@ -13,7 +13,7 @@ use Rattle.clients.specs.Connections.{ConnectionValue, connection_of}
 use Rattle.clients.specs.Progress.{IsDone, IsFinished, IsNext, asked}
 use Rattle.clients.specs.Concluding.{follow}
 use Rattle.clients.specs.Stages.{CanTell, Executes, IsEnding}
-use Rattle.clients.specs.Tasks.{all_of}
+use Rattle.clients.specs.Acts.{all_of}
 use Rattle.clients.specs.declared.progress.Progress.{Progress}
 use Rattle.clients.specs.declared.progress.Progress.TheVariants.{New}
 use Rattle.clients.specs.declared.turned.Ended.{Ended}
@@ -24,7 +24,7 @@ use Rattle.clients.specs.Boxes.{BoxEntry}
 use Rattle.clients.specs.Conversations.{StaysOrEnds}
 use Rattle.clients.specs.Effects.{Effect, Does, commands_of, told_of, untold_of}
 use Rattle.clients.specs.Halting.{FindsEnd, HasHalted}
-use Rattle.clients.specs.Spending.{IsCut, KeepsRoom, Spends, waiting_of}
+use Rattle.clients.specs.SessionBytes.{IsCut, KeepsRoom, Spends, waiting_of}
 use Rattle.clients.specs.declared.client.Client.{Client}
 
 -- the session's end, which a connection that is lost asks for

@@ -1,8 +1,10 @@
-pub mod Answers
+pub mod Acts
 pub mod Boxes
 pub mod Chains
+pub mod ClientSteps
 pub mod Clients
 pub mod Concluding
+pub mod ConnectionKeeps
 pub mod Connections
 pub mod Continues
 pub mod Conversations
@@ -14,8 +16,7 @@ pub mod Frames
 pub mod Halting
 pub mod Histories
 pub mod Holdings
-pub mod Keeping
-pub mod Kept
+pub mod KeptLines
 pub mod Lines
 pub mod Outlooks
 pub mod Places
@@ -25,12 +26,11 @@ pub mod Refusals
 pub mod Relays
 pub mod Reports
 pub mod Schedules
-pub mod Spending
+pub mod SessionBytes
 pub mod Stages
-pub mod Steps
 pub mod Supplies
-pub mod Tasks
 pub mod Timers
+pub mod TurnAnswers
 pub mod Turns
 pub mod Watches
 pub mod Weights

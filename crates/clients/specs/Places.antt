@@ -9,11 +9,11 @@ use Rattle.clients.specs.declared.progress.Progress.TheVariants.{Gone}
 use Rattle.clients.specs.declared.desk.Seated.{Seated}
 use Rattle.claim_core.specs.Seats.{SessionSeatValue}
 use Rattle.clients.specs.declared.turned.Turned.{Turned}
-use Rattle.clients.specs.Answers.{Answers}
+use Rattle.clients.specs.TurnAnswers.{Answers}
 use Rattle.clients.specs.Effects.{Effect, commands_of, told_of}
 use Rattle.clients.specs.Halting.{FindsEnd, HasHalted}
 use Rattle.clients.specs.Histories.{Heeds, Idles}
-use Rattle.clients.specs.Spending.{IsEvicted}
+use Rattle.clients.specs.SessionBytes.{IsEvicted}
 use Rattle.clients.specs.declared.progress.Stage.{Stage}
 use Rattle.clients.specs.declared.progress.Stage.TheVariants.{Running, GivingUp, Closing, Parting, Leaving, Over}
 use Rattle.clients.specs.Clients.{Served, Unserved, number_at}

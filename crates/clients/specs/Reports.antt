@@ -9,7 +9,7 @@ use Rattle.clients.specs.declared.client.Client.{Client}
 use Rattle.clients.specs.declared.progress.Stage.TheVariants.{Running, Parting}
 use Rattle.clients.specs.declared.turned.Next.TheVariants as next
 use Rattle.clients.specs.declared.turned.Turned.{Turned}
-use Rattle.clients.specs.Answers.{IsSatisfied}
+use Rattle.clients.specs.TurnAnswers.{IsSatisfied}
 
 -- an output that may leave is kept, since the link refused it
 abbrev pub IsUnsent : Kept → Type 0

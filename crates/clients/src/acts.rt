@@ -6,13 +6,13 @@ ghost use Rattle.std.specs.VecDeque.{deque_capacity};
 ghost use Rattle.session_core.specs.Sessions.{HasForm};
 ghost use Rattle.claim_core.specs.declared.limits.TheConstants.{WINDOW};
 ghost use Rattle.claim_core.specs.Appends.{Refuses};
-ghost use Rattle.clients.specs.Tasks.{tasks, all_of};
+ghost use Rattle.clients.specs.Acts.{tasks, all_of};
 ghost use Rattle.clients.specs.Weights.{weight_of_all, headers_of_all, headers_of_member, headers_of_op, op_weight, weight_of};
 ghost use Rattle.clients.specs.Boxes.{HasBox, IsBoxFor};
 ghost use Rattle.clients.specs.Footprints.{charged, spent, total, settled};
 ghost use Rattle.clients.specs.Progress.{IsNext};
 ghost use Rattle.clients.specs.Continues.{Continues};
-ghost use Rattle.clients.specs.Steps.{SaysNext};
+ghost use Rattle.clients.specs.ClientSteps.{SaysNext};
 
 use crate::footprint::Footprint;
 use crate::progress::{Progress, Role, is_last, last_after};
@@ -49,7 +49,7 @@ impl Model for Acts {
     ghost use Rattle.std.specs.List.{AllByRecursion};
     ghost use Rattle.std.specs.VecDeque.{deque_capacity};
     ghost use Rattle.session_core.specs.Sessions.{HasForm};
-    ghost use Rattle.clients.specs.Tasks.{Tasks, tasks, all_of};
+    ghost use Rattle.clients.specs.Acts.{Tasks, tasks, all_of};
     ghost use Rattle.clients.specs.Weights.{weight_of_all};
 
     ghost Value = { Tasks };

@@ -5,7 +5,7 @@ ghost use Rattle.clients.specs.Progress.{number_in};
 ghost use Rattle.command_core.specs.Entries.{EntryValue};
 ghost use Rattle.outbox_core.specs.Boxes.{SenderValue};
 ghost use Rattle.clients.specs.Boxes.{HasBox};
-ghost use Rattle.clients.specs.Keeping.{KeepsOwn, WaitsNext};
+ghost use Rattle.clients.specs.ConnectionKeeps.{KeepsOwn, WaitsNext};
 
 use crate::acts::{Acts, weigh_op};
 use crate::footprint::Footprint;

@@ -151,7 +151,7 @@ pub struct ClientLine {
 impl Model for ClientLine {
     ghost use Rattle.std.specs.Prelude.{List, ℕ};
     ghost use Rattle.std.specs.VecDeque.{deque_capacity};
-    ghost use Rattle.clients.specs.Kept.{IsKept};
+    ghost use Rattle.clients.specs.KeptLines.{IsKept};
 
     ghost Value = { List ℕ };
 

@@ -118,7 +118,7 @@ pub enum Kept {
 
 impl Kept {
     ghost use Rattle.std.specs.Prelude.{◌≡◌, IfSome, true, false};
-    ghost use Rattle.clients.specs.Answers.{WaitsFor};
+    ghost use Rattle.clients.specs.TurnAnswers.{WaitsFor};
     ghost use Rattle.clients.specs.Reports.{IsUnsent};
 
     // Whether it may leave, but the link refused it.

@@ -1,7 +1,7 @@
 //! What a turn of a connection came to.
 
 ghost use Rattle.claim_core.specs.Seats.{SessionSeatValue};
-ghost use Rattle.clients.specs.Answers.{Appended, Grows};
+ghost use Rattle.clients.specs.TurnAnswers.{Appended, Grows};
 
 /// What a turn of a connection came to, and what it waits for.
 #[derive(Clone, Copy)]

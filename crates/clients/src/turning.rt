@@ -4,7 +4,7 @@ ghost use Rattle.std.specs.Prelude.{◌≡◌, ◌≢◌, false, None, true, ℕ
 ghost use Rattle.command_core.specs.Entries.{EntryValue};
 ghost use Rattle.session_core.specs.Sessions.{HasForm};
 ghost use Rattle.session_core.specs.declared.session.Act.TheVariants as acts;
-ghost use Rattle.clients.specs.Answers.{IsPressing};
+ghost use Rattle.clients.specs.TurnAnswers.{IsPressing};
 ghost use Rattle.clients.specs.Boxes.{HasBox};
 ghost use Rattle.clients.specs.Histories.{Taken, Waits, Steady};
 ghost use Rattle.clients.specs.Progress.{IsNext};
@@ -41,11 +41,11 @@ const RELAYED_BYTES: usize = 131_072;
 impl<B: Bell> Client<B> {
     ghost use Rattle.std.specs.Prelude.{◌≢◌, None, true, ℕ, ◌∷◌, ◌⊎◌, [], Some, OnOk, OnErr, ◌≤◌};
     ghost use Rattle.outbox_core.specs.Boxes.{TakerValue};
-    ghost use Rattle.clients.specs.Answers.{Answers, AwaitsBy, Heard, IsRest, IsSatisfied, Appended, IsQuiet, IsSeen, Leaves};
+    ghost use Rattle.clients.specs.TurnAnswers.{Answers, AwaitsBy, Heard, IsRest, IsSatisfied, Appended, IsQuiet, IsSeen, Leaves};
     ghost use Rattle.clients.specs.declared.turned.Outcome.{Outcome};
     ghost use Rattle.clients.specs.Connections.{Listens, connection_of, Fails, HearsBytes, Takes};
     ghost use Rattle.clients.specs.declared.progress.Stage.TheVariants.{Running};
-    ghost use Rattle.clients.specs.Steps.{GoesOn, CarriesOut, IsUnsaid, MayAppend, TakesStep, TellsIt};
+    ghost use Rattle.clients.specs.ClientSteps.{GoesOn, CarriesOut, IsUnsaid, MayAppend, TakesStep, TellsIt};
     ghost use Rattle.clients.specs.Histories.{Idles, LivesOn};
     ghost use Rattle.clients.specs.Reports.{MayRead, Reports, SendsFew};
     ghost use Rattle.clients.specs.Clients.{Unserved, Stays, StaysBeside, Served};

@@ -1,4 +1,4 @@
-//! Where the bells of outboxes come from.
+//! Where the bells of outboxes come from, and how many clients a worker has.
 
 ghost use Rattle.std.specs.Prelude.{◌≤◌};
 ghost use Rattle.claim_core.specs.declared.limits.TheConstants.{WINDOW};

@@ -3,7 +3,7 @@
 #![tactic(auto)]
 
 ghost use Rattle.std.specs.Prelude.{◌≡◌, ◌<◌, ◌+◌, IsSome, length};
-ghost use Rattle.flush_core.specs.Flushed.{Flushed};
+ghost use Rattle.flush_core.specs.Flusher.{Flushed};
 ghost use Rattle.engine_core.specs.Hubs.{IsWhole};
 
 use engine_core::{

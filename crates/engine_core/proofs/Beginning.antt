@@ -13,7 +13,7 @@ use Rattle.recover_core.specs.declared.faults.OpenFault.{OpenFault}
 use Rattle.recover_core.specs.declared.faults.OpenFault.TheVariants.{Area, Read, CountTooLarge}
 use Rattle.recover_core.specs.Standing.{Stands}
 use Rattle.recover_core.specs.declared.store.Store.{Store}
-use Rattle.flush_core.specs.Flushed.{Flushed, new_flusher}
+use Rattle.flush_core.specs.Flusher.{Flushed, new_flusher}
 use Rattle.engine_core.specs.Hubs.{HubValue, hub, IsFirst, IsWhole, Begins, IsWant}
 
 -- what is so of what an option holds

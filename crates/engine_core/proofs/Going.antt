@@ -16,10 +16,10 @@ use Rattle.recover_core.proofs.Stores.{after-append}
 use Rattle.flush_core.specs.declared.faults.FlushFault.{FlushFault}
 use Rattle.flush_core.specs.declared.faults.FlushFault.TheVariants.{Device, Full, Broken, Memory}
 use Rattle.flush_core.specs.Batches.{between, from_on, state_at, with_more}
-use Rattle.flush_core.specs.Flushed.{Flushed}
-use Rattle.flush_core.specs.Outcomes.{IsTurn, IsTurned, TurnFalls, turned_boxes, turned_outs}
+use Rattle.flush_core.specs.Flusher.{Flushed}
+use Rattle.flush_core.specs.FlusherOutcomes.{IsTurn, IsTurned, TurnFalls, turned_boxes, turned_outs}
 use Rattle.flush_core.specs.Room.{HasNoRoomLeft}
-use Rattle.flush_core.proofs.Taken.{all_at}
+use Rattle.flush_core.proofs.TakenCommands.{all_at}
 use Rattle.engine_core.specs.Going.{HasCome, HasFilled, HasGone, HasGoneFront, HasGoneSomeWay, IsIdle}
 use Rattle.engine_core.specs.Journals.{IsFull}
 use Rattle.engine_core.specs.Placed.{AgreeAll, ArePlaced, commands_of}

@@ -19,7 +19,7 @@ use Rattle.area_core.specs.declared.faults.AreaFault.TheVariants as areas
 use Rattle.recover_core.specs.declared.faults.OpenFault.{OpenFault}
 use Rattle.recover_core.specs.declared.faults.OpenFault.TheVariants as opens
 use Rattle.recover_core.proofs.Stores.{after-append}
-use Rattle.flush_core.specs.Flushed.{AfterSome, Flushed, HoldBetween, IsSame}
+use Rattle.flush_core.specs.Flusher.{AfterSome, Flushed, HoldBetween, IsSame}
 use Rattle.flush_core.specs.Batches.{state_at, state_taken}
 use Rattle.engine_core.specs.Faults.{IsWantOfMemory}
 use Rattle.engine_core.specs.Going.{HasGoneFront, IsIdle}

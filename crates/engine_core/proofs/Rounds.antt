@@ -8,13 +8,13 @@ use Rattle.area_core.specs.Areas.{commands, records}
 use Rattle.broker_core.specs.States.{State}
 use Rattle.claim_core.specs.Seats.{FlushSeatValue, next_ticket}
 use Rattle.flush_core.specs.Batches.{from_on, state_at}
-use Rattle.flush_core.specs.Flushed.{Flushed, IsFlusher, Latest, state_stored}
+use Rattle.flush_core.specs.Flusher.{Flushed, IsFlusher, Latest, state_stored}
 use Rattle.flush_core.specs.Room.{IsTooLong, used_afresh}
-use Rattle.flush_core.proofs.Taken.{at_more, length_from}
+use Rattle.flush_core.proofs.TakenCommands.{at_more, length_from}
 use Rattle.disk_core.specs.declared.disk.Disk.{Ghosts}
 use Rattle.flush_core.specs.Backlogs.{IsLight}
-use Rattle.flush_core.specs.Calls.{MayCompact, StoresNext, is_compacted, is_left, is_too_long}
-use Rattle.flush_core.specs.Outcomes.{Falls, IsOutcome, IsTurned, IsTurn, TurnFalls}
+use Rattle.flush_core.specs.FlusherCalls.{MayCompact, StoresNext, is_compacted, is_left, is_too_long}
+use Rattle.flush_core.specs.FlusherOutcomes.{Falls, IsOutcome, IsTurned, IsTurn, TurnFalls}
 use Rattle.flush_core.specs.declared.faults.FlushFault.{FlushFault}
 use Rattle.flush_core.specs.declared.faults.FlushFault.TheVariants.{Device, Full, Broken, Memory}
 use Rattle.engine_core.specs.Flushes.{Flushes, NoneWaits}

@@ -10,7 +10,7 @@ use Rattle.clients.specs.declared.turned.Ended.TheVariants as ends
 use Rattle.clients.specs.declared.progress.Progress.{Progress}
 use Rattle.clients.specs.declared.progress.Progress.TheVariants.{New}
 use Rattle.clients.specs.declared.progress.Stage.TheVariants.{Over}
-use Rattle.clients.specs.Answers.{Awaits, GoesOnYet}
+use Rattle.clients.specs.TurnAnswers.{Awaits, GoesOnYet}
 use Rattle.clients.specs.declared.turned.Next.{Next}
 use Rattle.clients.specs.declared.turned.Next.TheVariants as nexts
 use Rattle.clients.specs.Continues.{Continues}
@@ -18,10 +18,10 @@ use Rattle.clients.specs.Conversations.{IsConversation, IsPart, Speaks, number_o
 use Rattle.clients.specs.Effects.{commands_of}
 use Rattle.clients.specs.Halting.{HasHalted}
 use Rattle.clients.specs.Clients.{IsNew, IsOwn, Message, number_at}
-use Rattle.clients.specs.Steps.{GoesOn}
+use Rattle.clients.specs.ClientSteps.{GoesOn}
 use Rattle.clients.specs.declared.client.Client.{Client}
 use Rattle.clients.proofs.Lists.{all_weaker, cond_same}
-use Rattle.clients.proofs.Going.{lives_anew}
+use Rattle.clients.proofs.ClientProgress.{lives_anew}
 use Rattle.engine_core.specs.Serving.{IsEndAt, Serves, end_of}
 use Rattle.engine_core.specs.declared.working.Ended.{Ended}
 use Rattle.engine_core.specs.declared.working.Ended.TheVariants.{Stopped}

@@ -10,7 +10,7 @@ use Rattle.broker_core.specs.States.{State}
 use Rattle.claim_core.specs.declared.ring.RingEnd.{RingEnd}
 use Rattle.claim_core.specs.Endings.{Ends}
 use Rattle.claim_core.specs.Seats.{SessionSeatValue, FlushSeatValue, new_session}
-use Rattle.flush_core.specs.Flushed.{Flushed, AfterSome, HoldBetween, IsFlusher}
+use Rattle.flush_core.specs.Flusher.{Flushed, AfterSome, HoldBetween, IsFlusher}
 use Rattle.world_core.specs.Promises.{HoldsOn, IsAfterSome}
 use Rattle.world_core.specs.Promises as promises
 use Rattle.world_core.specs.Schedules.{life_of}

@@ -5,7 +5,7 @@ use Rattle.claim_core.specs.declared.ring.RingEnd.{RingEnd}
 use Rattle.claim_core.specs.Counts.{Pair}
 use Rattle.claim_core.specs.Endings.{Ends}
 use Rattle.claim_core.specs.Seats.{SessionSeatValue, next_ticket}
-use Rattle.flush_core.specs.Flushed.{Flushed}
+use Rattle.flush_core.specs.Flusher.{Flushed}
 use Rattle.world_core.specs.declared.parts.Period.TheVariants.{Running}
 use Rattle.world_core.specs.declared.parts.LastCall.{LastCall}
 use Rattle.world_core.specs.declared.parts.LastCall.TheVariants.{Rest, Broken}

@@ -3,7 +3,7 @@ use Rattle.std.specs.Prelude.{◌≡◌, ◌≤◌, ◌⊎◌, ◌+◌, ◌-◌,
 use Rattle.command_core.specs.Commands.{CommandValue}
 use Rattle.claim_core.specs.Seats.{next_ticket}
 use Rattle.flush_core.specs.Batches.{from_on, state_at}
-use Rattle.flush_core.specs.Flushed.{Flushed}
+use Rattle.flush_core.specs.Flusher.{Flushed}
 use Rattle.flush_core.specs.Room.{IsTooLong, used_afresh}
 
 -- There was no room for the next command. After a snapshot of the state before the last block, that block would be too long for an area if it

@@ -4,7 +4,7 @@ use Rattle.command_core.specs.Commands.{CommandValue}
 use Rattle.broker_core.specs.Steps.{outs_of, state_after}
 use Rattle.claim_core.specs.Seats.{next_ticket, with_mark}
 use Rattle.flush_core.specs.Batches.{state_at, state_taken, with_more}
-use Rattle.flush_core.specs.Flushed.{Flushed}
+use Rattle.flush_core.specs.Flusher.{Flushed}
 use Rattle.flush_core.specs.Room.{HasNoRoomLeft}
 
 -- all that was taken is stored, carried out and published, and all outputs are handed out or may be

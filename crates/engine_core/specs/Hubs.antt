@@ -12,7 +12,7 @@ use Rattle.recover_core.specs.declared.faults.OpenFault.{OpenFault}
 use Rattle.recover_core.specs.declared.faults.OpenFault.TheVariants.{Area}
 use Rattle.recover_core.specs.Opens.{KeepsRestart}
 use Rattle.recover_core.specs.Standing.{Stands}
-use Rattle.flush_core.specs.Flushed.{Flushed}
+use Rattle.flush_core.specs.Flusher.{Flushed}
 
 -- The ring; its first ticket; the sessions' seats and the flusher, as far as they were not handed out.
 pub record HubValue (D : Type 0) : Type 0 where

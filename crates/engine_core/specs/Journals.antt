@@ -10,7 +10,7 @@ use Rattle.broker_core.specs.Steps.{outs_of, state_after}
 use Rattle.claim_core.specs.Seats.{SessionSeatValue}
 use Rattle.flush_core.specs.declared.faults.FlushFault.{FlushFault}
 use Rattle.flush_core.specs.declared.faults.FlushFault.TheVariants.{Full}
-use Rattle.flush_core.specs.Flushed.{Flushed}
+use Rattle.flush_core.specs.Flusher.{Flushed}
 use Rattle.flush_core.specs.Room.{HasNoRoomLeft}
 use Rattle.recover_core.specs.Standing.{Stands}
 use Rattle.engine_core.specs.declared.command_queue.Waiting.{Waiting}

@@ -5,7 +5,7 @@ use Rattle.claim_core.specs.Seats.{SessionSeatValue}
 use Rattle.clients.specs.declared.turned.Ended as connections
 use Rattle.clients.specs.declared.turned.Ended.TheVariants as ends
 use Rattle.clients.specs.declared.progress.Stage.TheVariants.{Over}
-use Rattle.clients.specs.Answers.{GoesOnYet}
+use Rattle.clients.specs.TurnAnswers.{GoesOnYet}
 use Rattle.clients.specs.Conversations.{IsConversation}
 use Rattle.clients.specs.Effects.{Effect, commands_of, told_of}
 use Rattle.clients.specs.Halting.{FindsEnd}

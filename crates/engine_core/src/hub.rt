@@ -5,7 +5,7 @@ ghost use Rattle.std.specs.VecDeque.{deque_capacity};
 ghost use Rattle.std.specs.List.{sum_by};
 ghost use Rattle.claim_core.specs.declared.limits.TheConstants.{SEATS};
 ghost use Rattle.claim_core.specs.Seats.{new_session};
-ghost use Rattle.flush_core.specs.Flushed.{Flushed};
+ghost use Rattle.flush_core.specs.Flusher.{Flushed};
 ghost use Rattle.recover_core.specs.Opened.{HandsBack};
 ghost use Rattle.recover_core.specs.Standing.{StandFor};
 ghost use Rattle.recover_core.specs.Stores.{disk_of, is_broken, opened_by};

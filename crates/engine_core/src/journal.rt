@@ -1,4 +1,4 @@
-//! The journal that the commands of a script are kept in.
+//! The journal that the commands of a script are kept in, and how they get there.
 
 ghost use Rattle.std.specs.Prelude.{◌≡◌, ◌≤◌, ◌^◌, IfErr, IfOk, IfSome, IsNone, IsSome, OnErr, OnOk, false, true, ◌+◌, ℕ, [], ◌∷◌, ◌++◌, Ok};
 ghost use Rattle.broker_core.specs.States.{held_messages};

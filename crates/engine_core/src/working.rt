@@ -1,8 +1,8 @@
 //! What a worker's thread does.
 
 ghost use Rattle.std.specs.Prelude.{◌≡◌};
-ghost use Rattle.clients.specs.Answers.{GoesOnYet};
-ghost use Rattle.clients.specs.Steps.{GoesOn};
+ghost use Rattle.clients.specs.TurnAnswers.{GoesOnYet};
+ghost use Rattle.clients.specs.ClientSteps.{GoesOn};
 ghost use Rattle.engine_core.specs.Serving.{IsEndAt, Serves, end_of};
 
 use crate::flushing::Gate;

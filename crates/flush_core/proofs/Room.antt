@@ -16,14 +16,14 @@ use Rattle.recover_core.proofs.Stores.{leads}
 use Rattle.flush_core.specs.declared.faults.FlushFault.{FlushFault}
 use Rattle.flush_core.specs.declared.faults.FlushFault.TheVariants.{Device, Full, Broken, Memory}
 use Rattle.flush_core.specs.Batches.{IsBatch, block_bytes, from_on, state_at}
-use Rattle.flush_core.specs.Calls.{RefusesToStore, RefusesTurn}
-use Rattle.flush_core.specs.Flushed.{Latest, Flushed, IsFlusher, gathered, state_stored}
+use Rattle.flush_core.specs.FlusherCalls.{RefusesToStore, RefusesTurn}
+use Rattle.flush_core.specs.Flusher.{Latest, Flushed, IsFlusher, gathered, state_stored}
 use Rattle.claim_core.specs.Seats.{FlushSeatValue, next_ticket}
-use Rattle.flush_core.specs.Outcomes.{Gives, GivesAndFalls, IsOutcome, publishing, storing, taking}
+use Rattle.flush_core.specs.FlusherOutcomes.{Gives, GivesAndFalls, IsOutcome, publishing, storing, taking}
 use Rattle.recover_core.specs.Compactions.{HasNoRoomFor}
 use Rattle.flush_core.specs.Room.{Fits, HasNoRoom, HasNoRoomForState, HasNoRoomLeft, IsTooLong, StoresAfresh, used_afresh}
 use Rattle.flush_core.proofs.StoreFaults.{same_fault}
-use Rattle.flush_core.proofs.Taken.{at_more}
+use Rattle.flush_core.proofs.TakenCommands.{at_more}
 use Rattle.area_core.specs.Areas.{commands}
 
 -- the area that is held on the disk is too short

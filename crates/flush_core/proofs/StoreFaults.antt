@@ -5,8 +5,8 @@ use Rattle.area_core.specs.Steps.{IfMemory as IfAreaMemory, IsCaused}
 use Rattle.area_core.specs.declared.faults.AreaFault.{AreaFault}
 use Rattle.area_core.specs.declared.faults.AreaFault.TheVariants as area
 use Rattle.flush_core.specs.Faults.{IfMemory, IsFlushCaused, IsMemory, NeedsNoDisk, of_area}
-use Rattle.flush_core.specs.Flushed.{Flushed}
-use Rattle.flush_core.specs.Outcomes.{Falls, IsOutcome}
+use Rattle.flush_core.specs.Flusher.{Flushed}
+use Rattle.flush_core.specs.FlusherOutcomes.{Falls, IsOutcome}
 use Rattle.flush_core.specs.declared.faults.FlushFault.{FlushFault}
 use Rattle.flush_core.specs.declared.faults.FlushFault.TheVariants.{Device, Full, Broken, Memory}
 

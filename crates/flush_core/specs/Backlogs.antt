@@ -9,7 +9,7 @@ use Rattle.broker_core.specs.Steps.{outs_of}
 use Rattle.claim_core.specs.Seats.{FlushSeatValue}
 use Rattle.recover_core.specs.Compactions.{HasNoRoomFor}
 use Rattle.flush_core.specs.Batches.{between, state_at}
-use Rattle.flush_core.specs.Flushed.{Flushed, state_stored}
+use Rattle.flush_core.specs.Flusher.{Flushed, state_stored}
 
 -- How many steps an operation takes: a subscription is put in its place among all others, and each member of a transaction is carried out.
 abbrev pub steps_of_op : Op → ℕ

@@ -1,9 +1,9 @@
 pub mod Backlogs
 pub mod Batches
-pub mod Calls
 pub mod Faults
-pub mod Fields
-pub mod Flushed
-pub mod Outcomes
+pub mod Flusher
+pub mod FlusherCalls
+pub mod FlusherFields
+pub mod FlusherOutcomes
 pub mod Room
 pub mod Sessions

@@ -9,7 +9,7 @@ use Rattle.snapshot_core.specs.Snapshots.{snapshot_of}
 use Rattle.recover_core.specs.Compactions.{HasNoRoomFor}
 use Rattle.recover_core.specs.Opens.{HoldsOnlySnapshot}
 use Rattle.recover_core.specs.Standing.{Leads}
-use Rattle.flush_core.specs.Flushed.{Latest}
+use Rattle.flush_core.specs.Flusher.{Latest}
 
 -- how many bytes of an area are used if it holds only a snapshot of this state: eight of length, the snapshot, and a gate
 abbrev pub used_afresh : State → ℕ

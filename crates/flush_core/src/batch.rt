@@ -1,4 +1,4 @@
-//! Which of the entries that wait go into one block.
+//! How wide a block is, and which of the entries that wait go into one.
 
 ghost use Rattle.std.specs.Prelude.{◌≡◌, ◌+◌, ◌-◌, ◌<◌, ◌≤◌, List, take, IfOk, length, ℕ};
 ghost use Rattle.disk_core.specs.Calls.{Lasts};
@@ -6,7 +6,7 @@ ghost use Rattle.command_core.specs.Commands.{CommandValue};
 ghost use Rattle.area_core.specs.Areas.{commands, records};
 ghost use Rattle.recover_core.specs.Calls.{StandsThroughout};
 ghost use Rattle.recover_core.specs.Stores.{disk_of, size_of};
-ghost use Rattle.flush_core.specs.Calls.{AddsFirst, RefusesFirst};
+ghost use Rattle.flush_core.specs.FlusherCalls.{AddsFirst, RefusesFirst};
 ghost use Rattle.flush_core.specs.Room.{Fits, IsTooLong};
 
 use area_core::AreaFault;

@@ -1,11 +1,11 @@
-//! Compacting the journal.
+//! When the journal is compacted, and how much a start would have to repeat.
 
 ghost use Rattle.std.specs.Prelude.{◌≡◌, OnErr, OnOk, None, true, false, ◌≤◌, ◌-◌, ◌+◌, length, min, sum_by};
 ghost use Rattle.disk_core.specs.Calls.{Lasts};
 ghost use Rattle.recover_core.specs.Compactions.{HasNoRoomFor};
 ghost use Rattle.area_core.specs.Areas.{commands, records};
-ghost use Rattle.flush_core.specs.Calls.{FlushBreaks, FlushCompacts, RefusesState, SameThroughout, WinsRoom, CompactsIfDue, MayCompact};
-ghost use Rattle.flush_core.specs.Flushed.{HasExecuted, IsFlusher, gathered, state_stored};
+ghost use Rattle.flush_core.specs.FlusherCalls.{FlushBreaks, FlushCompacts, RefusesState, SameThroughout, WinsRoom, CompactsIfDue, MayCompact};
+ghost use Rattle.flush_core.specs.Flusher.{HasExecuted, IsFlusher, gathered, state_stored};
 ghost use Rattle.flush_core.specs.Room.{Fits, IsTooLong};
 ghost use Rattle.flush_core.specs.Backlogs.{IsLight, RepeatsNothing, backlog, most_cost, bulk, cost, most_counted, steps_of, steps_of_op};
 

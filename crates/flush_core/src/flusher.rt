@@ -11,12 +11,12 @@ ghost use Rattle.disk_core.specs.Calls.{Lasts};
 ghost use Rattle.broker_state.specs.States.{is_open};
 ghost use Rattle.broker_core.specs.Steps.{outs};
 ghost use Rattle.outbox_core.specs.Giving.{without, AreGiven};
-ghost use Rattle.flush_core.specs.Flushed.{HoldBetween, IsFlusher, IsSame, new_flusher, gathered, HasExecuted, AreUnder};
+ghost use Rattle.flush_core.specs.Flusher.{HoldBetween, IsFlusher, IsSame, new_flusher, gathered, HasExecuted, AreUnder};
 ghost use Rattle.flush_core.specs.Batches.{IsBatch, block_bytes, state_at};
-ghost use Rattle.flush_core.specs.Calls.{BreaksInMemory, Gathers, GathersNone, TakesMore, EitherThroughout, FlushBreaks, RefusesToStore, RefusesToStoreFirst, StoresFirst, StoresGathered, StoresThroughout, Executes, ExecutesOne, HasRoom, AreReady, ExecutesStored, GivesPortion, RaisesUpTo, HasTurned, RefusesTurn, TurnBreaks, to_store};
+ghost use Rattle.flush_core.specs.FlusherCalls.{BreaksInMemory, Gathers, GathersNone, TakesMore, EitherThroughout, FlushBreaks, RefusesToStore, RefusesToStoreFirst, StoresFirst, StoresGathered, StoresThroughout, Executes, ExecutesOne, HasRoom, AreReady, ExecutesStored, GivesPortion, RaisesUpTo, HasTurned, RefusesTurn, TurnBreaks, to_store};
 ghost use Rattle.flush_core.specs.Room.{IsTooLong};
 ghost use Rattle.flush_core.specs.Faults.{IsMemory};
-ghost use Rattle.flush_core.specs.Outcomes.{executing, Gives, GivesAndFalls, publishing, standing};
+ghost use Rattle.flush_core.specs.FlusherOutcomes.{executing, Gives, GivesAndFalls, publishing, standing};
 ghost use Rattle.flush_core.specs.Sessions.{boxes_after, opened};
 
 use crate::FlushFault;
@@ -82,11 +82,11 @@ pub struct Flusher<D: Disk, B: Bell, W: Width> {
 }
 
 impl<D: Disk, B: Bell, W: Width> Model for Flusher<D, B, W> {
-    ghost use Rattle.flush_core.specs.Flushed.{Flushed};
+    ghost use Rattle.flush_core.specs.Flusher.{Flushed};
 
     ghost Value = { Flushed D };
 
-    ghost use Rattle.flush_core.specs.Fields.{Keeps, flushed_of};
+    ghost use Rattle.flush_core.specs.FlusherFields.{Keeps, flushed_of};
 
     ghost view = { flushed_of };
 
@@ -494,7 +494,7 @@ impl<D: Disk, B: Bell, W: Width> Flusher<D, B, W> {
 
     // Executes what is stored, for a flusher that is not broken. As soon as a portion of the outputs waits, it is published, up to the
     // command that is executed next. The rest waits, and the room that publishing it needs is made.
-    pub(crate) fn execute_in_portions(
+    pub(crate) fn settle_in_portions(
         &mut self,
         alloc: Global,
         ring: &BrokerRing<OutSender<B>>,
@@ -507,7 +507,7 @@ impl<D: Disk, B: Bell, W: Width> Flusher<D, B, W> {
         ensures fault { IsMemory result }
     {
         let (steps, bytes) = (steps_of(&self.done), bytes_of(&self.done));
-        match self.outlet.execute_in_portions(
+        match self.outlet.settle_in_portions(
             alloc,
             ring,
             &mut self.seat,
@@ -637,7 +637,7 @@ impl<D: Disk, B: Bell, W: Width> Flusher<D, B, W> {
         }
         let count = self.take_batch(ring)?;
         self.store_gathered(alloc, ring)?;
-        self.execute_in_portions(alloc, ring)?;
+        self.settle_in_portions(alloc, ring)?;
         self.publish(ring);
         Ok(count)
     }
@@ -784,7 +784,7 @@ impl<B: Bell> Outlet<B> {
     // Keeps the boxes of all that is stored, lets go of those of sessions whose last outputs are given, and executes the commands in turn. As
     // soon as a portion waits, it is published, up to the command that is executed next. In the end it makes the room that publishing the
     // rest needs. It answers how many outputs came of the commands.
-    fn execute_in_portions(
+    fn settle_in_portions(
         &mut self,
         alloc: Global,
         ring: &BrokerRing<OutSender<B>>,

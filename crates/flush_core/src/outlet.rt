@@ -1,9 +1,9 @@
-//! Where outputs go.
+//! Where outputs go, and how many were published.
 
 ghost use Rattle.std.specs.Prelude.{◌≡◌, ◌<◌, ◌≤◌, ◌+◌, ◌++◌, [], OnOk, length, vec_capacity};
 ghost use Rattle.outbox_core.specs.Giving.{AreGiven, unboxed, without};
-ghost use Rattle.flush_core.specs.Calls.{HasRoom};
-ghost use Rattle.flush_core.specs.Flushed.{AreUnder};
+ghost use Rattle.flush_core.specs.FlusherCalls.{HasRoom};
+ghost use Rattle.flush_core.specs.Flusher.{AreUnder};
 
 use claim_core::FlushSeat;
 use command_core::Out;

@@ -2,7 +2,7 @@
 use Rattle.std.specs.Prelude.{◌≡◌, ◌+◌, ℕ, List, All, false, length}
 use Rattle.atomic_table.specs.Seated.{TableId}
 use Rattle.claim_core.specs.Seats.{SessionSeatValue}
-use Rattle.flush_core.specs.Flushed.{Flushed}
+use Rattle.flush_core.specs.Flusher.{Flushed}
 use Rattle.engine_core.specs.Hubs.{HubValue}
 
 -- each of these seats is of that ring

@@ -3,7 +3,7 @@
 ghost use Rattle.std.specs.Prelude.{◌≡◌, ◌≤◌, ◌<◌, ◌+◌, ◌++◌, [], List, IfSome, length, vec_len, vec_capacity};
 ghost use Rattle.command_core.specs.Commands.{CommandValue};
 ghost use Rattle.engine_core.specs.Closings.{shown};
-ghost use Rattle.flush_core.specs.Flushed.{Flushed};
+ghost use Rattle.flush_core.specs.Flusher.{Flushed};
 ghost use Rattle.engine_core.specs.Hubs.{IsWhole};
 ghost use Rattle.world_core.specs.Schedules.{Holds};
 ghost use Rattle.hub_tests.specs.Parties.{AreAt, AreTogether};

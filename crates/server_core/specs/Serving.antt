@@ -9,7 +9,7 @@ use Rattle.claim_core.specs.Seats.{SessionSeatValue, when_stopped}
 use Rattle.claim_core.specs.declared.limits.TheConstants.{SEATS}
 use Rattle.disk_core.specs.declared.file.FileDisk.{FileDisk}
 use Rattle.disk_core.specs.declared.loss.DeviceCause.{DeviceCause}
-use Rattle.flush_core.specs.Flushed.{Flushed}
+use Rattle.flush_core.specs.Flusher.{Flushed}
 use Rattle.engine_core.specs.Hubs.{HubValue, IsWhole}
 use Rattle.command_core.specs.Commands.{CommandValue}
 use Rattle.engine_core.specs.Closings.{Closes}

@@ -1,4 +1,4 @@
-//! A server.
+//! A server: how its threads begin, serve and end.
 
 ghost use Rattle.std.specs.Prelude.{◌≡◌, ◌≢◌, ◌+◌, [], true, length, IfErr, IfOk, OnErr, OnOk, ◌<◌, ◌≤◌, vec_capacity, vec_len, IfSome, ◌↔◌, IsTrue};
 ghost use Rattle.std.specs.Arc.{arc_value};

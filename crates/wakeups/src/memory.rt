@@ -1,4 +1,4 @@
-//! How much memory all clients hold together.
+//! How much memory each client holds, and all together, and who is evicted.
 
 ghost use Rattle.std.specs.Prelude.{◌≡◌, List, length, ◌+◌, ◌-◌, ◌^◌, [], ℕ, max, min, IfSome, IsNone, IsTrue, ◌↔◌, ◌≤◌, ◌<◌, true, ◌%◌, sum};
 ghost use Rattle.claim_core.specs.declared.limits.TheConstants.{SEATS};

@@ -1,4 +1,4 @@
-//! What is read of the bytes of a disk, by the code that reads journals.
+//! What is read of a disk, by the code that reads journals, and the disks of the first worlds.
 
 ghost use Rattle.std.specs.Prelude.{◌≡◌, ◌+◌, ◌*◌, ◌<◌, ◌≤◌, ◌^◌, ◌⊎◌, IfOk, IfSome, MatchOption, None, OnOk, IsTrue, List, false, length, true, ℕ, ◌++◌, [], ◌∷◌, replicate};
 ghost use Rattle.std.specs.List.{AllByRecursion, flat_map};

@@ -1,4 +1,4 @@
-//! How the request of an opening handshake is read (RFC 6455, section 4.2.1).
+//! An opening handshake that never waits (RFC 6455, section 4.2): how the request is read, and what it is answered.
 
 ghost use Rattle.std.specs.Prelude.{◌≡◌, ◌++◌, IfOk, IfSome, OnOk, map, ◌≤◌, ℕ, List, IfErr, false, length, true, All, bytes_eq, codes, ◌==◌, ◌||◌, IsNone, cond, take};
 ghost use Rattle.std.specs.Arc.{arc_value};

@@ -96,8 +96,9 @@ impl Outgoing for MemLink {
             return Err(LinkFault::Gone);
         }
         let written = released.write(alloc).map_err(|_| LinkFault::Memory)?;
-        let bytes =
-            Vec::from_slice(alloc, written.bytes.as_slice()).map_err(|_| LinkFault::Memory)?;
+        let bytes = Vec::from_slice(alloc, written.bytes.as_slice()).map_err(
+            |_| LinkFault::Memory,
+        )?;
         self.keep(bytes)
     }
 

@@ -1,4 +1,4 @@
-//! Why a client gets no WebSocket, and what it is sent.
+//! Why a client gets no WebSocket, and how it is told so.
 
 ghost use Rattle.std.specs.Prelude.{◌≡◌, IfOk, string_bytes, ◌≤◌, ◌==◌, ◌++◌, IfErr, OnOk, length, take, false, true};
 ghost use Rattle.ws_core.specs.Handshakes.{body_of, content_of, further_fields, refusal_bytes, refusal_of, status_line, WritesOn, accepting, response_to};

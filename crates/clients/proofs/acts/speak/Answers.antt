@@ -3,8 +3,8 @@ use Rattle.std.specs.Prelude.{cond}
 use Rattle.clients.specs.Progress.{after, is_last, role_of}
 use Rattle.clients.specs.declared.progress.Progress.{Progress}
 use Rattle.clients.specs.Continues.{Continues}
-use Rattle.clients.proofs.Answering.{wider}
-use Rattle.clients.proofs.Talking.{said, unsaid}
+use Rattle.clients.proofs.TurnAnswers.{wider}
+use Rattle.clients.proofs.SeatConversations.{said, unsaid}
 use Rattle.clients.proofs.acts.speak.Goals as goal
 
 pub returns-in-Ok-clause-continues : goal.returns-in-Ok-clause-continues

@@ -1,4 +1,4 @@
-use Rattle.clients.proofs.Chaining.{lives}
+use Rattle.clients.proofs.ConnectionCalls.{lives}
 use Rattle.clients.proofs.desk.a_connection_at_a_desk_lives_one_life.Goals as goal
 
 pub returns : goal.returns

@@ -1,5 +1,5 @@
 use Rattle.std.proofs.Common.{◌≡◌, ◌∙◌, ◌-◌, Some, None, ap, length, slice_get, subst, sym}
-use Rattle.clients.proofs.Trimming.{no_more, not_yet, one_less, shorter_by, taken_or_none}
+use Rattle.clients.proofs.PlacesTrimmed.{no_more, not_yet, one_less, shorter_by, taken_or_none}
 use Rattle.clients.proofs.desk.drop_free.Goals as goal
 
 pub loop-places-init : goal.loop-places-init

@@ -1,5 +1,5 @@
 use Rattle.std.proofs.Common.{length}
-use Rattle.clients.proofs.Trimming.{Shorter}
+use Rattle.clients.proofs.PlacesTrimmed.{Shorter}
 use Rattle.clients.proofs.desk.drop_free.Given as goal
 
 abbrev pub invariant-loop-places : goal.invariant-loop-places

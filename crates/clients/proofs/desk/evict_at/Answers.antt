@@ -1,6 +1,6 @@
 use Rattle.std.proofs.Common.{refl}
 use Rattle.clients.specs.Connections.{evicted}
-use Rattle.clients.proofs.Standing.{changed_some}
+use Rattle.clients.proofs.DeskPlaces.{changed_some}
 use Rattle.clients.proofs.desk.evict_at.Goals as goal
 
 pub returns-in-Some : goal.returns-in-Some

@@ -1,8 +1,8 @@
 use Rattle.std.proofs.Common.{ap, refl}
 use Rattle.clients.specs.Connections.{connection_of, with_lost}
-use Rattle.clients.proofs.Going.{heeds_quietly}
-use Rattle.clients.proofs.Living.{loses, waits_still}
-use Rattle.clients.proofs.Standing.{changed_some, unserved_some}
+use Rattle.clients.proofs.ClientProgress.{heeds_quietly}
+use Rattle.clients.proofs.ConnectionLife.{loses, waits_still}
+use Rattle.clients.proofs.DeskPlaces.{changed_some, unserved_some}
 use Rattle.clients.proofs.desk.lose_at.Goals as goal
 
 pub returns-in-Some-clause-is : goal.returns-in-Some-clause-is

@@ -1,7 +1,7 @@
 use Rattle.std.proofs.Common.{◌∙◌, refl, rules}
-use Rattle.clients.proofs.Going.{heeds_quietly}
-use Rattle.clients.proofs.Living.{same_stage}
-use Rattle.clients.proofs.Standing.{pinged_some, unserved_some}
+use Rattle.clients.proofs.ClientProgress.{heeds_quietly}
+use Rattle.clients.proofs.ConnectionLife.{same_stage}
+use Rattle.clients.proofs.DeskPlaces.{pinged_some, unserved_some}
 use Rattle.clients.proofs.desk.ping_at.Goals as goal
 
 pub returns-in-Some-clause-pinged : goal.returns-in-Some-clause-pinged

@@ -1,8 +1,8 @@
 use Rattle.std.proofs.Common.{ap, refl, ◌∙◌}
 use Rattle.clients.specs.Connections.{connection_of, with_room}
 use Rattle.clients.specs.Places.{counted_at}
-use Rattle.clients.proofs.Counting.{room_left, served_at}
-use Rattle.clients.proofs.Reporting.{reports_at}
+use Rattle.clients.proofs.FootprintSums.{room_left, served_at}
+use Rattle.clients.proofs.TurnReports.{reports_at}
 use Rattle.clients.proofs.desk.turn_at.Goals as goal
 
 pub returns-in-Some-clause-served : goal.returns-in-Some-clause-served

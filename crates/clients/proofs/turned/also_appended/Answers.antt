@@ -1,6 +1,6 @@
 use Rattle.std.proofs.Common.{subst}
-use Rattle.clients.specs.Answers.{Grows}
-use Rattle.clients.proofs.Answering.{appended_now, appended_then}
+use Rattle.clients.specs.TurnAnswers.{Grows}
+use Rattle.clients.proofs.TurnAnswers.{appended_now, appended_then}
 use Rattle.clients.proofs.turned.also_appended.Goals as goal
 
 pub returns-in-Appended : goal.returns-in-Appended

@@ -1,7 +1,7 @@
 use Rattle.std.proofs.Common.{ap, refl, subst, sym}
 use Rattle.clients.specs.Connections.{standing}
 use Rattle.clients.specs.Histories.{HasTold}
-use Rattle.clients.proofs.Living.{gives_up, same_stage, sends_so}
+use Rattle.clients.proofs.ConnectionLife.{gives_up, same_stage, sends_so}
 use Rattle.clients.proofs.turning.note.Goals as goal
 
 pub returns-in-Sent-clause-rest : goal.returns-in-Sent-clause-rest

@@ -3,7 +3,7 @@ use lib.ListN.{get_elem?}
 use Rattle.atomic_table.proofs.Lists.{at_index, set_again}
 use Rattle.claim_core.specs.Endings.{Agree}
 use Rattle.claim_core.specs.Seats.{FlushSeatValue}
-use Rattle.flush_core.specs.Flushed.{Flushed}
+use Rattle.flush_core.specs.Flusher.{Flushed}
 use Rattle.engine_core.proofs.Placing.{agree_more, below}
 use Rattle.engine_core.proofs.command_queue.compare_all.Goals as goal
 

@@ -1,7 +1,7 @@
 use Rattle.std.proofs.Common.{◌≡◌, ◌≤◌, ◌∙◌, IfOk, arith, length, sym, subst}
 use Rattle.std.proofs.lemmas.Result.{IfOk-weaker, err_from_is_err_and}
 use Rattle.flush_core.specs.declared.faults.FlushFault.TheVariants.{Full}
-use Rattle.flush_core.specs.Flushed.{Flushed}
+use Rattle.flush_core.specs.Flusher.{Flushed}
 use Rattle.flush_core.proofs.StoreFaults.{same_fault}
 use Rattle.engine_core.specs.Faults.{IsOfRing, IsOutOfStep, IsStopCaused}
 use Rattle.engine_core.specs.Going.{HasGoneFront}

@@ -3,7 +3,7 @@ use Rattle.std.proofs.lemmas.Result.{err_from_is_err_and}
 use Rattle.area_core.specs.Areas.{commands}
 use Rattle.flush_core.specs.declared.faults.FlushFault.{FlushFault}
 use Rattle.flush_core.specs.declared.faults.FlushFault.TheVariants.{Full}
-use Rattle.flush_core.specs.Outcomes.{IsTurn}
+use Rattle.flush_core.specs.FlusherOutcomes.{IsTurn}
 use Rattle.engine_core.proofs.Going.{come_none, come_turn, failed_some_way, filled, no_boxes, turned_some_way}
 use Rattle.engine_core.proofs.command_queue.take_all.Goals as goal
 

@@ -1,5 +1,5 @@
 use Rattle.std.proofs.Common.{◌∙◌, ap}
-use Rattle.flush_core.specs.Flushed.{Flushed}
+use Rattle.flush_core.specs.Flusher.{Flushed}
 use Rattle.engine_core.proofs.Rounds.{fell_flush, forgotten, may_flush, more, still_light}
 use Rattle.engine_core.proofs.flushing.compact_if_due.Goals as goal
 

@@ -1,6 +1,6 @@
 use Rattle.std.proofs.Common.{ℕ, ap, false, subst, sym, ◌∙◌, ◌≡◌}
 use Rattle.flush_core.specs.Faults.{IsFlushCaused}
-use Rattle.flush_core.specs.Flushed.{Flushed}
+use Rattle.flush_core.specs.Flusher.{Flushed}
 use Rattle.flush_core.proofs.StoreFaults.{caused_as}
 use Rattle.engine_core.specs.Flushes.{Flushes}
 use Rattle.engine_core.proofs.Rounds.{failed, more, passed}

@@ -1,6 +1,6 @@
 use Rattle.std.proofs.Common.{◌∙◌, ◌≡◌, refl, subst, sym}
 use Rattle.flush_core.specs.Backlogs.{IsLight}
-use Rattle.flush_core.specs.Flushed.{Flushed}
+use Rattle.flush_core.specs.Flusher.{Flushed}
 use Rattle.engine_core.specs.Flushes.{Flushes}
 use Rattle.engine_core.proofs.Rounds.{none, more}
 use Rattle.engine_core.proofs.flushing.flush_loop.Goals.{then-pass+in_ok-flush, else-pass}

@@ -1,6 +1,6 @@
 use Rattle.std.proofs.Common.{◌∙◌, ap, sym, rules}
 use Rattle.disk_core.specs.declared.memory.MemDisk.{MemDisk}
-use Rattle.flush_core.specs.Flushed.{Flushed}
+use Rattle.flush_core.specs.Flusher.{Flushed}
 use Rattle.engine_core.proofs.Resting.{new_rest, new_seats}
 use Rattle.engine_core.proofs.journal.with_ring.Goals as goal
 

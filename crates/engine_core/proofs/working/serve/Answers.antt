@@ -1,4 +1,4 @@
-use Rattle.clients.proofs.Going.{goes_none, goes_then}
+use Rattle.clients.proofs.ClientProgress.{goes_none, goes_then}
 use Rattle.engine_core.proofs.Serving.{goes_yet, over_as}
 use Rattle.engine_core.proofs.working.serve.Goals as goal
 

@@ -1,5 +1,5 @@
-use Rattle.clients.specs.Answers.{GoesOnYet}
-use Rattle.clients.specs.Steps.{GoesOn}
+use Rattle.clients.specs.TurnAnswers.{GoesOnYet}
+use Rattle.clients.specs.ClientSteps.{GoesOn}
 use Rattle.engine_core.proofs.working.serve.Given as goal
 
 abbrev pub invariant-loop-turn : goal.invariant-loop-turn

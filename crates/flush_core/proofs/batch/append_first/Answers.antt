@@ -11,9 +11,9 @@ use Rattle.recover_core.specs.declared.store.Store.{Store}
 use Rattle.recover_core.specs.Calls.{StandsThroughout, StoreAdds, StoreBreaks, StoreRefuses}
 use Rattle.recover_core.specs.Standing.{StandsForEither}
 use Rattle.recover_core.specs.Stores.{disk_of, size_of, used_of}
-use Rattle.flush_core.specs.Calls.{RefusesFirst}
+use Rattle.flush_core.specs.FlusherCalls.{RefusesFirst}
 use Rattle.flush_core.specs.Room.{Fits}
-use Rattle.flush_core.proofs.Calls.{lasts_same}
+use Rattle.flush_core.proofs.DiskCalls.{lasts_same}
 use Rattle.flush_core.proofs.batch.append_first.Goals as goal
 
 module _ {D : Type 0} (disk : Ghosts D) where

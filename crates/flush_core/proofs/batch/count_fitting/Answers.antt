@@ -1,7 +1,7 @@
 use Rattle.std.proofs.Common.{arith, inl, inr, length, take, ◌+◌, ◌-◌, ◌≤◌, ◌<◌}
 use Rattle.std.proofs.lemmas.Bool.{cases_lt}
 use Rattle.area_core.specs.Areas.{commands, records}
-use Rattle.flush_core.proofs.Prefixes.{front_less, more_too_long, one_too_long}
+use Rattle.flush_core.proofs.BatchPrefixes.{front_less, more_too_long, one_too_long}
 use Rattle.flush_core.proofs.batch.count_fitting.Goals as goal
 
 pub returns-clause-one : goal.returns-clause-one

@@ -1,7 +1,7 @@
 use Rattle.std.proofs.Common.{arith, ap, flat_map, length, refl, take, ◌+◌, ℕ}
 use Rattle.area_core.specs.Areas.{commands, records}
 use Rattle.area_core.proofs.Batches.{entry_record, total_more}
-use Rattle.flush_core.proofs.Prefixes.{front_records}
+use Rattle.flush_core.proofs.BatchPrefixes.{front_records}
 use Rattle.flush_core.proofs.batch.count_within.Goals as goal
 
 pub loop-entry-preserved : goal.loop-entry-preserved

@@ -2,7 +2,7 @@ use Rattle.std.proofs.Common.{arith, ap, sum_by, take, ◌≡◌, ◌∙◌}
 use Rattle.std.proofs.lemmas.List.{take_all}
 use Rattle.command_core.specs.Commands.{CommandValue}
 use Rattle.flush_core.specs.Backlogs.{steps_of_op}
-use Rattle.flush_core.proofs.Counting.{entry_steps, steps_more, steps_of_entries}
+use Rattle.flush_core.proofs.BacklogCounts.{entry_steps, steps_more, steps_of_entries}
 use Rattle.flush_core.proofs.compaction.steps_of.Goals as goal
 
 pub loop-entry-preserved : goal.loop-entry-preserved

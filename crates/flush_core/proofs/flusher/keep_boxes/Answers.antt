@@ -2,8 +2,8 @@ use Rattle.std.proofs.Common.{arith, ap, length-append, sym, ◌∙◌, ◌++◌
 use Rattle.command_core.specs.Entries.{EntryValue}
 use Rattle.outbox_core.specs.Boxes.{SenderValue}
 use Rattle.flush_core.specs.Sessions.{opened}
-use Rattle.flush_core.proofs.Sessions.{boxes_entries}
-use Rattle.flush_core.proofs.Taken.{commands_more}
+use Rattle.flush_core.proofs.SessionBoxes.{boxes_entries}
+use Rattle.flush_core.proofs.TakenCommands.{commands_more}
 use Rattle.flush_core.proofs.flusher.keep_boxes.Goals as goal
 
 pub loop-entry-preserved : goal.loop-entry-preserved

@@ -1,7 +1,7 @@
 use Rattle.std.proofs.Common.{◌≡◌, ◌++◌, ◌∙◌, [], List, subst}
 use Rattle.outbox_core.specs.Giving.{AreGiven, unboxed}
 use Rattle.command_core.specs.Outs.{OutValue}
-use Rattle.flush_core.proofs.Keeping.{nothing}
+use Rattle.flush_core.proofs.FlusherKeeps.{nothing}
 use Rattle.flush_core.proofs.outlet.give_waiting.Goals as goal
 
 pub returns-clause-given : goal.returns-clause-given

@@ -1,8 +1,8 @@
 use Rattle.std.proofs.Common.{ap, ◌∙◌}
 use Rattle.command_core.specs.Entries.{EntryValue}
 use Rattle.clients.specs.Connections.{connection_of}
-use Rattle.clients.proofs.Answering.{held_takes, spoken_grows}
-use Rattle.clients.proofs.Going.{refused_so, said_next}
+use Rattle.clients.proofs.TurnAnswers.{held_takes, spoken_grows}
+use Rattle.clients.proofs.ClientProgress.{refused_so, said_next}
 use Rattle.clients.proofs.client.Client.append.Goals as goal
 
 pub returns-in-Some-clause-lives : goal.returns-in-Some-clause-lives

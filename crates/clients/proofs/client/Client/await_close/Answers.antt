@@ -1,8 +1,8 @@
 use Rattle.std.proofs.Common.{ap, refl}
 use Rattle.clients.specs.Connections.{connection_of}
-use Rattle.clients.proofs.Answering.{no_more}
-use Rattle.clients.proofs.Going.{heeds_silence, heeds_unheard}
-use Rattle.clients.proofs.Living.{loses, same_stage, waits_still}
+use Rattle.clients.proofs.TurnAnswers.{no_more}
+use Rattle.clients.proofs.ClientProgress.{heeds_silence, heeds_unheard}
+use Rattle.clients.proofs.ConnectionLife.{loses, same_stage, waits_still}
 use Rattle.clients.proofs.client.Client.await_close.Goals as goal
 
 pub returns-in-Closed-clause-lives : goal.returns-in-Closed-clause-lives

@@ -1,6 +1,6 @@
 use Rattle.std.proofs.Common.{ap, refl}
 use Rattle.clients.specs.Connections.{connection_of}
-use Rattle.clients.proofs.Living.{loses, waits_still}
+use Rattle.clients.proofs.ConnectionLife.{loses, waits_still}
 use Rattle.clients.proofs.client.Client.evict.Goals as goal
 
 pub invariant_of-self-clause-next : goal.invariant_of-self-clause-next

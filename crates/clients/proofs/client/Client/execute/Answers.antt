@@ -1,6 +1,6 @@
 use Rattle.std.proofs.Common.{◌∙◌, arith, refl, rules}
-use Rattle.clients.proofs.Going.{goes_none, goes_then}
-use Rattle.clients.proofs.Reporting.{sends_none, sends_then}
+use Rattle.clients.proofs.ClientProgress.{goes_none, goes_then}
+use Rattle.clients.proofs.TurnReports.{sends_none, sends_then}
 use Rattle.clients.proofs.client.Client.execute.Goals as goal
 
 pub loop-act-init : goal.loop-act-init

@@ -1,7 +1,7 @@
 use Rattle.std.proofs.Common.{◌≡◌}
-use Rattle.clients.specs.Answers.{Appended}
+use Rattle.clients.specs.TurnAnswers.{Appended}
 use Rattle.clients.specs.Reports.{SendsFew}
-use Rattle.clients.specs.Steps.{GoesOn}
+use Rattle.clients.specs.ClientSteps.{GoesOn}
 use Rattle.clients.proofs.client.Client.execute.Given as goal
 
 abbrev pub invariant-loop-act : goal.invariant-loop-act

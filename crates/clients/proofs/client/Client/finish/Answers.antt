@@ -1,7 +1,7 @@
 use Rattle.std.proofs.Common.{ap, refl}
 use Rattle.clients.specs.Connections.{connection_of}
-use Rattle.clients.proofs.Going.{heeds_none, heeds_quietly}
-use Rattle.clients.proofs.Living.{loses, same_stage}
+use Rattle.clients.proofs.ClientProgress.{heeds_none, heeds_quietly}
+use Rattle.clients.proofs.ConnectionLife.{loses, same_stage}
 use Rattle.clients.proofs.client.Client.finish.Goals as goal
 
 pub returns-in-Leaving-clause-lives : goal.returns-in-Leaving-clause-lives

@@ -3,8 +3,8 @@ use Rattle.clients.specs.Connections.{connection_of}
 use Rattle.clients.specs.declared.turned.Outcome.TheVariants.{Rest}
 use Rattle.clients.specs.Halting.{IsFinal}
 use Rattle.clients.specs.Refusals.{WaitsIfFull}
-use Rattle.clients.proofs.Going.{stopped_so}
-use Rattle.clients.proofs.Living.{stops_telling}
+use Rattle.clients.proofs.ClientProgress.{stopped_so}
+use Rattle.clients.proofs.ConnectionLife.{stops_telling}
 use Rattle.clients.proofs.client.Client.handle_refusal.Goals as goal
 
 pub returns-in-Stopped : goal.returns-in-Stopped

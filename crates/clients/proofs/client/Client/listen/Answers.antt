@@ -1,9 +1,9 @@
 use Rattle.std.proofs.Common.{ap, refl, subst, List, ℕ}
 use Rattle.std.specs.Prelude.{OnOk}
 use Rattle.clients.specs.Connections.{HearsBytes, connection_of}
-use Rattle.clients.proofs.Answering.{no_more}
-use Rattle.clients.proofs.Going.{heeds_bytes, heeds_silence}
-use Rattle.clients.proofs.Living.{gives_up, loses, same_stage}
+use Rattle.clients.proofs.TurnAnswers.{no_more}
+use Rattle.clients.proofs.ClientProgress.{heeds_bytes, heeds_silence}
+use Rattle.clients.proofs.ConnectionLife.{gives_up, loses, same_stage}
 use Rattle.clients.proofs.client.Client.listen.Goals as goal
 
 pub returns-in-Bytes-clause-lives : goal.returns-in-Bytes-clause-lives

@@ -1,7 +1,7 @@
 use Rattle.std.proofs.Common.{ap, refl}
 use Rattle.clients.specs.Connections.{connection_of}
-use Rattle.clients.proofs.Going.{heeds_quietly}
-use Rattle.clients.proofs.Living.{loses, parts, same_stage, waits_still}
+use Rattle.clients.proofs.ClientProgress.{heeds_quietly}
+use Rattle.clients.proofs.ConnectionLife.{loses, parts, same_stage, waits_still}
 use Rattle.clients.proofs.client.Client.part.Goals as goal
 
 pub returns-in-Err-Memory-clause-lives : goal.returns-in-Err-Memory-clause-lives

@@ -1,7 +1,7 @@
 use Rattle.std.proofs.Common.{◌∙◌, ap, arith, refl, rules}
 use Rattle.claim_core.specs.Seats.{SessionSeatValue}
-use Rattle.clients.proofs.Going.{goes_none, goes_reading, goes_then}
-use Rattle.clients.proofs.Reporting.{sends_none, sends_then}
+use Rattle.clients.proofs.ClientProgress.{goes_none, goes_reading, goes_then}
+use Rattle.clients.proofs.TurnReports.{sends_none, sends_then}
 use Rattle.clients.proofs.client.Client.pass_on.Goals as goal
 
 pub loop-relay-init : goal.loop-relay-init

@@ -1,6 +1,6 @@
 use Rattle.std.proofs.Common.{◌≡◌, ◌≤◌}
 use Rattle.clients.specs.Reports.{SendsFew}
-use Rattle.clients.specs.Steps.{GoesOn}
+use Rattle.clients.specs.ClientSteps.{GoesOn}
 use Rattle.clients.proofs.client.Client.pass_on.Given as goal
 
 abbrev pub invariant-loop-relay : goal.invariant-loop-relay

@@ -2,11 +2,11 @@ use Rattle.std.proofs.Common.{◌≡◌, ◌∙◌, None, Some, refl, sym, ap}
 use Rattle.clients.specs.Connections.{connection_of}
 use Rattle.clients.specs.Progress.{number_in}
 use Rattle.clients.specs.Relays.{passage}
-use Rattle.clients.proofs.Concluding.{concludes_quietly, concludes_relaying}
-use Rattle.clients.proofs.Going.{heeds_quietly}
-use Rattle.clients.proofs.Living.{loses, same_stage, waits_still}
-use Rattle.clients.proofs.Messages.{keeps_own, quiet, refused_on, relayed_on, same_number, client_relayed, still}
-use Rattle.clients.proofs.Reporting.{relays_one, sends_none}
+use Rattle.clients.proofs.ConversationEnds.{concludes_quietly, concludes_relaying}
+use Rattle.clients.proofs.ClientProgress.{heeds_quietly}
+use Rattle.clients.proofs.ConnectionLife.{loses, same_stage, waits_still}
+use Rattle.clients.proofs.MessagesSent.{keeps_own, quiet, refused_on, relayed_on, same_number, client_relayed, still}
+use Rattle.clients.proofs.TurnReports.{relays_one, sends_none}
 use Rattle.clients.proofs.client.Client.pass_one.Goals as goal
 
 pub returns-then-not-runs-clause-served : goal.returns-then-not-runs-clause-served

@@ -1,4 +1,4 @@
-use Rattle.clients.proofs.Going.{heeds_none}
+use Rattle.clients.proofs.ClientProgress.{heeds_none}
 use Rattle.clients.proofs.client.Client.read.Goals as goal
 
 pub returns-then-not-listens-clause-lives : goal.returns-then-not-listens-clause-lives

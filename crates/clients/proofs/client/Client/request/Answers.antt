@@ -6,8 +6,8 @@ use Rattle.clients.specs.Connections.{connection_of}
 use Rattle.clients.specs.Progress.{IsNext}
 use Rattle.clients.specs.Footprints.{charged, total}
 use Rattle.clients.specs.Histories.{Taken}
-use Rattle.clients.proofs.Going.{again_so, asked_so, charged_so, cut_so, keeps_same, nothing_done, passed_so}
-use Rattle.clients.proofs.Living.{same_stage}
+use Rattle.clients.proofs.ClientProgress.{again_so, asked_so, charged_so, cut_so, keeps_same, nothing_done, passed_so}
+use Rattle.clients.proofs.ConnectionLife.{same_stage}
 use Rattle.clients.proofs.client.Client.request.Goals as goal
 
 pub returns-in_default-clause-lives : goal.returns-in_default-clause-lives

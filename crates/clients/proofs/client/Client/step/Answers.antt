@@ -2,10 +2,10 @@ use Rattle.std.proofs.Common.{◌≡◌, ◌∙◌, Some, ap, refl, rules, subst
 use Rattle.clients.specs.Connections.{Takes, connection_of}
 use Rattle.session_core.specs.declared.session.Act.{Act}
 use Rattle.session_core.specs.declared.session.Act.TheVariants.{Close, Direct, Do}
-use Rattle.clients.proofs.Answering.{quiet_takes}
-use Rattle.clients.proofs.Going.{goes_closing, goes_none, goes_resting, goes_taken, goes_telling, goes_waiting, not_some, still_executes}
-use Rattle.clients.proofs.Living.{next_so}
-use Rattle.clients.proofs.Reporting.{sends_none}
+use Rattle.clients.proofs.TurnAnswers.{quiet_takes}
+use Rattle.clients.proofs.ClientProgress.{goes_closing, goes_none, goes_resting, goes_taken, goes_telling, goes_waiting, not_some, still_executes}
+use Rattle.clients.proofs.ConnectionLife.{next_so}
+use Rattle.clients.proofs.TurnReports.{sends_none}
 use Rattle.clients.proofs.client.Client.step.Goals as goal
 
 pub returns-then-not-executes-clause-goes : goal.returns-then-not-executes-clause-goes

@@ -4,11 +4,11 @@ use Rattle.session_core.specs.declared.session.Act.TheVariants.{Direct}
 use Rattle.clients.specs.Histories.{HasTold, Taken}
 use Rattle.clients.specs.declared.turned.Ended.TheVariants.{Bad}
 use Rattle.clients.specs.declared.progress.Stage.TheVariants.{Closing}
-use Rattle.clients.proofs.Concluding.{concludes_by_error, concludes_quietly}
-use Rattle.clients.proofs.Going.{again_so, keeps_same, tells_later, tells_nobody, tells_told}
-use Rattle.clients.proofs.Living.{can_where, closes_over, loses, none_told_leaving, none_told_lost, same_stage, told_where}
-use Rattle.clients.proofs.Messages.{quiet, still, told_one}
-use Rattle.clients.proofs.Reporting.{sends_none, sends_one}
+use Rattle.clients.proofs.ConversationEnds.{concludes_by_error, concludes_quietly}
+use Rattle.clients.proofs.ClientProgress.{again_so, keeps_same, tells_later, tells_nobody, tells_told}
+use Rattle.clients.proofs.ConnectionLife.{can_where, closes_over, loses, none_told_leaving, none_told_lost, same_stage, told_where}
+use Rattle.clients.proofs.MessagesSent.{quiet, still, told_one}
+use Rattle.clients.proofs.TurnReports.{sends_none, sends_one}
 use Rattle.clients.proofs.client.Client.tell.Goals as goal
 
 pub returns-then-is_cut_off-clause-tells : goal.returns-then-is_cut_off-clause-tells

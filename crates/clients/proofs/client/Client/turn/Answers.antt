@@ -1,7 +1,7 @@
 use Rattle.std.proofs.Common.{◌∙◌, arith, sym}
-use Rattle.clients.proofs.Answering.{appended_still, awaits, heard_still, still_leaves}
-use Rattle.clients.proofs.Going.{goes_quietly, goes_then}
-use Rattle.clients.proofs.Reporting.{room_seen, seen_later, sends_none, sends_then}
+use Rattle.clients.proofs.TurnAnswers.{appended_still, awaits, heard_still, still_leaves}
+use Rattle.clients.proofs.ClientProgress.{goes_quietly, goes_then}
+use Rattle.clients.proofs.TurnReports.{room_seen, seen_later, sends_none, sends_then}
 use Rattle.clients.proofs.client.Client.turn.Goals as goal
 
 pub returns-clause-goes : goal.returns-clause-goes

@@ -2,7 +2,7 @@ use Rattle.std.proofs.Common.{MatchOption, Some, rules, subst}
 use Rattle.slab.specs.Slab.{Updates, with_value}
 use Rattle.clients.specs.Schedules.{ComesDue}
 use Rattle.clients.specs.declared.clients.Scheduled.{Scheduled}
-use Rattle.clients.proofs.SetAside.{updated}
+use Rattle.clients.proofs.ListChanges.{updated}
 use Rattle.clients.proofs.clients.Clients.come_due.Goals as goal
 
 pub returns-clause-due : goal.returns-clause-due

@@ -1,5 +1,5 @@
 use Rattle.std.proofs.Common.{rules}
-use Rattle.clients.proofs.Retrying.{none_yet, one_more}
+use Rattle.clients.proofs.MemoryRetries.{none_yet, one_more}
 use Rattle.clients.proofs.clients.Clients.retry.Goals as goal
 
 pub loop-number-init : goal.loop-number-init

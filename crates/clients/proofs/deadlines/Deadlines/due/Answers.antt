@@ -1,5 +1,5 @@
 use Rattle.std.proofs.Common.{◌<◌, rules}
-use Rattle.clients.proofs.Awaiting.{sooner}
+use Rattle.clients.proofs.WaitsUntil.{sooner}
 use Rattle.clients.proofs.deadlines.Deadlines.due.Goals as goal
 
 pub returns-else-ping-eq0 : goal.returns-else-ping-eq0

@@ -1,4 +1,4 @@
-use Rattle.clients.proofs.Awaiting.{sooner}
+use Rattle.clients.proofs.WaitsUntil.{sooner}
 use Rattle.clients.proofs.deadlines.Deadlines.given_up_in.Goals as goal
 
 pub returns : goal.returns

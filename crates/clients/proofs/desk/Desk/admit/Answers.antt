@@ -3,8 +3,8 @@ use Rattle.clients.specs.Connections.{ConnectionValue}
 use Rattle.clients.specs.Places.{progress_at}
 use Rattle.clients.specs.Desks.{DeskValue, seated_at}
 use Rattle.clients.specs.Clients.{IsNew}
-use Rattle.clients.proofs.Counting.{counted_taken}
-use Rattle.clients.proofs.Standing.{admits, nobody_is, taken_place, within_reach}
+use Rattle.clients.proofs.FootprintSums.{counted_taken}
+use Rattle.clients.proofs.DeskPlaces.{admits, nobody_is, taken_place, within_reach}
 use Rattle.clients.proofs.desk.Desk.admit.Goals as goal
 
 pub index_mut-requires : goal.index_mut-requires

@@ -1,9 +1,9 @@
 use Rattle.std.proofs.Common.{◌≡◌, ap, arith, refl, set, subst, sym, true}
 use Rattle.std.specs.Prelude.{IsSome}
 use Rattle.clients.specs.Places.{is_over_at, progress_at}
-use Rattle.clients.proofs.Counting.{as_it_was, counted_left, counted_same, counted_trimmed, fits_less, its_counted, less_by}
-use Rattle.clients.proofs.Standing.{same_desk, sits_there, unmoved}
-use Rattle.clients.proofs.Trimming.{leaves_so, left_desk}
+use Rattle.clients.proofs.FootprintSums.{as_it_was, counted_left, counted_same, counted_trimmed, fits_less, its_counted, less_by}
+use Rattle.clients.proofs.DeskPlaces.{same_desk, sits_there, unmoved}
+use Rattle.clients.proofs.PlacesTrimmed.{leaves_so, left_desk}
 use Rattle.clients.proofs.desk.Desk.dismiss.Goals as goal
 
 pub invariant_of-self : goal.invariant_of-self

@@ -1,8 +1,8 @@
 use Rattle.std.proofs.Common.{ap, arith, length, refl}
 use Rattle.clients.specs.Connections.{evicted}
 use Rattle.clients.specs.Desks.{DeskValue}
-use Rattle.clients.proofs.Counting.{as_changed, counted_same}
-use Rattle.clients.proofs.Standing.{changed_progress, changes, changes_none, unmoved}
+use Rattle.clients.proofs.FootprintSums.{as_changed, counted_same}
+use Rattle.clients.proofs.DeskPlaces.{changed_progress, changes, changes_none, unmoved}
 use Rattle.clients.proofs.desk.Desk.evict.Goals as goal
 
 pub invariant_of-self : goal.invariant_of-self

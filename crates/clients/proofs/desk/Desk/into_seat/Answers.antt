@@ -1,7 +1,7 @@
 use Rattle.std.proofs.Common.{subst}
 use Rattle.clients.specs.Conversations.{Converse}
 use Rattle.clients.specs.Desks.{DeskValue}
-use Rattle.clients.proofs.Standing.{converses}
+use Rattle.clients.proofs.DeskPlaces.{converses}
 use Rattle.clients.proofs.desk.Desk.into_seat.Goals as goal
 
 pub returns-clause-converse : goal.returns-clause-converse

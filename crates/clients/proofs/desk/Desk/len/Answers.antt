@@ -1,6 +1,6 @@
 use Rattle.std.proofs.Common.{subst}
 use Rattle.clients.specs.Desks.{DeskValue, TalkApart}
-use Rattle.clients.proofs.Standing.{talk_apart}
+use Rattle.clients.proofs.DeskPlaces.{talk_apart}
 use Rattle.clients.proofs.desk.Desk.len.Goals as goal
 
 pub returns-clause-apart : goal.returns-clause-apart

@@ -1,4 +1,4 @@
-use Rattle.clients.proofs.Standing.{looked, looks, talk_apart}
+use Rattle.clients.proofs.DeskPlaces.{looked, looks, talk_apart}
 use Rattle.clients.proofs.desk.Desk.look.Goals as goal
 
 pub invariant_of-self : goal.invariant_of-self

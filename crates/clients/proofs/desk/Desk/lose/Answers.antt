@@ -1,8 +1,8 @@
 use Rattle.std.proofs.Common.{ap, arith, length, refl}
 use Rattle.clients.specs.Connections.{with_lost}
 use Rattle.clients.specs.Desks.{DeskValue}
-use Rattle.clients.proofs.Counting.{as_changed, counted_same}
-use Rattle.clients.proofs.Standing.{changes, changes_none, same_progress, touches, touches_none, unmoved}
+use Rattle.clients.proofs.FootprintSums.{as_changed, counted_same}
+use Rattle.clients.proofs.DeskPlaces.{changes, changes_none, same_progress, touches, touches_none, unmoved}
 use Rattle.clients.proofs.desk.Desk.lose.Goals as goal
 
 pub invariant_of-self : goal.invariant_of-self

@@ -1,6 +1,6 @@
 use Rattle.std.proofs.Common.{refl}
-use Rattle.clients.proofs.Counting.{counted_none}
-use Rattle.clients.proofs.Standing.{fresh}
+use Rattle.clients.proofs.FootprintSums.{counted_none}
+use Rattle.clients.proofs.DeskPlaces.{fresh}
 use Rattle.clients.proofs.desk.Desk.new.Goals as goal
 
 pub invariant_of-result : goal.invariant_of-result

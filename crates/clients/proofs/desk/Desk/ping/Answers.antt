@@ -1,8 +1,8 @@
 use Rattle.std.proofs.Common.{ap, arith, length, refl}
 use Rattle.clients.specs.Desks.{DeskValue}
 use Rattle.clients.specs.Places.{PingedAt}
-use Rattle.clients.proofs.Counting.{as_unserved, counted_same}
-use Rattle.clients.proofs.Standing.{at_place, pinged_none, same_progress, touches, touches_none, unmoved}
+use Rattle.clients.proofs.FootprintSums.{as_unserved, counted_same}
+use Rattle.clients.proofs.DeskPlaces.{at_place, pinged_none, same_progress, touches, touches_none, unmoved}
 use Rattle.clients.proofs.desk.Desk.ping.Goals as goal
 
 pub invariant_of-self : goal.invariant_of-self

@@ -1,9 +1,9 @@
 use Rattle.std.proofs.Common.{arith, ap, subst}
 use Rattle.std.specs.Prelude.{IsSome}
 use Rattle.clients.specs.Desks.{DeskValue, TalkApart}
-use Rattle.clients.proofs.Counting.{counted_set, keeps_within, no_more_at}
+use Rattle.clients.proofs.FootprintSums.{counted_set, keeps_within, no_more_at}
 use Rattle.clients.specs.Reports.{ReportsAt}
-use Rattle.clients.proofs.Standing.{at_place, if_some, others, same_desk, sits_there, stepped, talk_apart, turns}
+use Rattle.clients.proofs.DeskPlaces.{at_place, if_some, others, same_desk, sits_there, stepped, talk_apart, turns}
 use Rattle.clients.proofs.desk.Desk.turn.Goals as goal
 
 pub returns-then-at-len-clause-apart : goal.returns-then-at-len-clause-apart

@@ -1,4 +1,4 @@
-use Rattle.clients.proofs.Keeping.{first_is_client}
+use Rattle.clients.proofs.LineKeeps.{first_is_client}
 use Rattle.clients.proofs.lines.ClientLine.first.Goals as goal
 
 pub returns-clause-client : goal.returns-clause-client

@@ -1,6 +1,6 @@
 use Rattle.std.proofs.Common.{◌≡◌, ◌<◌, ℕ, true, length, length-append, arith, sym, ◌∙◌}
 use Rattle.clients.specs.Lines.{may_join}
-use Rattle.clients.proofs.Keeping.{joins, room_left, client_that_may, off_where_may, times_push}
+use Rattle.clients.proofs.LineKeeps.{joins, room_left, client_that_may, off_where_may, times_push}
 use Rattle.clients.proofs.lines.ClientLine.join.Goals as goal
 
 pub push_back_reserved-requires : goal.push_back_reserved-requires

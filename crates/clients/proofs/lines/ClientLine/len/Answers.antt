@@ -1,5 +1,5 @@
 use Rattle.std.proofs.Common.{arith}
-use Rattle.clients.proofs.Keeping.{at_most, is_line}
+use Rattle.clients.proofs.LineKeeps.{at_most, is_line}
 use Rattle.clients.proofs.lines.ClientLine.len.Goals as goal
 
 pub returns-clause-line : goal.returns-clause-line

@@ -1,5 +1,5 @@
 use Rattle.std.proofs.Common.{rules, arith}
-use Rattle.clients.proofs.Keeping.{nobody}
+use Rattle.clients.proofs.LineKeeps.{nobody}
 use Rattle.clients.proofs.lines.ClientLine.new.Goals as goal
 
 pub invariant_of-result : goal.invariant_of-result

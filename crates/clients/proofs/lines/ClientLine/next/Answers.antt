@@ -1,5 +1,5 @@
 use Rattle.std.proofs.Common.{arith}
-use Rattle.clients.proofs.Keeping.{leaves, first_stands}
+use Rattle.clients.proofs.LineKeeps.{leaves, first_stands}
 use Rattle.clients.proofs.lines.ClientLine.next.Goals as goal
 
 pub index_mut-requires : goal.index_mut-requires

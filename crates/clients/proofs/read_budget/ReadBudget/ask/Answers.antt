@@ -1,6 +1,6 @@
 use Rattle.std.proofs.Common.{ap, rules, subst}
 use Rattle.std.specs.Io.KnownBytes.{ReadConsumes}
-use Rattle.clients.proofs.Portions.{reads}
+use Rattle.clients.proofs.ReadPortions.{reads}
 use Rattle.clients.proofs.read_budget.ReadBudget.ask.Goals as goal
 
 pub returns-in-Ok-clause-bytes : goal.returns-in-Ok-clause-bytes

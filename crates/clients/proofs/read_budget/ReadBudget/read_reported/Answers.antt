@@ -1,5 +1,5 @@
 use Rattle.std.proofs.Common.{ap}
-use Rattle.clients.proofs.Portions.{gives}
+use Rattle.clients.proofs.ReadPortions.{gives}
 use Rattle.clients.proofs.read_budget.ReadBudget.read_reported.Goals as goal
 
 pub returns-else-is_empty-2-clause-bytes : goal.returns-else-is_empty-2-clause-bytes

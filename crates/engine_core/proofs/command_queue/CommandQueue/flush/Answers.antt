@@ -4,7 +4,7 @@ use Rattle.std.specs.List.{flat_map}
 use Rattle.disk_core.specs.Memory.{Memory}
 use Rattle.broker_core.specs.States.{State}
 use Rattle.broker_core.specs.Steps.{outs_of}
-use Rattle.flush_core.proofs.Taken.{count_after}
+use Rattle.flush_core.proofs.TakenCommands.{count_after}
 use Rattle.engine_core.specs.Journals.{JournalValue}
 use Rattle.engine_core.specs.Placed.{commands_of}
 use Rattle.engine_core.proofs.Placing.{commands_length}

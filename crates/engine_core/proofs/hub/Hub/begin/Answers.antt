@@ -1,5 +1,5 @@
 use Rattle.std.proofs.Common.{sym, ap, ◌∙◌}
-use Rattle.flush_core.specs.Flushed.{Flushed}
+use Rattle.flush_core.specs.Flusher.{Flushed}
 use Rattle.engine_core.proofs.Beginning.{some_is, some_of, first, whole}
 use Rattle.engine_core.proofs.hub.Hub.begin.Goals as goal
 

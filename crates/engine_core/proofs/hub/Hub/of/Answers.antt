@@ -1,6 +1,6 @@
 use Rattle.std.proofs.Common.{◌≡◌, arith, sym, subst, List}
 use Rattle.claim_core.specs.Seats.{SessionSeatValue}
-use Rattle.flush_core.specs.Flushed.{Flushed}
+use Rattle.flush_core.specs.Flusher.{Flushed}
 use Rattle.engine_core.specs.Hubs.{AreNew, IsFirst}
 use Rattle.engine_core.proofs.hub.Hub.of.Goals as goal
 

@@ -20,14 +20,14 @@ use Rattle.outbox_core.specs.Boxes.{SenderValue}
 use Rattle.recover_core.specs.Standing.{StandFor, StandsForEither}
 use Rattle.flush_core.specs.Batches.{IsBatch, from_on, state_at, block_bytes}
 use Rattle.recover_core.specs.Stores.{disk_of, size_of, used_of}
-use Rattle.flush_core.specs.Fields.{flushed_of}
-use Rattle.flush_core.specs.Flushed.{Flushed, gathered}
-use Rattle.flush_core.specs.Outcomes.{IsOutcome, storing}
+use Rattle.flush_core.specs.FlusherFields.{flushed_of}
+use Rattle.flush_core.specs.Flusher.{Flushed, gathered}
+use Rattle.flush_core.specs.FlusherOutcomes.{IsOutcome, storing}
 use Rattle.flush_core.specs.Room.{Fits, HasNoRoom, IsTooLong}
 use Rattle.flush_core.proofs.Room.{lacks_room}
-use Rattle.flush_core.proofs.Keeping.{hold_either, held_stored, store_fails, stored_brought, stores}
-use Rattle.flush_core.proofs.Prefixes.{rest_is_batch}
-use Rattle.flush_core.proofs.Taken.{at_front, length_commands, length_from}
+use Rattle.flush_core.proofs.FlusherKeeps.{hold_either, held_stored, store_fails, stored_brought, stores}
+use Rattle.flush_core.proofs.BatchPrefixes.{rest_is_batch}
+use Rattle.flush_core.proofs.TakenCommands.{at_front, length_commands, length_from}
 use Rattle.flush_core.proofs.flusher.Flusher.append.Goals as goal
 
 pub invariant_of-self : goal.invariant_of-self

@@ -1,7 +1,7 @@
 use Rattle.std.proofs.Common.{subst, sym}
 use Rattle.outbox_core.specs.Giving.{Kept}
-use Rattle.flush_core.specs.Fields.{flushed_of}
-use Rattle.flush_core.specs.Flushed.{IsFlusher}
+use Rattle.flush_core.specs.FlusherFields.{flushed_of}
+use Rattle.flush_core.specs.Flusher.{IsFlusher}
 use Rattle.flush_core.proofs.flusher.Flusher.awaits_readers.Goals as goal
 
 pub invariant_of-self : goal.invariant_of-self

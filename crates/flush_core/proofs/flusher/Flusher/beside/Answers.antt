@@ -1,6 +1,6 @@
 use Rattle.std.proofs.Common.{sym, subst}
 use Rattle.claim_core.specs.Seats.{FlushSeatValue}
-use Rattle.flush_core.specs.Fields.{Keeps}
+use Rattle.flush_core.specs.FlusherFields.{Keeps}
 use Rattle.flush_core.proofs.flusher.Flusher.beside.Goals as goal
 
 pub invariant_of-self : goal.invariant_of-self

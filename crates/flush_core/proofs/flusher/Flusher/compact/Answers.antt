@@ -1,5 +1,5 @@
 use Rattle.std.proofs.Common.{◌≡◌, ◌∙◌, false, refl, sym, true}
-use Rattle.flush_core.proofs.Calls.{lasts_same}
+use Rattle.flush_core.proofs.DiskCalls.{lasts_same}
 use Rattle.flush_core.proofs.flusher.Flusher.compact.Goals as goal
 
 pub compact_journal-requires-clause-done : goal.compact_journal-requires-clause-done

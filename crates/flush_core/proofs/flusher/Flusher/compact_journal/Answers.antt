@@ -14,15 +14,15 @@ use Rattle.recover_core.specs.Stores.{disk_of, size_of, used_of}
 use Rattle.flush_core.specs.declared.faults.FlushFault.{FlushFault}
 use Rattle.flush_core.specs.declared.faults.FlushFault.TheVariants.{Full}
 use Rattle.flush_core.specs.Faults.{IsFlushCaused}
-use Rattle.flush_core.specs.Outcomes.{IsOutcome, compacted}
+use Rattle.flush_core.specs.FlusherOutcomes.{IsOutcome, compacted}
 use Rattle.flush_core.specs.Batches.{IsBatch, state_at, block_bytes}
 use Rattle.area_core.specs.Areas.{commands}
-use Rattle.flush_core.specs.Fields.{flushed_of}
-use Rattle.flush_core.specs.Flushed.{Flushed}
+use Rattle.flush_core.specs.FlusherFields.{flushed_of}
+use Rattle.flush_core.specs.Flusher.{Flushed}
 use Rattle.flush_core.specs.Room.{HasNoRoomForState, used_afresh}
-use Rattle.flush_core.proofs.Compactions.{given_state, leaves_state, stand_then}
-use Rattle.flush_core.proofs.Counting.{counts_none}
-use Rattle.flush_core.proofs.Keeping.{compacts, hold_at, store_fails}
+use Rattle.flush_core.proofs.CompactionLeaves.{given_state, leaves_state, stand_then}
+use Rattle.flush_core.proofs.BacklogCounts.{counts_none}
+use Rattle.flush_core.proofs.FlusherKeeps.{compacts, hold_at, store_fails}
 use Rattle.flush_core.proofs.Room.{lacks_room_for_state}
 use Rattle.flush_core.proofs.StoreFaults.{caused_so, fell_so, only_full, same_fault}
 use Rattle.flush_core.proofs.flusher.Flusher.compact_journal.Goals as goal

@@ -1,7 +1,7 @@
 use Rattle.std.proofs.Common.{◌≡◌, ◌∙◌, false, inl, refl, sym, true}
-use Rattle.flush_core.specs.Calls.{is_left}
-use Rattle.flush_core.proofs.Calls.{lasts_same}
-use Rattle.flush_core.proofs.MayCompact.{moments_same}
+use Rattle.flush_core.specs.FlusherCalls.{is_left}
+use Rattle.flush_core.proofs.DiskCalls.{lasts_same}
+use Rattle.flush_core.proofs.CompactionDue.{moments_same}
 use Rattle.flush_core.proofs.flusher.Flusher.compact_rest.Goals as goal
 
 pub returns-then-is_broken-clause-any_moment : goal.returns-then-is_broken-clause-any_moment

@@ -1,9 +1,9 @@
 use Rattle.std.proofs.Common.{◌∙◌, ap, inr, subst, sym}
 use Rattle.recover_core.specs.Compactions.{HasNoRoomFor}
-use Rattle.flush_core.specs.Calls.{is_too_long}
-use Rattle.flush_core.specs.Flushed.{Flushed, state_stored}
-use Rattle.flush_core.proofs.Calls.{lasts_same}
-use Rattle.flush_core.proofs.MayCompact.{counted_so, may_so, moments_same, none_so}
+use Rattle.flush_core.specs.FlusherCalls.{is_too_long}
+use Rattle.flush_core.specs.Flusher.{Flushed, state_stored}
+use Rattle.flush_core.proofs.DiskCalls.{lasts_same}
+use Rattle.flush_core.proofs.CompactionDue.{counted_so, may_so, moments_same, none_so}
 use Rattle.flush_core.proofs.flusher.Flusher.compact_what_fits.Goals as goal
 
 pub returns-then-has_room_for_state-clause-any_moment : goal.returns-then-has_room_for_state-clause-any_moment

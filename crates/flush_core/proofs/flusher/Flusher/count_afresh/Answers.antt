@@ -1,8 +1,8 @@
 use Rattle.std.proofs.Common.{◌≡◌, arith, subst, sym}
-use Rattle.flush_core.specs.Fields.{flushed_of}
-use Rattle.flush_core.specs.Flushed.{Flushed}
-use Rattle.flush_core.proofs.Counting.{counts_none}
-use Rattle.flush_core.proofs.Keeping.{tells}
+use Rattle.flush_core.specs.FlusherFields.{flushed_of}
+use Rattle.flush_core.specs.Flusher.{Flushed}
+use Rattle.flush_core.proofs.BacklogCounts.{counts_none}
+use Rattle.flush_core.proofs.FlusherKeeps.{tells}
 use Rattle.flush_core.proofs.flusher.Flusher.count_afresh.Goals as goal
 
 pub invariant_of-self : goal.invariant_of-self

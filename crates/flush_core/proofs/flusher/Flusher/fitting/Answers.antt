@@ -5,10 +5,10 @@ use Rattle.command_core.specs.Commands.{CommandValue}
 use Rattle.command_core.specs.Entries.{EntryValue}
 use Rattle.outbox_core.specs.Boxes.{SenderValue}
 use Rattle.flush_core.specs.Batches.{from_on}
-use Rattle.flush_core.specs.Flushed.{Flushed, gathered}
+use Rattle.flush_core.specs.Flusher.{Flushed, gathered}
 use Rattle.flush_core.specs.Room.{IsTooLong}
-use Rattle.flush_core.proofs.Keeping.{nothing}
-use Rattle.flush_core.proofs.Taken.{length_commands}
+use Rattle.flush_core.proofs.FlusherKeeps.{nothing}
+use Rattle.flush_core.proofs.TakenCommands.{length_commands}
 use Rattle.flush_core.proofs.flusher.Flusher.fitting.Goals as goal
 
 pub returns-clause-within : goal.returns-clause-within

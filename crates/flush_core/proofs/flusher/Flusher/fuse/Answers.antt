@@ -2,7 +2,7 @@ use Rattle.std.proofs.Common.{sym, subst, ◌∙◌, ◌≡◌}
 use Rattle.recover_core.specs.Standing.{StandFor}
 use Rattle.flush_core.specs.Batches.{IsBatch, state_at, block_bytes}
 use Rattle.area_core.specs.Areas.{commands}
-use Rattle.flush_core.specs.Flushed.{HoldBetween}
+use Rattle.flush_core.specs.Flusher.{HoldBetween}
 use Rattle.flush_core.proofs.flusher.Flusher.fuse.Goals as goal
 
 pub invariant_of-result : goal.invariant_of-result

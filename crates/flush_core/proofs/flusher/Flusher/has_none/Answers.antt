@@ -6,9 +6,9 @@ use Rattle.command_core.specs.Commands.{CommandValue}
 use Rattle.command_core.specs.Entries.{EntryValue}
 use Rattle.outbox_core.specs.Boxes.{SenderValue}
 use Rattle.flush_core.specs.Batches.{from_on}
-use Rattle.flush_core.specs.Flushed.{Flushed, IsFlusher, gathered}
-use Rattle.flush_core.proofs.Keeping.{nothing}
-use Rattle.flush_core.proofs.Taken.{length_commands}
+use Rattle.flush_core.specs.Flusher.{Flushed, IsFlusher, gathered}
+use Rattle.flush_core.proofs.FlusherKeeps.{nothing}
+use Rattle.flush_core.proofs.TakenCommands.{length_commands}
 use Rattle.flush_core.proofs.flusher.Flusher.has_none.Goals as goal
 
 pub returns-clause-none : goal.returns-clause-none

@@ -3,7 +3,7 @@ use Rattle.std.proofs.lemmas.Bool.{cases_lt, false≢true}
 use Rattle.area_core.specs.Areas.{records}
 use Rattle.recover_core.specs.Stores.{size_of, used_of}
 use Rattle.flush_core.specs.Batches.{from_on}
-use Rattle.flush_core.specs.Flushed.{Flushed, IsFlusher, gathered}
+use Rattle.flush_core.specs.Flusher.{Flushed, IsFlusher, gathered}
 use Rattle.flush_core.specs.Room.{Fits, IsTooLong}
 use Rattle.flush_core.proofs.flusher.Flusher.has_room.Goals as goal
 

@@ -3,8 +3,8 @@ use Rattle.broker_core.specs.States.{BrokerValue, State}
 use Rattle.recover_core.specs.Compactions.{HasNoRoomFor}
 use Rattle.recover_core.specs.Stores.{size_of}
 use Rattle.flush_core.specs.Batches.{state_at}
-use Rattle.flush_core.specs.Flushed.{Flushed, IsFlusher, state_stored}
-use Rattle.flush_core.proofs.Compactions.{given_state}
+use Rattle.flush_core.specs.Flusher.{Flushed, IsFlusher, state_stored}
+use Rattle.flush_core.proofs.CompactionLeaves.{given_state}
 use Rattle.flush_core.proofs.flusher.Flusher.has_room_for_state.Goals as goal
 
 pub fits_state-requires : goal.fits_state-requires

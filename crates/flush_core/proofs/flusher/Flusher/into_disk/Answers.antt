@@ -1,5 +1,5 @@
 use Rattle.std.proofs.Common.{sym, subst}
-use Rattle.flush_core.specs.Flushed.{HoldBetween}
+use Rattle.flush_core.specs.Flusher.{HoldBetween}
 use Rattle.flush_core.proofs.flusher.Flusher.into_disk.Goals as goal
 
 pub returns-clause-held : goal.returns-clause-held

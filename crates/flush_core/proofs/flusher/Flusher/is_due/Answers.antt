@@ -3,9 +3,9 @@ use Rattle.std.proofs.lemmas.Bool.{leb-false, leb-true}
 use Rattle.broker_core.specs.States.{State}
 use Rattle.flush_core.specs.Backlogs.{IsLight, backlog, cost_of, most_cost}
 use Rattle.flush_core.specs.Batches.{between, state_at}
-use Rattle.flush_core.specs.Flushed.{Flushed, state_stored}
-use Rattle.flush_core.proofs.Compactions.{given_state}
-use Rattle.flush_core.proofs.Counting.{counted_due, counted_light}
+use Rattle.flush_core.specs.Flusher.{Flushed, state_stored}
+use Rattle.flush_core.proofs.CompactionLeaves.{given_state}
+use Rattle.flush_core.proofs.BacklogCounts.{counted_due, counted_light}
 use Rattle.flush_core.proofs.flusher.Flusher.is_due.Goals as goal
 
 pub returns : goal.returns

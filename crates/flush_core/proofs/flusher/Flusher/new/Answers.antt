@@ -6,9 +6,9 @@ use Rattle.command_core.specs.Commands.{CommandValue}
 use Rattle.command_core.specs.Outs.{OutValue}
 use Rattle.recover_core.specs.Standing.{StandFor}
 use Rattle.flush_core.specs.Batches.{IsBatch, block_bytes}
-use Rattle.flush_core.proofs.Counting.{counts_none}
-use Rattle.flush_core.proofs.Keeping.{no_batch, starts}
-use Rattle.flush_core.proofs.Taken.{between_none, from_end}
+use Rattle.flush_core.proofs.BacklogCounts.{counts_none}
+use Rattle.flush_core.proofs.FlusherKeeps.{no_batch, starts}
+use Rattle.flush_core.proofs.TakenCommands.{between_none, from_end}
 use Rattle.flush_core.proofs.flusher.Flusher.new.Goals as goal
 
 pub invariant_of-result : goal.invariant_of-result

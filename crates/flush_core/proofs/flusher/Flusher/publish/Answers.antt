@@ -5,11 +5,11 @@ use Rattle.claim_core.specs.Seats.{FlushSeatValue}
 use Rattle.command_core.specs.Outs.{OutValue}
 use Rattle.recover_core.specs.Standing.{StandFor}
 use Rattle.flush_core.specs.Batches.{state_at}
-use Rattle.flush_core.specs.Fields.{flushed_of}
-use Rattle.flush_core.specs.Flushed.{AreUnder, Flushed}
-use Rattle.flush_core.specs.Outcomes.{publishing, standing}
-use Rattle.flush_core.proofs.Counting.{counts_marked}
-use Rattle.flush_core.proofs.Keeping.{held_marked, publishes}
+use Rattle.flush_core.specs.FlusherFields.{flushed_of}
+use Rattle.flush_core.specs.Flusher.{AreUnder, Flushed}
+use Rattle.flush_core.specs.FlusherOutcomes.{publishing, standing}
+use Rattle.flush_core.proofs.BacklogCounts.{counts_marked}
+use Rattle.flush_core.proofs.FlusherKeeps.{held_marked, publishes}
 use Rattle.flush_core.proofs.flusher.Flusher.publish.Goals as goal
 
 pub give-requires-clause-room : goal.give-requires-clause-room

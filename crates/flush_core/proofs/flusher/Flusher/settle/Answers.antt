@@ -12,12 +12,12 @@ use Rattle.flush_core.specs.Backlogs.{most_counted, steps_of}
 use Rattle.flush_core.specs.Batches.{between, state_at}
 use Rattle.flush_core.specs.Faults.{IsMemory}
 use Rattle.flush_core.proofs.StoreFaults.{fell_for_memory, needs_memory}
-use Rattle.flush_core.specs.Fields.{flushed_of}
-use Rattle.flush_core.specs.Flushed.{Flushed}
-use Rattle.flush_core.specs.Outcomes.{executing}
+use Rattle.flush_core.specs.FlusherFields.{flushed_of}
+use Rattle.flush_core.specs.Flusher.{Flushed}
+use Rattle.flush_core.specs.FlusherOutcomes.{executing}
 use Rattle.flush_core.specs.Sessions.{boxes_after, ended_of}
-use Rattle.flush_core.proofs.Counting.{counts_more}
-use Rattle.flush_core.proofs.Keeping.{broker_count, counts, fails, held_executed, executed_entries, executes, executing_is}
+use Rattle.flush_core.proofs.BacklogCounts.{counts_more}
+use Rattle.flush_core.proofs.FlusherKeeps.{broker_count, counts, fails, held_executed, executed_entries, executes, executing_is}
 use Rattle.flush_core.proofs.flusher.Flusher.settle.Goals as goal
 
 pub execute_all-requires-clause-count : goal.execute_all-requires-clause-count

@@ -1,6 +1,6 @@
-use Rattle.flush_core.specs.Fields.{flushed_of}
-use Rattle.flush_core.proofs.Counting.{counts_stopped}
-use Rattle.flush_core.proofs.Halting.{held, stops}
+use Rattle.flush_core.specs.FlusherFields.{flushed_of}
+use Rattle.flush_core.proofs.BacklogCounts.{counts_stopped}
+use Rattle.flush_core.proofs.RingStops.{held, stops}
 use Rattle.flush_core.proofs.flusher.Flusher.stop.Goals as goal
 
 pub invariant_of-self : goal.invariant_of-self

@@ -1,5 +1,5 @@
 use Rattle.std.proofs.Common.{◌≡◌, ◌∙◌, false, refl, sym, true}
-use Rattle.flush_core.proofs.Calls.{lasts_same}
+use Rattle.flush_core.proofs.DiskCalls.{lasts_same}
 use Rattle.flush_core.proofs.flusher.Flusher.store.Goals as goal
 
 pub store_gathered-requires-clause-done : goal.store_gathered-requires-clause-done

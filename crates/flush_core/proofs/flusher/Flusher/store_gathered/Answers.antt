@@ -4,10 +4,10 @@ use Rattle.disk_core.proofs.Runs.{joined, weaker}
 use Rattle.recover_core.specs.Standing.{Stands}
 use Rattle.flush_core.specs.declared.faults.FlushFault.{FlushFault}
 use Rattle.flush_core.specs.Batches.{state_at}
-use Rattle.flush_core.specs.Calls.{FlushBreaks, RefusesToStore, StoresFirst, StoresGathered}
-use Rattle.flush_core.proofs.Calls.{lasts_more, lasts_same}
-use Rattle.flush_core.proofs.RoomWon.{breaks_so, refuses_so, still_executed, still_gathered, still_ring, still_whole, stores_so, storing_so, unwon}
-use Rattle.flush_core.proofs.Turns.{next_none, unstored}
+use Rattle.flush_core.specs.FlusherCalls.{FlushBreaks, RefusesToStore, StoresFirst, StoresGathered}
+use Rattle.flush_core.proofs.DiskCalls.{lasts_more, lasts_same}
+use Rattle.flush_core.proofs.BatchFitsThen.{breaks_so, refuses_so, still_executed, still_gathered, still_ring, still_whole, stores_so, storing_so, unwon}
+use Rattle.flush_core.proofs.FlusherTurns.{next_none, unstored}
 use Rattle.flush_core.proofs.flusher.Flusher.store_gathered.Goals as goal
 
 pub win_room-requires-clause-ring : goal.win_room-requires-clause-ring

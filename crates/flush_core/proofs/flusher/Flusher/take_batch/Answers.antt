@@ -5,13 +5,13 @@ use Rattle.command_core.specs.Entries.{EntryValue}
 use Rattle.outbox_core.specs.Boxes.{SenderValue}
 use Rattle.claim_core.specs.Seats.{FlushSeatValue, when_stopped}
 use Rattle.flush_core.specs.Batches.{IsBatch, from_on, block_bytes, with_more}
-use Rattle.flush_core.specs.Fields.{flushed_of}
-use Rattle.flush_core.specs.Flushed.{Flushed}
-use Rattle.flush_core.specs.Outcomes.{taking}
-use Rattle.flush_core.proofs.Counting.{counts_taken}
-use Rattle.flush_core.proofs.Keeping.{all_brought, fails, held_more, takes}
-use Rattle.flush_core.proofs.Sessions.{commands_both}
-use Rattle.flush_core.proofs.Taken.{from_more}
+use Rattle.flush_core.specs.FlusherFields.{flushed_of}
+use Rattle.flush_core.specs.Flusher.{Flushed}
+use Rattle.flush_core.specs.FlusherOutcomes.{taking}
+use Rattle.flush_core.proofs.BacklogCounts.{counts_taken}
+use Rattle.flush_core.proofs.FlusherKeeps.{all_brought, fails, held_more, takes}
+use Rattle.flush_core.proofs.SessionBoxes.{commands_both}
+use Rattle.flush_core.proofs.TakenCommands.{from_more}
 use Rattle.flush_core.proofs.flusher.Flusher.take_batch.Goals as goal
 
 pub invariant_of-self : goal.invariant_of-self

@@ -1,8 +1,8 @@
 use Rattle.std.proofs.Common.{arith, ap, length, refl, sym, subst, ◌∙◌, ◌≡◌, List, []}
 use Rattle.command_core.specs.Outs.{OutValue}
-use Rattle.flush_core.specs.Fields.{flushed_of}
-use Rattle.flush_core.specs.Flushed.{IsFlusher}
-use Rattle.flush_core.proofs.Keeping.{hands_out, held_marked}
+use Rattle.flush_core.specs.FlusherFields.{flushed_of}
+use Rattle.flush_core.specs.Flusher.{IsFlusher}
+use Rattle.flush_core.proofs.FlusherKeeps.{hands_out, held_marked}
 use Rattle.flush_core.proofs.flusher.Flusher.take_left.Goals as goal
 
 pub invariant_of-self : goal.invariant_of-self

@@ -1,5 +1,5 @@
-use Rattle.flush_core.specs.Fields.{flushed_of}
-use Rattle.flush_core.proofs.Keeping.{tells}
+use Rattle.flush_core.specs.FlusherFields.{flushed_of}
+use Rattle.flush_core.proofs.FlusherKeeps.{tells}
 use Rattle.flush_core.proofs.flusher.Flusher.take_won.Goals as goal
 
 pub invariant_of-self : goal.invariant_of-self

@@ -1,7 +1,7 @@
 use Rattle.std.proofs.Common.{inl, refl}
-use Rattle.flush_core.specs.Calls.{FlushBreaks}
-use Rattle.flush_core.proofs.Calls.{lasts_same}
-use Rattle.flush_core.proofs.RoomWon.{calm_so, on_err, stays_so, was_compacted}
+use Rattle.flush_core.specs.FlusherCalls.{FlushBreaks}
+use Rattle.flush_core.proofs.DiskCalls.{lasts_same}
+use Rattle.flush_core.proofs.BatchFitsThen.{calm_so, on_err, stays_so, was_compacted}
 use Rattle.flush_core.proofs.flusher.Flusher.win_room.Goals as goal
 
 pub returns-then-has_room-clause-any_moment : goal.returns-then-has_room-clause-any_moment

@@ -9,8 +9,8 @@ use Rattle.command_core.specs.Commands.{CommandValue}
 use Rattle.command_core.specs.Outs.{OutValue}
 use Rattle.broker_core.specs.Steps.{outs, outs_of, state_after, step}
 use Rattle.flush_core.specs.Sessions.{boxes_after, ended_by, ended_of}
-use Rattle.flush_core.proofs.Sessions.{ended_commands}
-use Rattle.flush_core.proofs.Taken.{count_after, length_commands, outs_commands, state_commands}
+use Rattle.flush_core.proofs.SessionBoxes.{ended_commands}
+use Rattle.flush_core.proofs.TakenCommands.{count_after, length_commands, outs_commands, state_commands}
 use Rattle.flush_core.proofs.outlet.Outlet.execute_all.Goals as goal
 
 pub loop-command-init : goal.loop-command-init

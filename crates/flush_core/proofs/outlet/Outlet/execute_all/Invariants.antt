@@ -1,5 +1,5 @@
 use Rattle.std.proofs.Common.{◌≡◌, length}
-use Rattle.flush_core.specs.Calls.{Executes}
+use Rattle.flush_core.specs.FlusherCalls.{Executes}
 use Rattle.flush_core.specs.Sessions.{boxes_after}
 use Rattle.flush_core.proofs.outlet.Outlet.execute_all.Given as goal
 

@@ -1,7 +1,7 @@
 use Rattle.std.proofs.Common.{subst, ◌∙◌, ◌++◌, List}
 use Rattle.command_core.specs.Outs.{OutValue}
 use Rattle.outbox_core.specs.Giving.{AreGiven, Kept, unboxed}
-use Rattle.flush_core.proofs.Published.{gives_all, gives_none}
+use Rattle.flush_core.proofs.PublishedPortions.{gives_all, gives_none}
 use Rattle.flush_core.proofs.outlet.Outlet.publish_portion.Goals as goal
 
 pub returns-then-since-lt-COMMANDS-clause-gives : goal.returns-then-since-lt-COMMANDS-clause-gives
