@@ -91,7 +91,7 @@ impl Cursors {
     }
 
     /// One more. If memory is refused, nothing changes.
-    fn put(&mut self, cursor: Cursor) -> Result<(), AllocError>
+    pub fn put(&mut self, cursor: Cursor) -> Result<(), AllocError>
         ensures { OnOk result (IsPermutation (cursor ∷ cursors_in self.old) (cursors_in self.new)) }
     {
         self.heap.push(cursor)?;
@@ -99,7 +99,7 @@ impl Cursors {
     }
 
     /// Takes out one with the least ticket; none if there are none.
-    fn take(&mut self) -> Option<Cursor>
+    pub fn take(&mut self) -> Option<Cursor>
         ensures taken { IfSome result (λ cursor. IsPermutation (cursors_in self.old) (cursor ∷ cursors_in self.new)) }
         ensures least { IfSome result (λ cursor. IsLeast cursor self.new) }
         ensures none { IfNone result ((cursors_in self.old ≡ []) × (cursors_in self.new ≡ [])) }
@@ -108,7 +108,7 @@ impl Cursors {
     }
 
     /// Whether none is before that ticket.
-    fn are_past(&self, ticket: u64) -> bool
+    pub fn are_past(&self, ticket: u64) -> bool
         ensures { IsTrue result ↔ AllByRecursion (λ (d : Cursor). ticket ≤ d.from) (cursors_in self.now) }
     {
         match self.heap.peek() {

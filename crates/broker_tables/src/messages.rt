@@ -35,7 +35,7 @@ use crate::cursors::Cursors;
 use crate::due::{Due, mark, mark_names};
 use crate::durable_names::{DurableNames, Names};
 use crate::shared_lines::SharedLines;
-use crate::stock::{Stock, is_auto, reply};
+use crate::stock::{Stock, is_auto, reply, swift_group};
 use crate::tables::{Tables, let_deliveries_go};
 use broker_state::{Held, LAST_DELIVERY, MOST_BYTES, MOST_MESSAGES, NackRule, Subscription};
 use command_core::{AckMode, Dest, DestFault, Fault, Out, Sending};

@@ -50,7 +50,7 @@ fn take_from_queue(queues: &mut BTreeMap<Dest, Line>, destination: &Dest) -> Opt
         ≡ with_line text_cmp destination.now (drop 1 (line_at text_cmp destination.now queues.old.entries)) queues.old.entries }
     ensures weight { LoseFirst queues.old.entries queues.new.entries (line_at text_cmp destination.now queues.old.entries) }
 {
-    keyed_lines::take(queues, destination)
+    take(queues, destination)
 }
 
 impl SharedLines {
@@ -113,7 +113,7 @@ impl SharedLines {
         ensures weight { HandFirst self.old sub.now self.new sub.now (line_for self.old sub.now) }
     {
         if let Some(name) = &sub.durable {
-            let message = keyed_lines::take(&mut self.names, name);
+            let message = take(&mut self.names, name);
             return message.unwrap();
         }
         let message = take_from_queue(&mut self.queues, &sub.destination);
@@ -128,7 +128,7 @@ impl SharedLines {
         ensures weight { OnOk result ((weight : Message → ℕ) → weight_of_shared weight self.new ≡ weight_of_shared weight self.old + weight message) }
     {
         match message.sending.destination().clone() {
-            Ok(queue) => keyed_lines::put_at(alloc, &mut self.queues, queue, message, Side::Back),
+            Ok(queue) => put_at(alloc, &mut self.queues, queue, message, Side::Back),
             Err(refused) => {
                 drop(message);
                 Err(refused)
@@ -146,7 +146,7 @@ impl SharedLines {
         ensures shared { OnOk result (self.new ≡ record self.old { names = with_message name_cmp name.now message self.old.names }) }
         ensures weight { OnOk result ((weight : Message → ℕ) → weight_of_shared weight self.new ≡ weight_of_shared weight self.old + weight message) }
     {
-        keyed_lines::put(alloc, &mut self.names, name, message, Side::Back)
+        put(alloc, &mut self.names, name, message, Side::Back)
     }
 
     /// A subscription has ended: what it has not acknowledged stands in its line again, unless the line was its own. Gives
@@ -209,7 +209,7 @@ impl SharedLines {
         ensures shared { OnOk result (self.new ≡ returned_to self.old (Some name.now) [] deliveries.items) }
         ensures weight { IfOk result (λ gone. KeepsWeight self.old deliveries.items self.new gone.items) }
     {
-        match keyed_lines::put_back(alloc, &mut self.names, name, deliveries) {
+        match put_back(alloc, &mut self.names, name, deliveries) {
             Ok(()) => Ok(Vec::new(alloc)),
             Err(refused) => Err(refused),
         }
@@ -229,7 +229,7 @@ impl SharedLines {
         if !destination.is_queue() {
             return Ok(deliveries);
         }
-        match keyed_lines::put_back(alloc, &mut self.queues, destination, deliveries) {
+        match put_back(alloc, &mut self.queues, destination, deliveries) {
             Ok(()) => Ok(Vec::new(alloc)),
             Err(refused) => Err(refused),
         }
@@ -242,7 +242,7 @@ impl SharedLines {
         ensures shared { self.new ≡ record self.old { names = remove_entry (is_at (name_cmp name.now)) self.old.names } }
         ensures weight { (weight : Message → ℕ) → weight_of_shared weight self.new + sum_by weight result ≡ weight_of_shared weight self.old }
     {
-        keyed_lines::take_line(alloc, &mut self.names, name)
+        take_line(alloc, &mut self.names, name)
     }
 }
 

@@ -29,7 +29,7 @@ ghost use Rattle.broker_tables.specs.CursorOrder.{cursor_cmp};
 ghost use Rattle.broker_tables.specs.declared.cursors.Cursor.{Cursor};
 
 use crate::answers::Answers;
-use crate::cursors::Cursors;
+use crate::cursors::{Cursor, Cursors};
 use crate::due::{Due, Scope, is_idle, next_within, scope_of};
 use crate::durable_names::DurableNames;
 use crate::messages::{find_room, names_of, share};
@@ -146,7 +146,7 @@ impl Stock {
 
     /// Hands out what waits, one delivery after another, until nothing can be handed out. The MESSAGEs come in their order, if
     /// the outputs are kept. If memory is refused, part of it may be done.
-    fn hand_out(
+    pub fn hand_out(
         &mut self,
         alloc: Global,
         number: u64,
@@ -194,7 +194,7 @@ impl Stock {
 
     /// A message of a topic goes to each of the group of those who listen, which has so many. All are in `auto`, and nothing
     /// waits. If memory is refused, part of it may be done.
-    fn hand_to_each(
+    pub fn hand_to_each(
         &mut self,
         alloc: Global,
         number: u64,
@@ -545,7 +545,7 @@ fn for_answers(alloc: Global, message: Message, answers: &Answers) -> Result<Mes
 /// The group of those who listen to the topic of what is sent, and how many they are, if it can go to each of them at once.
 /// None if something is due, if a durable name is bound to the topic, or if one of them has something waiting or
 /// acknowledges. None too if room or numbers are short.
-fn swift_group(
+pub fn swift_group(
     stock: &Stock,
     durables: &DurableNames,
     due: &[Due],
