@@ -3,8 +3,6 @@
 
     python3 tests/attack/soak.py [PROGRAM] [--minutes N] [--seed N]
 
-PROGRAM is the built program; without it, bin/stompd. It takes ten minutes, or N, and needs Python 3 alone.
-
 A life of the broker takes some five seconds. In each life senders send to a queue and to a topic, every fourth time a transaction, with receipts; a
 worker takes from the queue, and a client with a durable name from the topic: they acknowledge most, and refuse every fifth; the second leaves
 without a word now and then, and comes again. Meanwhile there is one attacker of each kind of tests/attack/under_attack.py, and the journal, of two areas of 4 MiB, is

@@ -47,7 +47,7 @@ def memory_of_a_compaction(broker, checks):
 
 
 def main():
-    program = scenario.words_of(__doc__).parse_args().program
+    program = scenario.program_of(__doc__)
     checks = scenario.Checks()
     with scenario.serving(program, JOURNAL_BYTES) as broker:
         scenario.try_one(memory_of_a_compaction, broker, checks)

@@ -4,7 +4,7 @@ are others when they go on. Each then reads again, and answers what the journal 
 
     python3 tests/program/copies_meanwhile.py [PROGRAM]
 
-PROGRAM is the built program; without it, bin/stompd. It takes some ten seconds, and needs strace.
+It takes some ten seconds, and needs strace.
 """
 
 import os
@@ -131,7 +131,7 @@ def reads_again(broker, checks):
 
 
 def main():
-    program = scenario.built_program(scenario.words_of(__doc__).parse_args())
+    program = scenario.program_of(__doc__)
     need_strace()
     checks = scenario.Checks()
     with scenario.serving(program, journal_bytes=JOURNAL_BYTES) as broker:

@@ -6,8 +6,6 @@ which ends. Then each of the ways in which a client may hold something is taken 
 given up.
 
     python3 tests/program/holders.py [PROGRAM]
-
-PROGRAM is the built program; without it, bin/stompd. It takes about a minute, and needs Python 3 alone.
 """
 
 import contextlib
@@ -279,7 +277,7 @@ SCENARIOS = (what_is_taken, what_waited, members_that_ended, messages_that_were_
 
 
 def main():
-    program = scenario.words_of(__doc__).parse_args().program
+    program = scenario.program_of(__doc__)
     scenario.take_descriptors()
     scenario.keep_journals_in_memory()
     checks, start = scenario.Checks(), time.monotonic()

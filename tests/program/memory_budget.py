@@ -7,7 +7,7 @@ message of 128 KiB each.
 
     python3 tests/program/memory_budget.py [PROGRAM]
 
-PROGRAM is the built program; without it, bin/stompd. It takes a minute or less, and needs strace and Python 3 alone.
+It takes a minute or less, and needs strace and Python 3 alone.
 
 - The limit is the system's, on data (RLIMIT_DATA): the budget, 256 KiB for each client, and 128 MiB. A client takes up to 128 KiB that the budget does not
   count: the places of its outbox (111 KB), and what its socket is read by. The rest is for what is being handed out, for what was given up and is not free
@@ -262,7 +262,7 @@ def longest_messages(broker, checks):
 
 
 def main():
-    program = scenario.words_of(__doc__).parse_args().program
+    program = scenario.program_of(__doc__)
     scenario.take_descriptors()
     checks = scenario.Checks()
     start = time.monotonic()

@@ -17,7 +17,7 @@ Needs Linux and Python 3 alone; the gate does not run it.
 - It goes on if nobody reads what is logged any more, serves though standard error was full before, and ends in good order if a signal comes
   to all of its process group. If it is killed, its server ends in good order.
 
-PROGRAM is the built program; without it, the one that bin/stompd leaves in crates/stompd/out. With --few there are fewer moments and pairs, since each
+With --few there are fewer moments and pairs, since each
 first start writes 512 MiB.
 """
 
@@ -36,7 +36,7 @@ import sys
 import tempfile
 import time
 
-from lib.scenario import BUILT, TOP, BriefChecks, built_program, free_port, words_of
+from lib.scenario import TOP, BriefChecks, free_port, words_of
 from lib.stomp_client import Client
 
 SERVE = TOP / "bin" / "serve"
@@ -509,11 +509,11 @@ def try_one(checks, scenario):
 
 
 def main():
-    parser = words_of(__doc__, BUILT)
+    parser = words_of(__doc__)
     parser.add_argument("--few", action="store_true", help="fewer moments and pairs")
     words = parser.parse_args()
     with tempfile.TemporaryDirectory(prefix="stompd-serve-") as folder:
-        checks = Checks(built_program(words), pathlib.Path(folder), words.few)
+        checks = Checks(words.program, pathlib.Path(folder), words.few)
         for scenario in SCENARIOS:
             try_one(checks, scenario)
     return checks.status()

@@ -1,10 +1,8 @@
 #!/usr/bin/env python3
 """Runs the built program on good and bad words, files and ports, and compares its status and what it writes to standard
-output and standard error with what docs/CLI.md says. Needs Python 3 alone; the gate does not run it.
+output and standard error with what docs/CLI.md says.
 
     python3 tests/program/statuses.py [PROGRAM]
-
-PROGRAM is the built program; without it, the one that bin/stompd leaves in crates/stompd/out.
 """
 
 import errno
@@ -22,7 +20,7 @@ import tempfile
 import time
 
 from lib.old_journal import area, journal, open_operation, record, send_operation, subscribe_operation
-from lib.scenario import BUILT, BriefChecks, built_program, free_port, words_of
+from lib.scenario import BriefChecks, free_port, program_of
 
 # What may be written: just this text, some text that is not ours to say, or nothing. Of None nothing is looked at.
 SOME = object()
@@ -402,7 +400,7 @@ def words(checks, folder):
 
 
 def main():
-    checks = Checks(built_program(words_of(__doc__, BUILT).parse_args()))
+    checks = Checks(program_of(__doc__))
     with tempfile.TemporaryDirectory() as name:
         folder = pathlib.Path(name)
         scripts(checks)
