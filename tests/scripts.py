@@ -1,10 +1,10 @@
 #!/usr/bin/env python3
 """Runs each script of tests/scripts over the built program, all in parallel, and prints a diff for each that does not print what stands beside it. Its last
-line counts those that passed and that failed. It takes seconds, and needs Python 3 alone.
+line counts those that passed and that failed. It takes seconds.
 
     python3 tests/scripts.py [PROGRAM] [--only WORD] [--everywhere] [--print]
 
-PROGRAM is the built program; without it, the one that bin/stompd leaves in crates/stompd/out. With --only it runs those in whose folder or name the word
+With --only it runs those in whose folder or name the word
 stands. It ends with status 0 only if all passed and at least one ran.
 
 A script is FOLDER/NAME.script, a text for `stompd script` (docs/SCRIPTS.md), but that each LF of a frame begins a line: `| TEXT` goes on with the line
@@ -18,7 +18,6 @@ it would be as many lines; so does the one that has a line over the limit, which
 run too with each text cut in two at its first byte, at its second, and so on: some 8,000 runs, a minute or two.
 """
 
-import argparse
 import concurrent.futures
 import dataclasses
 import difflib
@@ -30,7 +29,7 @@ import sys
 import time
 
 from lib.long_scripts import LONG_SCRIPTS
-from lib.scenario import BUILT, built_program, words_of
+from lib.scenario import words_of
 
 FOLDER = pathlib.Path(__file__).resolve().parent / "scripts"
 KINDS = {".script", ".txt", ".out", ".err", ".status"}
@@ -187,7 +186,7 @@ def print_all(cases):
 
 
 def main():
-    parser = words_of(__doc__, BUILT)
+    parser = words_of(__doc__)
     parser.add_argument("--only", default="", metavar="WORD", help="only the scripts in whose folder or name this stands")
     parser.add_argument("--everywhere", action="store_true", help="cut each text in two at each of its bytes too")
     parser.add_argument("--print", action="store_true", help="print the scripts as `stompd script` reads them, and run none")
@@ -195,7 +194,7 @@ def main():
     paths = sorted(FOLDER.glob("*/*.script"))
     if words.print:
         return print_all(it for it in [*map(case_of, paths), *made_cases()] if words.only in it.name)
-    program, start = built_program(words), time.monotonic()
+    program, start = words.program, time.monotonic()
     wrong = [f"== {it}\n" for it in [*strays(), *(f"{path.parent.name}: {fault}" for path in paths for fault in faults_of(path))]]
     cases = [it for it in [*map(case_of, paths), *made_cases()] if words.only in it.name]
     with concurrent.futures.ThreadPoolExecutor(os.cpu_count()) as threads:

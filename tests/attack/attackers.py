@@ -4,7 +4,6 @@ them."""
 import contextlib
 import dataclasses
 import multiprocessing
-import os
 import select
 import socket
 import struct
@@ -237,8 +236,7 @@ def last_words(broker):
     """How the broker has ended, and what it has told; if it still runs, what it has told so far."""
     with contextlib.suppress(subprocess.TimeoutExpired):
         broker.process.wait(2)
-    os.set_blocking(broker.process.stderr.fileno(), False)
-    return broker.process.poll(), (broker.process.stderr.read() or b"").decode()
+    return broker.process.poll(), broker.text()
 
 
 def is_calm(broker, threads, longest=10):

@@ -1,5 +1,5 @@
 #!/usr/bin/env python3
-"""The dearest frames that clients may send, as fast as they can: a neighbour has its receipts all the same, and `ping` is answered. Needs Python 3 alone.
+"""The dearest frames that clients may send, as fast as they can: a neighbour has its receipts all the same, and `ping` is answered.
 
     python3 tests/attack/dear_frames.py [PROGRAM] [--seconds N] [--few]
 

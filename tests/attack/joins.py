@@ -1,5 +1,5 @@
 #!/usr/bin/env python3
-"""Who joins a topic and leaves it again keeps nobody from sending there. Needs Python 3 alone.
+"""Who joins a topic and leaves it again keeps nobody from sending there.
 
     python3 tests/attack/joins.py [PROGRAM] [--joins N] [--few]
 

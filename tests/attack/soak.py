@@ -3,8 +3,6 @@
 
     python3 tests/attack/soak.py [PROGRAM] [--minutes N] [--seed N]
 
-PROGRAM is the built program; without it, bin/stompd. It takes ten minutes, or N, and needs Python 3 alone.
-
 A life of the broker takes some five seconds. In each life senders send to a queue and to a topic, every fourth time a transaction, with receipts; a
 worker takes from the queue, and a client with a durable name from the topic: they acknowledge most, and refuse every fifth; the second leaves
 without a word now and then, and comes again. Meanwhile there is one attacker of each kind of tests/attack/under_attack.py, and the journal, of two areas of 4 MiB, is
@@ -118,25 +116,13 @@ class Reader(Worker):
         self.had[body] = 1
 
 
-class Broker(scenario.Broker):
-    """One that counts the compactions of which it is told, up to what a pipe holds."""
-
-    compactions = 0
-
-    def kill(self):
-        self.process.kill()
-        self.process.wait()
-        self.compactions += self.process.stderr.read().count(b"compacted")
-        super().kill()
-
-
 class Run:
     """What was seen over all lives."""
 
     def __init__(self, broker, checks, chance):
         self.broker, self.checks, self.chance = broker, checks, chance
         self.threads, self.lives = broker.count_of_threads(), 0
-        self.memory, self.comings, self.totals = [], 0, kept.Totals()
+        self.memory, self.comings, self.totals, self.compactions = [], 0, kept.Totals(), 0
 
     def crew(self):
         """The clients of a life: senders to the queue and to the topic, and who takes from either."""
@@ -159,6 +145,7 @@ class Run:
             self.be_calm(senders)
         assert self.broker.is_running(), last_words(self.broker)
         self.broker.kill()
+        self.compactions += self.broker.text().count(" compacted")
         for one in everybody:
             one.thread.join(2 * PATIENCE)
             one.client.close()
@@ -210,7 +197,7 @@ class Run:
 
     def tell(self):
         kept.tell(self.checks, self.totals, self.lives)
-        self.checks.tell(f"at least {self.broker.compactions} compactions; the reader of the topic came {self.comings} times")
+        self.checks.tell(f"{self.compactions} compactions; the reader of the topic came {self.comings} times")
         third = max(1, len(self.memory) // 3)
         first, last = (sorted(part)[third // 2] for part in (self.memory[:third], self.memory[-third:]))
         self.checks.check(f"the last lives take at most {FLAT} times the memory of the first", last <= FLAT * first, (first, last))
@@ -226,7 +213,7 @@ def soak(broker, checks, chance, seconds):
     while run.lives < 3 or time.monotonic() < end:
         run.live()
     checks.check(f"killed {run.lives} times: all that was receipted is there, and nothing is there twice", not checks.failed)
-    checks.check("there was something to do: compactions, and messages without a receipt", broker.compactions and run.totals.unknown)
+    checks.check("there was something to do: compactions, and messages without a receipt", run.compactions and run.totals.unknown)
     checks.check("and receipts came: a hundred a life at least", run.totals.receipted >= 100 * run.lives, run.totals.receipted)
     run.tell()
 
@@ -239,7 +226,7 @@ def main():
     print(f"seed {words.seed}", flush=True)
     scenario.take_descriptors()
     checks = scenario.Checks()
-    with scenario.serving(words.program, JOURNAL_BYTES, Broker) as broker:
+    with scenario.serving(words.program, JOURNAL_BYTES) as broker:
         try:
             soak(broker, checks, random.Random(words.seed), 60 * words.minutes)
         except Exception as error:

@@ -4,7 +4,7 @@ memory stays within what docs/RUNNING.md says, and the place of each attacker is
 
     python3 tests/attack/under_attack.py [PROGRAM] [--neighbours]
 
-PROGRAM is the built program; without it, bin/stompd. With --neighbours only those that share a desk are tried. It takes some five minutes, and needs Python 3 alone; half-open clients need `ip`
+With --neighbours only those that share a desk are tried. It takes some five minutes, and needs Python 3 alone; half-open clients need `ip`
 and root, since they take a network of the script's own, and are left out if these are missing, which is said.
 
 - 64 attackers of a kind come after 8 clients that behave. There are 64 desks, so each desk has an attacker then, and each of the 8 has one

@@ -21,7 +21,7 @@ import sys
 import tempfile
 
 from lib.commands import run_for_text
-from lib.scenario import BUILT, BriefChecks, Broker, built_program, child_of, free_port, make_journal, words_of
+from lib.scenario import BriefChecks, Broker, child_of, free_port, make_journal, program_of
 from lib.stomp_client import Client
 from lib.tracing import SYNC, WRITE, Device, bytes_of, need_strace, strace, text_of
 
@@ -174,7 +174,7 @@ def source_of(checks, top):
 
 
 def main():
-    checks = BriefChecks(built_program(words_of(__doc__, BUILT).parse_args()))
+    checks = BriefChecks(program_of(__doc__))
     need_strace()
     with tempfile.TemporaryDirectory() as top:
         path, held, sessions = source_of(checks, top)

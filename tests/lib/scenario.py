@@ -21,8 +21,7 @@ import time
 import traceback
 
 TOP = pathlib.Path(__file__).resolve().parent.parent.parent
-# What builds the program if that is needed and becomes it, and what it has built.
-PROGRAM, BUILT = TOP / "bin" / "stompd", TOP / "crates" / "stompd" / "out" / "stompd"
+BUILT = TOP / "crates" / "stompd" / "out" / "stompd"
 
 # Two areas of 512 MiB. The file is sparse: it takes what is written. Most scripts see no compaction so.
 JOURNAL_BYTES = 1_073_741_856
@@ -268,7 +267,7 @@ def make_journal(program, path, journal_bytes=JOURNAL_BYTES):
 
 
 @contextlib.contextmanager
-def serving(program=PROGRAM, journal_bytes=JOURNAL_BYTES, kind=Broker, **options):
+def serving(program, journal_bytes=JOURNAL_BYTES, kind=Broker, **options):
     """A broker over a new journal, which is killed at the end."""
     with tempfile.TemporaryDirectory(prefix="stompd-") as folder:
         broker = kind(program, make_journal(program, os.path.join(folder, "journal"), journal_bytes), **options)
@@ -326,24 +325,47 @@ def try_one(scenario, broker, checks):
         checks.check(f"{scenario.__name__} runs to its end", False, error)
 
 
-def words_of(text, program=PROGRAM):
-    """The words of a script that has no others than the program."""
-    parser = argparse.ArgumentParser(description=text, formatter_class=argparse.RawDescriptionHelpFormatter)
-    parser.add_argument("program", nargs="?", default=program, help=f"the built program; without it {program.relative_to(TOP)}")
-    return parser
+class Words(argparse.ArgumentParser):
+    """The words of a script: the program first, and those that it adds."""
+
+    def __init__(self, text):
+        super().__init__(description=text, formatter_class=argparse.RawDescriptionHelpFormatter)
+        self.add_argument("program", nargs="?", type=pathlib.Path, help="without it $STOMPD, or the one that bin/build has left, the proved one before the unproved one")
+
+    def parse_args(self):
+        given = super().parse_args()
+        places = [given.program] if given.program else [os.environ.get("STOMPD"), BUILT, BUILT.parent / "unproved" / "stompd"]
+        found = [pathlib.Path(it).resolve() for it in places if it and os.access(it, os.X_OK)]
+        if not found:
+            self.exit(1, f"{pathlib.Path(sys.argv[0]).stem}: there is no program {given.program or ''}; bin/build --unproved compiles one\n")
+        given.program = found[0]
+        return given
 
 
-def built_program(words):
-    """The program of these words, which may be the built one; if it is missing the script ends."""
-    program = pathlib.Path(words.program).resolve()
-    if not os.access(program, os.X_OK):
-        sys.exit(f"{pathlib.Path(sys.argv[0]).stem}: {program} is missing; bin/stompd builds it")
-    return program
+def words_of(text):
+    return Words(text)
 
 
-def run(text, scenarios, program=PROGRAM):
+def program_of(text):
+    """The program of a script that has no other words."""
+    return Words(text).parse_args().program
+
+
+def try_parts(text, parts, waiting=()):
+    """Tries each part of a script, which is given the program and the checks, those that mostly wait beside the others. Answers the status."""
+    program, checks = program_of(text), Checks()
+    with concurrent.futures.ThreadPoolExecutor(len(waiting) or 1) as side_by_side:
+        waits = [side_by_side.submit(try_one, it, program, checks) for it in waiting]
+        for it in parts:
+            try_one(it, program, checks)
+        for it in waits:
+            it.result()
+    return checks.status()
+
+
+def run(text, scenarios):
     """Runs each scenario over one broker, and answers the status: 0 only if every check held."""
-    return run_over(words_of(text, program).parse_args().program, scenarios)
+    return run_over(program_of(text), scenarios)
 
 
 def run_over(program, scenarios):
@@ -358,9 +380,9 @@ def run_over(program, scenarios):
     return checks.status()
 
 
-def run_side_by_side(text, scenarios, program=PROGRAM):
+def run_side_by_side(text, scenarios):
     """The same of scenarios that mostly wait: all at once, each over a broker of its own."""
-    program, checks = words_of(text, program).parse_args().program, Checks()
+    program, checks = program_of(text), Checks()
 
     def run_one(one):
         with serving(program) as broker:

@@ -23,7 +23,8 @@ FAULTS = (
     *(f"J3 device failed: {cause}" for cause in ("the file was removed", "the file was replaced", "the file was cut", "the file was overwritten", "no space left",
                                                  "input/output error", "the system refused a call")),
     "no memory", "cannot start a thread", "input or output failed", "cannot open: /dev/null: it is no file", "cannot open: PORT: another program listens there",
-    "cannot open: FILE: there is no such file; --new BYTES makes one",
+    *(f"cannot open: FILE: {why}" for why in ("there is no such file; --new BYTES makes one", "it is there already", "another server has its lock", "permission denied",
+                                              "it is a directory", "no file may be so large here", "the system refuses it")),
     "opening the journal again in 4 s, which makes room",
     "what the journal holds does not fit into half of it; docs/RUNNING.md says what helps",
 )
@@ -60,13 +61,9 @@ CALM_OBJECTS = (("opening", None), ("made", None), ("started", None), ("journal_
                 ("refused", "malformed"), ("refused", "other_protocol"), ("refused", "other_origin"), ("refused", "other_method"), ("refused", "no_websocket"),
                 ("refused", "other_version"), ("refused", "large_head"), ("gave_up", "silent"), ("gave_up", "no_session"), ("left_out", "unread"),
                 ("errors", 1), ("errors", 5), ("errors", 8), ("errors", 2), ("errors", 10))
-# Where the program has their names: the functions that answer them.
-NAMERS = (("event_log/src/object.rt", "kind_of"), ("event_log/src/notice_object.rt", "kind_of"), ("event_log/src/object.rt", "deed"),
-          ("event_log/src/object.rt", "reason"))
-
-# Where the program has these texts: by the names of the files below crates/.
-SOURCES = ("event_log/src/event.rt", "event_log/src/notice.rt", "event_log/src/fault.rt", "event_log/src/kind.rt", "event_log/src/device.rt", "area_core/src/faults.rt",
-           "recover_core/src/faults.rt", "flush_core/src/faults.rt", "stompd/src/reporting.rt", "stompd/src/serving.rt")
+# The functions of event_log that answer the program's names of them, and the crates that have the texts.
+NAMERS = ("kind_of", "deed", "reason")
+SOURCES = ("event_log", "area_core", "recover_core", "flush_core", "stompd")
 
 
 def patterns():
@@ -85,12 +82,15 @@ def objects():
         yield f'{{"time":"{MOMENT.strip()}","kind":"{kind}"{of_it},"count":12}}', needs
 
 
+def sources(*crates):
+    return ((it.name, it.read_text(encoding="utf-8")) for crate in crates for it in sorted((TOP / "crates" / crate / "src").rglob("*.rt")))
+
+
 def names_of_the_program():
     """The names that the program has for kinds, and for what stands behind `why`."""
-    for path, function in NAMERS:
-        source = (TOP / "crates" / path).read_text(encoding="utf-8")
-        body = re.search(rf"fn {function}\(.*?\n    ?\}}\n", source, re.S)[0]
-        yield from ((path, it) for it in re.findall(r'"([a-z_]+)"', body))
+    for name, source in sources("event_log"):
+        for body in re.findall(rf"fn (?:{'|'.join(NAMERS)})\(.*?\n    ?\}}\n", source, re.S):
+            yield from ((name, it) for it in re.findall(r'"([a-z_]+)"', body))
 
 
 def lines():
@@ -107,12 +107,12 @@ def lines():
 
 def texts_of_the_program():
     """The literals of the program's texts, as expressions of what they print; those that only join others have no word of their own."""
-    for name in SOURCES:
-        source = (TOP / "crates" / name).read_text(encoding="utf-8")
+    for name, source in sources(*SOURCES):
         source = re.sub(r"(?m)^\s*//.*$|ghost [^;]*;", "", source)
         for literal in re.findall(r'"((?:[^"\\]|\\.)*)"', source):
             said = literal.removeprefix("stompd: ").strip()
-            if re.search(r"[a-z]{2}", re.sub(r"\{[^}]*\}", "", said)):
+            # A name of an object has one word, and words that are joined have no other beside them.
+            if " " in said and re.search(r"[a-z]{2}", re.sub(r"\{[^}]*\}", "", said)):
                 yield name, literal, re.compile(".*?".join(re.escape(part) for part in re.split(r"\{[^}]*\}", said)))
 
 

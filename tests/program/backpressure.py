@@ -3,8 +3,6 @@
 waits meanwhile.
 
     python3 tests/program/backpressure.py [PROGRAM]
-
-PROGRAM is the built program; without it, bin/stompd. It takes some ten seconds, and needs Python 3 alone.
 """
 
 import select

@@ -1,13 +1,10 @@
 #!/usr/bin/env python3
 """Tries the program's own client: `send`, `listen` and `forget` against a server, and against peers that answer wrong, late or not at all. Compares statuses,
-what is printed and told, and which frames are said, with docs/CLI.md ("The client") and STOMP 1.2. Needs Python 3 alone; the gate does not run it.
+what is printed and told, and which frames are said, with docs/CLI.md ("The client") and STOMP 1.2.
 
     python3 tests/program/client.py [PROGRAM]
-
-PROGRAM is the built program; without it, the one that bin/stompd leaves in crates/stompd/out.
 """
 
-import concurrent.futures
 import contextlib
 import os
 import pathlib
@@ -23,7 +20,7 @@ import time
 
 from lib.commands import FULL, NOBODY, NONE, UNWRITTEN, run, shown, started, told
 from lib.fake_peer import CONNECT, CONNECTED, LEAVE, Peer, answering, close, closing, connected, ending, nothing, receipted, saying
-from lib.scenario import BUILT, Checks, built_program, free_port, serving, words_of
+from lib.scenario import free_port, serving, try_parts
 from lib.stomp_client import Client
 from lib.wire import CLOSE, PING, PONG, TEXT, message_bytes
 
@@ -603,8 +600,8 @@ def trickles(program, checks):
         checks.check("after five seconds", 4.5 < took < QUIET, took)
 
 
-def slow_steps(program):
-    """What a ping ends with each of whose steps takes its time: the handshake, CONNECTED, two RECEIPTs and the close."""
+def each_step(program, checks):
+    """Each step of a ping has its own five seconds (docs/CLI.md, "Pings"): the handshake, CONNECTED, two RECEIPTs and the close."""
 
     def act(peer):
         time.sleep(SLOW)
@@ -618,11 +615,11 @@ def slow_steps(program):
     peer = Peer(act)
     seen = run(program, "ping", peer.port)
     peer.end()
-    return seen
+    checks.check(f"each step of a ping may take {SLOW} s", seen[0] == 0 and seen[2] == "", seen)
 
 
-def slow_receipts(program):
-    """What two lines end with that are sent at once, and whose RECEIPTs take their time one after the other."""
+def each_receipt(program, checks):
+    """So has each RECEIPT after the one before (docs/CLI.md, "Lines"): of two lines that are sent at once they take their time one after the other."""
 
     def act(peer):
         peer.shake()
@@ -640,11 +637,11 @@ def slow_receipts(program):
     peer = Peer(act)
     seen = run(program, "send", peer.port, "/queue/a", "--lines", given=b"one\ntwo\n")
     peer.end()
-    return seen
+    checks.same(f"each RECEIPT of lines may take {SLOW} s after the one before", seen, (0, b"", ""))
 
 
-def no_receipt_but_pings(program):
-    """What a line ends with that has no RECEIPT, and after how long: the server pings each second."""
+def no_receipt_but_pings(program, checks):
+    """A line has no RECEIPT, and the server pings each second, which is no step."""
 
     def act(peer):
         peer.shake()
@@ -658,11 +655,12 @@ def no_receipt_but_pings(program):
     seen = run(program, "send", peer.port, "/queue/a", "--lines", given=b"one\n")
     took = time.monotonic() - began
     peer.end()
-    return seen, took
+    checks.same("a line without a RECEIPT", seen, (1, b"", told("no RECEIPT: no answer within 5 s" + UNKNOWN) + told("0 lines before it were taken")))
+    checks.check("is no longer waited for though the server pings", took < 3 * STEP, took)
 
 
-def no_connection(program):
-    """What a ping ends with whose connection is neither taken nor refused, and after how long."""
+def no_connection(program, checks):
+    """A connection is neither taken nor refused."""
     with contextlib.ExitStack() as stack:
         listener = stack.enter_context(socket.create_server(("127.0.0.1", 0), backlog=0))
         # They fill its queue.
@@ -671,20 +669,9 @@ def no_connection(program):
             waiting.setblocking(False)
             waiting.connect_ex(listener.getsockname())
         began = time.monotonic()
-        return run(program, "ping", listener.getsockname()[1]), time.monotonic() - began
-
-
-WAITS = (slow_steps, slow_receipts, no_receipt_but_pings, no_connection)
-
-
-def waits(checks, stepped, received, pinged, connected_to):
-    """Each step has its own five seconds, and a ping of the server is none (docs/CLI.md, "Pings" and "Lines")."""
-    checks.check(f"each step of a ping may take {SLOW} s", stepped[0] == 0 and stepped[2] == "", stepped)
-    checks.same(f"each RECEIPT of lines may take {SLOW} s after the one before", received, (0, b"", ""))
-    checks.same("a line without a RECEIPT", pinged[0], (1, b"", told("no RECEIPT: no answer within 5 s" + UNKNOWN) + told("0 lines before it were taken")))
-    checks.check("is no longer waited for though the server pings", pinged[1] < 3 * STEP, pinged[1])
-    checks.same("a connection that nobody takes", connected_to[0], (1, b"", told("no connection: no answer within 5 s")))
-    checks.check("is no longer waited for", STEP - 0.5 < connected_to[1] < 3 * STEP, connected_to[1])
+        seen, took = run(program, "ping", listener.getsockname()[1]), time.monotonic() - began
+    checks.same("a connection that nobody takes", seen, (1, b"", told("no connection: no answer within 5 s")))
+    checks.check("is no longer waited for", STEP - 0.5 < took < 3 * STEP, took)
 
 
 def addresses(program, checks):
@@ -722,20 +709,8 @@ def addresses(program, checks):
         checks.same("the second address of a host is tried after the first", (done.returncode, done.stderr), (0, b""))
 
 
-def main():
+if __name__ == "__main__":
     # A shell that has this run in the background lets it ignore SIGINT, and so would its children.
     signal.signal(signal.SIGINT, signal.default_int_handler)
-    program = built_program(words_of(__doc__, BUILT).parse_args())
-    checks, start = Checks(), time.monotonic()
-    # These mostly wait, so the others run meanwhile.
-    pool = concurrent.futures.ThreadPoolExecutor()
-    waiting = [pool.submit(it, program) for it in WAITS]
-    for scenario in (helps, bad_words, bodies, receipts, lines, peeks, durables, ends, restarts, timeouts, peers, windows, frames, farewells, patience, trickles, addresses):
-        scenario(program, checks)
-    waits(checks, *(it.result() for it in waiting))
-    print(f"{checks.failed} checks failed, in {time.monotonic() - start:.0f} s")
-    sys.exit(1 if checks.failed else 0)
-
-
-if __name__ == "__main__":
-    main()
+    PARTS = (helps, bad_words, bodies, receipts, lines, peeks, durables, ends, restarts, timeouts, peers, windows, frames, farewells, patience, trickles, addresses)
+    sys.exit(try_parts(__doc__, PARTS, (each_step, each_receipt, no_receipt_but_pings, no_connection)))

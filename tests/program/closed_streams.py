@@ -1,6 +1,6 @@
 #!/usr/bin/env python3
 """Starts each subcommand with each of the eight choices of closed standard streams: no file may get the number of one, so that nothing is written over
-a journal. Needs Python 3 alone; the gate does not run it.
+a journal.
 
     python3 tests/program/closed_streams.py [PROGRAM]
 
@@ -17,7 +17,7 @@ import sys
 import tempfile
 import time
 
-from lib.scenario import BUILT, BriefChecks, built_program, free_port, words_of
+from lib.scenario import BriefChecks, free_port, program_of
 from lib.stomp_client import Client
 
 # Areas of 131,056 bytes, which SENDs of 60 KB to a topic fill at once.
@@ -99,7 +99,7 @@ def served(checks, closed):
 
 
 def main():
-    program = built_program(words_of(__doc__, BUILT).parse_args())
+    program = program_of(__doc__)
     with tempfile.TemporaryDirectory() as name:
         checks = Checks(program, pathlib.Path(name))
         for closed in CHOICES:

@@ -1,11 +1,9 @@
 #!/usr/bin/env python3
 """Breaks the protocol in each way that has a close code, and closes, with more bytes on the way that the server never looks at, and without reading meanwhile.
 Each client hears the code, each of a hundred times, and then the stream's end and no reset (RFC 6455, section 7.1.1). Once they have left, the server has
-nothing of them. Whoever has sent its close gets no message more, though its connection stays. Needs Python 3 alone; the gate does not run it.
+nothing of them. Whoever has sent its close gets no message more, though its connection stays.
 
     python3 tests/program/closes.py [PROGRAM]
-
-PROGRAM is the built program; without it, the one that bin/stompd leaves in crates/stompd/out.
 """
 
 import os
@@ -99,4 +97,4 @@ def get_no_more(broker, checks):
 
 
 if __name__ == "__main__":
-    sys.exit(scenario.run(__doc__, [hear_their_codes, get_no_more], scenario.BUILT))
+    sys.exit(scenario.run(__doc__, [hear_their_codes, get_no_more]))

@@ -8,7 +8,6 @@ alone, and Linux.
 
 import re
 import sys
-import threading
 import time
 
 from lib import scenario
@@ -22,44 +21,33 @@ TRAFFIC = "x" * 1_000
 UNDER_WAY = 8
 # A whole snapshot of what is held would take 16 MiB.
 MOST_GROWTH = 4 << 20
-COMPACTED = re.compile(rb" compacted: (\d+) bytes won in \d+ ms\n")
+COMPACTED = re.compile(r" compacted: (\d+) bytes won in \d+ ms\n")
 
 
-def listen(broker, told):
-    for line in broker.process.stderr:
-        told.append(line)
-
-
-def compactions(told):
-    return sum(bool(COMPACTED.search(line)) for line in told)
-
-
-def fill_until(client, told, wanted):
+def fill_until(client, broker, wanted):
     """Sends to a topic that nobody hears until the journal was compacted so often."""
     end = time.monotonic() + 120
-    while compactions(told) < wanted:
+    while len(COMPACTED.findall(broker.text())) < wanted:
         assert time.monotonic() < end, "the journal is never compacted"
         client.publish_all(NOBODY, [TRAFFIC] * 500)
 
 
 def memory_of_a_compaction(broker, checks):
     """16 MiB are held, and compacted three times"""
-    told = []
-    threading.Thread(target=listen, args=(broker, told), daemon=True).start()
     client = Client(broker.port, timeout=60).connect()
     client.publish_all(QUEUE, ["x" * BODY] * HELD, UNDER_WAY)
     # What a compaction took and let go, an allocator may keep: the first one shows it.
     for turn in (1, 2, 3):
         broker.forget_peak()
         before = broker.memory("VmRSS") << 10
-        fill_until(client, told, turn)
+        fill_until(client, broker, turn)
         growth = (broker.memory("VmHWM") << 10) - before
         checks.check(f"compaction {turn} takes {MOST_GROWTH >> 20} MiB at most", growth <= MOST_GROWTH, f"{growth:,} bytes")
         checks.tell(f"{growth:,} bytes more than the {before:,} before")
 
 
 def main():
-    program = scenario.words_of(__doc__).parse_args().program
+    program = scenario.program_of(__doc__)
     checks = scenario.Checks()
     with scenario.serving(program, JOURNAL_BYTES) as broker:
         scenario.try_one(memory_of_a_compaction, broker, checks)

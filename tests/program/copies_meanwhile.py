@@ -4,23 +4,23 @@ are others when they go on. Each then reads again, and answers what the journal 
 
     python3 tests/program/copies_meanwhile.py [PROGRAM]
 
-PROGRAM is the built program; without it, bin/stompd. It takes some ten seconds, and needs strace.
+It takes some ten seconds, and needs strace.
 """
 
 import os
 import pathlib
 import random
 import re
-import shutil
 import signal
 import subprocess
 import sys
 import tempfile
-import threading
 import time
 
 from lib import scenario
+from lib.commands import run, run_for_text
 from lib.stomp_client import Client
+from lib.tracing import need_strace, strace, text_of
 
 # Two areas of 256 KiB, which some seventy SENDs fill. Their bodies have other lengths, so that blocks begin and end elsewhere each time.
 JOURNAL_BYTES, BODIES = 524_320, (1_000, 6_000)
@@ -38,15 +38,8 @@ class Load:
     def __init__(self, broker):
         self.client = Client(broker.port, timeout=20).connect()
         self.client.subscribe("q", "/queue/held", ack="client-individual")
-        self.waiting, self.compactions, self.lock = [], 0, threading.Lock()
-        threading.Thread(target=self.listen, args=(broker.process.stderr,), daemon=True).start()
+        self.broker, self.waiting = broker, []
         self.send(HELD)
-
-    def listen(self, lines):
-        for line in lines:
-            if b" compacted" in line:
-                with self.lock:
-                    self.compactions += 1
 
     def send(self, count):
         for at in range(count):
@@ -66,24 +59,21 @@ class Load:
 
     def compact_twice(self):
         """Sends and acknowledges until the journal was compacted twice more, and some blocks stand after that."""
-        with self.lock:
-            wanted = self.compactions + 2
-        end = time.monotonic() + MOST
-        while time.monotonic() < end:
+        wanted, end = self.compactions() + 2, time.monotonic() + MOST
+        while self.compactions() < wanted and time.monotonic() < end:
             self.send(WINDOW)
             self.acknowledge(WINDOW)
-            with self.lock:
-                if self.compactions >= wanted:
-                    break
-        return self.compactions >= wanted
+        return self.compactions() >= wanted
+
+    def compactions(self):
+        return self.broker.text().count(" compacted")
 
 
 def first_read_of_area(program, words):
     """Which read of the process, from 1, is the first of an area: eight bytes at the offset 32 or after the first area."""
     with tempfile.TemporaryDirectory(prefix="reads-") as folder:
-        trace = pathlib.Path(folder) / "trace"
-        subprocess.run(["strace", "-qq", "-e", "trace=pread64", "-o", trace, program, *words], check=True, stdout=subprocess.DEVNULL, stderr=subprocess.DEVNULL)
-        offsets = [re.search(r", (\d+), (\d+)\)\s+= \d+$", line) for line in trace.read_text(encoding="utf-8").splitlines() if line.startswith("pread64")]
+        run(*strace(f"{folder}/trace", "pread64"), program, *words)
+        offsets = [re.search(r", (\d+), (\d+)\)\s+= \d+$", line) for line in text_of(f"{folder}/trace").splitlines() if "pread64(" in line]
     places = [(int(it[1]), int(it[2])) for it in offsets if it]
     # The header is read first: its six letters.
     start = places.index((6, 0))
@@ -104,7 +94,7 @@ def run_with_a_stop(program, words, read, meanwhile):
     """Runs a command, which stands still before that read while something is done. Answers its status and what it printed."""
     with tempfile.TemporaryDirectory(prefix="stopped-") as folder:
         trace = pathlib.Path(folder) / "trace"
-        tracer = ["strace", "-qq", "-o", trace, "-e", "trace=pread64", "-e", f"inject=pread64:signal=SIGSTOP:when={read}"]
+        tracer = strace(trace, "pread64", f"pread64:signal=SIGSTOP:when={read}")
         process = subprocess.Popen([*tracer, program, *words], stdout=subprocess.PIPE, stderr=subprocess.PIPE, text=True)
         if not await_stop(trace):
             process.kill()
@@ -113,10 +103,6 @@ def run_with_a_stop(program, words, read, meanwhile):
         os.kill(scenario.child_of(process.pid), signal.SIGCONT)
         out, err = process.communicate(timeout=MOST)
         return process.returncode, out, err, done
-
-
-def held_of(text):
-    return int(re.match(r"messages (\d+) of 4096\n", text)[1])
 
 
 def reads_again(broker, checks):
@@ -139,16 +125,14 @@ def reads_again(broker, checks):
                 checks.check(f"{what}: it succeeds", False, (status, err))
                 continue
             if command == "copy":
-                out = subprocess.run([broker.program, "held", copy], capture_output=True, text=True, check=True).stdout
-            checks.same(f"{what}: held", held_of(out), HELD)
+                out = run_for_text(broker.program, "held", copy)[1]
+            checks.check(f"{what}: held", out.startswith(f"messages {HELD} of "), out)
         copy.unlink(missing_ok=True)
 
 
 def main():
-    program = scenario.built_program(scenario.words_of(__doc__).parse_args())
-    if not shutil.which("strace"):
-        print("copies_meanwhile: strace is missing")
-        return 2
+    program = scenario.program_of(__doc__)
+    need_strace()
     checks = scenario.Checks()
     with scenario.serving(program, journal_bytes=JOURNAL_BYTES) as broker:
         scenario.try_one(reads_again, broker, checks)

@@ -24,8 +24,6 @@ Python 3 alone; the gate does not run it.
   files in other ways.
 - If a block's sync fails after half a second, in which a client has asked for more than its window lets in, that client
   hears 1001: its worker, which sleeps until the mark rises, is woken.
-
-PROGRAM is the built program; without it, the one that bin/stompd leaves in crates/stompd/out.
 """
 
 import contextlib
@@ -41,7 +39,7 @@ import tempfile
 import time
 
 from lib.commands import run_for_text
-from lib.scenario import BUILT, BriefChecks, Broker, Unserved, built_program, make_journal, words_of
+from lib.scenario import BriefChecks, Broker, Unserved, make_journal, program_of
 from lib.stomp_client import Client, Refused, WebSocket
 from lib.tracing import PAGE, need_strace, strace, text_of
 
@@ -433,7 +431,7 @@ def removed_at_one_time(checks):
 
 
 def main():
-    program = built_program(words_of(__doc__, BUILT).parse_args())
+    program = program_of(__doc__)
     need_strace()
     with tempfile.TemporaryDirectory() as name:
         checks = Checks(str(program), pathlib.Path(name).resolve())

@@ -10,7 +10,6 @@ import re
 import socket
 import sys
 import tempfile
-import threading
 import time
 
 from lib import scenario
@@ -108,15 +107,5 @@ def compare(found, commands, frames, checks):
     checks.same("all commands would be repeated", to_repeat, counted)
 
 
-def main():
-    program = scenario.words_of(__doc__).parse_args().program
-    checks = scenario.Checks()
-    resting = threading.Thread(target=idle, args=(program, checks))
-    resting.start()
-    figures(program, checks)
-    resting.join()
-    return checks.status()
-
-
 if __name__ == "__main__":
-    sys.exit(main())
+    sys.exit(scenario.try_parts(__doc__, (figures,), (idle,)))

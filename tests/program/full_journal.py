@@ -6,7 +6,6 @@ grows, at the same port. All that was receipted is there then. It takes a minute
 """
 
 import sys
-import threading
 import time
 
 from lib import scenario
@@ -140,16 +139,5 @@ def after_a_minute(program, checks):
             checks.same(f"after {rest} s at rest the next pause is of {seconds} s", pause_after(server, number)[1], opened_again(seconds))
 
 
-def main():
-    program = scenario.words_of(__doc__).parse_args().program
-    checks = scenario.Checks()
-    slow = threading.Thread(target=scenario.try_one, args=(after_a_minute, program, checks))
-    slow.start()
-    for part in (one_at_a_time, all_at_once, nobody_reads):
-        scenario.try_one(part, program, checks)
-    slow.join()
-    return checks.status()
-
-
 if __name__ == "__main__":
-    sys.exit(main())
+    sys.exit(scenario.try_parts(__doc__, (one_at_a_time, all_at_once, nobody_reads), (after_a_minute,)))

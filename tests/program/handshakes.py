@@ -2,18 +2,16 @@
 """Asks a running server for a WebSocket late and in parts: docs/PROTOCOL.md gives a client time between two parts of its
 request, so each is to be accepted. Then clients that never open a session, each in its way, are to be let go once their
 minute is over, and so is one that has opened its session and answers no ping, once its 80 seconds are; one that answers is to
-be kept. That takes a minute and a half. Needs Python 3 alone; the gate does not run it.
+be kept. That takes a minute and a half.
 
     python3 tests/program/handshakes.py [PROGRAM]
-
-PROGRAM is the built program; without it, the one that bin/stompd leaves in crates/stompd/out.
 """
 
 import socket
 import sys
 import time
 
-from lib.scenario import BUILT, Checks, built_program, serving, words_of
+from lib.scenario import Checks, program_of, serving
 from lib.wire import PONG, TEXT, handshake, message_bytes, stomp_message
 
 REQUEST = handshake(0)
@@ -112,7 +110,7 @@ def is_in_time(way, end):
 
 
 def main():
-    program, checks = built_program(words_of(__doc__, BUILT).parse_args()), Checks()
+    program, checks = program_of(__doc__), Checks()
     with serving(program, 2_097_184) as server:
         for pauses in ((0,), (0.001,), (0.1,), (0, 0.05), (0.01, 0.01, 0.01, 0.01)):
             checks.same(f"with pauses of {pauses} s all are accepted", sum(is_accepted(server.port, pauses) for _ in range(TRIES)), TRIES)

@@ -195,10 +195,10 @@ def rate(file, checks):
 
 
 def main():
-    parser = scenario.words_of(__doc__, scenario.BUILT)
+    parser = scenario.words_of(__doc__)
     parser.add_argument("--unit", type=pathlib.Path, default=TOP / "deploy" / "stompd.service")
     words = parser.parse_args()
-    program, unit, checks = scenario.built_program(words), Unit(words.unit), scenario.Checks()
+    program, unit, checks = words.program, Unit(words.unit), scenario.Checks()
     if shutil.which("systemd-analyze") is None or not HEADER.exists():
         print(f"hardening.py needs systemd-analyze and {HEADER}", file=sys.stderr)
         return 2

@@ -6,13 +6,10 @@ which ends. Then each of the ways in which a client may hold something is taken 
 given up.
 
     python3 tests/program/holders.py [PROGRAM]
-
-PROGRAM is the built program; without it, bin/stompd. It takes about a minute, and needs Python 3 alone.
 """
 
 import contextlib
 import os
-import re
 import socket
 import sys
 import time
@@ -174,10 +171,7 @@ def heads_over_the_budget(broker, checks):
     # Counts are told once a second.
     time.sleep(2)
     left = [one for one in left if not is_let_go(one)]
-    os.set_blocking(broker.process.stderr.fileno(), False)
-    log = (broker.process.stderr.read() or b"").decode()
-    told = sum(map(int, re.findall(r"gave up (\d+) clients that took the most memory", log)))
-    checks.same("the others are told", told, MANY_HEADS - len(left))
+    checks.same("the others are told", broker.count(r"gave up (\d+) clients that took the most memory"), MANY_HEADS - len(left))
     for one in sockets:
         one.close()
 
@@ -279,29 +273,23 @@ def heads_that_were_refused(broker, checks):
     witness.close()
 
 
-def with_least_budget(program, journal):
-    return scenario.Broker(program, journal, more=["--memory", str(BUDGET)])
-
-
 SCENARIOS = (what_is_taken, what_waited, members_that_ended, messages_that_were_read, heads_that_were_refused)
 
 
 def main():
-    program = scenario.words_of(__doc__).parse_args().program
+    program = scenario.program_of(__doc__)
     scenario.take_descriptors()
     scenario.keep_journals_in_memory()
     checks, start = scenario.Checks(), time.monotonic()
     for one in (most_of_all, most_of_a_sleeping_worker, heads_over_the_budget):
-        with scenario.serving(program, kind=with_least_budget) as broker:
+        with scenario.serving(program, more=("--memory", str(BUDGET))) as broker:
             scenario.try_one(one, broker, checks)
     # One broker for all, so that what an earlier one left counted is found by the next.
-    with scenario.serving(program, kind=with_least_budget) as broker:
+    with scenario.serving(program, more=("--memory", str(BUDGET))) as broker:
         for one in SCENARIOS:
             scenario.try_one(one, broker, checks)
         checks.check("the broker still runs", broker.is_running(), broker.process.poll())
-        broker.process.terminate()
-        log = broker.process.stderr.read().decode()
-        checks.check("nobody was given up", "gave up" not in log, log)
+        checks.check("nobody was given up", "gave up" not in broker.text(), broker.text())
     checks.tell(f"{time.monotonic() - start:.1f} s")
     return checks.status()
 

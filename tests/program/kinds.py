@@ -3,7 +3,7 @@
 
     python3 tests/program/kinds.py [PROGRAM]
 
-PROGRAM is the built program; without it, bin/stompd. It takes one minute or two, in which it mostly waits, and needs Python 3, and `cc` for a disk that stands
+It takes one minute or two, in which it mostly waits, and needs Python 3, and `cc` for a disk that stands
 still. Those that telling.py provokes are left out: clients without the subprotocol, those whose outbox is full, and those whose names have no room.
 """
 
@@ -313,19 +313,7 @@ def small_journal(program, checks):
         checks.check("each compaction has a line, and all together took no longer than this", took and sum(took) <= 1_000 * (time.monotonic() - began), took)
 
 
-def main():
-    program = scenario.words_of(__doc__).parse_args().program
-    scenario.take_descriptors()
-    checks = scenario.Checks()
-    slow = [threading.Thread(target=scenario.try_one, args=(part, program, checks)) for part in (given_up, half_asked, pinged, waits_for_room)]
-    for one in slow:
-        one.start()
-    for part in (refused_requests, full, no_descriptors, most_memory, left_out, small_journal):
-        scenario.try_one(part, program, checks)
-    for one in slow:
-        one.join()
-    return checks.status()
-
-
 if __name__ == "__main__":
-    sys.exit(main())
+    scenario.take_descriptors()
+    PARTS, WAITING = (refused_requests, full, no_descriptors, most_memory, left_out, small_journal), (given_up, half_asked, pinged, waits_for_room)
+    sys.exit(scenario.try_parts(__doc__, PARTS, WAITING))

@@ -1,6 +1,6 @@
 #!/usr/bin/env python3
 """Looks at the log of `stompd serve --json`: whether each line is one JSON object of the table in docs/CLI.md ("Objects of the log"), with the members that
-stand there and the right numbers, whatever bytes a file's or a queue's name has. Needs Python 3 alone.
+stand there and the right numbers, whatever bytes a file's or a queue's name has.
 
     python3 tests/program/log_objects.py [PROGRAM]
 """
@@ -163,7 +163,7 @@ def reopened(program, folder, checks):
 
 
 def main():
-    program = scenario.words_of(__doc__).parse_args().program
+    program = scenario.program_of(__doc__)
     checks = scenario.Checks()
     with tempfile.TemporaryDirectory(prefix="log-objects-") as folder:
         for part in (a_life, nearly_full, faults, reopened):

@@ -1,9 +1,7 @@
 #!/usr/bin/env python3
-"""Tries deploy/login.py, the example of a login by cookie: whom it lets in, and what of other pages and other cookies it passes over. Needs Python 3 alone.
+"""Tries deploy/login.py, the example of a login by cookie: whom it lets in, and what of other pages and other cookies it passes over.
 
     python3 tests/program/logins.py [PROGRAM]
-
-PROGRAM is not looked at: it stands there as for each script.
 """
 
 import http.client
@@ -13,7 +11,7 @@ import tempfile
 import time
 import urllib.parse
 
-from lib.scenario import BUILT, TOP, Checks, free_port, words_of
+from lib.scenario import TOP, Checks, free_port, words_of
 
 sys.path.insert(0, str(TOP / "deploy"))
 sys.dont_write_bytecode = True
@@ -77,7 +75,7 @@ def try_all(it, checks):
 
 
 def main():
-    words_of(__doc__, BUILT).parse_args()
+    words_of(__doc__).parse_args()
     checks = Checks()
     with tempfile.TemporaryDirectory(prefix="stompd-logins-") as folder:
         users = f"{folder}/users"

@@ -3,8 +3,6 @@
 journal. Who would pass that ends with 1001, a line of the server says so, and nobody else notices.
 
     python3 tests/program/long_names.py [PROGRAM]
-
-PROGRAM is the built program; without it, bin/stompd. It takes some seconds, and needs Python 3 alone.
 """
 
 import contextlib
@@ -75,7 +73,7 @@ def a_desk_is_full(broker, checks):
 
 
 def main():
-    program = scenario.words_of(__doc__).parse_args().program
+    program = scenario.program_of(__doc__)
     scenario.take_descriptors()
     checks = scenario.Checks()
     with scenario.serving(program) as broker:

@@ -108,7 +108,7 @@ def fail_once(program, folder, failing, checks):
 
 
 def main():
-    program, checks = scenario.built_program(scenario.words_of(__doc__, scenario.BUILT).parse_args()), scenario.Checks()
+    program, checks = scenario.program_of(__doc__), scenario.Checks()
     need_strace()
     with tempfile.TemporaryDirectory(prefix="lost-") as folder:
         syncs = next(number for number in range(1, MOST_SYNCS) if not fail_once(program, folder, number, checks))

@@ -58,7 +58,7 @@ def try_examples(program, commands, part, checks):
 
 
 def main():
-    words = scenario.words_of(__doc__, scenario.BUILT).parse_args()
+    words = scenario.words_of(__doc__).parse_args()
     if shutil.which("groff") is None:
         print("manual.py needs groff", file=sys.stderr)
         return 2

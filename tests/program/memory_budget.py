@@ -7,7 +7,7 @@ message of 128 KiB each.
 
     python3 tests/program/memory_budget.py [PROGRAM]
 
-PROGRAM is the built program; without it, bin/stompd. It takes a minute or less, and needs strace and Python 3 alone.
+It takes a minute or less, and needs strace and Python 3 alone.
 
 - The limit is the system's, on data (RLIMIT_DATA): the budget, 256 KiB for each client, and 128 MiB. A client takes up to 128 KiB that the budget does not
   count: the places of its outbox (111 KB), and what its socket is read by. The rest is for what is being handed out, for what was given up and is not free
@@ -20,16 +20,14 @@ PROGRAM is the built program; without it, bin/stompd. It takes a minute or less,
 import contextlib
 import os
 import re
-import resource
-import signal
 import socket
-import subprocess
 import sys
 import threading
 import time
 
 from lib import scenario
 from lib.stomp_client import Client
+from lib.tracing import strace
 from lib.wire import TEXT, handshake, message_bytes, stomp_bytes
 
 TOPIC = "/topic/unread"
@@ -58,59 +56,10 @@ LONGEST_WAIT, TAKES_NOTHING = 1.0, 60
 GONE = 20
 
 
-class Limited(scenario.Broker):
-    """The program with a budget, under a limit. One that knows no budget serves without it."""
-
-    def serve(self):
-        words = [self.program, "serve", self.journal, str(self.port)]
-        for more in (["--memory", str(BUDGET)], []):
-            self.process = subprocess.Popen(
-                words + more, stdout=subprocess.PIPE, stderr=subprocess.PIPE, preexec_fn=lambda: resource.setrlimit(resource.RLIMIT_DATA, (LIMIT, LIMIT))
-            )
-            if self.process.stdout.readline():
-                self.budget = bool(more)
-                return
-            self.process.communicate()
-        raise RuntimeError("the broker does not serve")
-
-
-class Slow(scenario.Broker):
-    """A server with the least budget, under strace, which holds each sync up."""
-
-    def serve(self):
-        delay = ["strace", "-f", "--seccomp-bpf", "-qq", "-o", "/dev/null", "-e", "trace=fdatasync", "-e", f"inject=fdatasync:delay_enter={SYNC}"]
-        words = [*delay, self.program, "serve", self.journal, str(self.port), "--memory", str(LEAST_BUDGET)]
-        self.process = subprocess.Popen(words, stdout=subprocess.PIPE, stderr=subprocess.PIPE)
-        self.process.stdout.readline()
-        self.number = scenario.child_of(self.process.pid)
-
-    def kill(self):
-        os.kill(self.number, signal.SIGKILL)
-        self.process.wait()
-        self.process.stdout.close()
-        self.process.stderr.close()
-
-    def memory(self, name):
-        with open(f"/proc/{self.number}/status", encoding="ascii") as status:
-            return next(int(line.split()[1]) for line in status if line.startswith(name + ":"))
-
-
-class Listener(threading.Thread):
-    """What the broker tells on standard error, with the moment at which each line came."""
-
-    def __init__(self, broker):
-        super().__init__(daemon=True)
-        self.stream, self.lines = broker.process.stderr, []
-        self.start()
-
-    def run(self):
-        for line in self.stream:
-            self.lines.append((time.monotonic(), line.decode()))
-
-    def given_up(self, words):
-        """How many clients were given up so, and when the first."""
-        told = [(moment, int(line.split(" gave up ")[1].split()[0])) for moment, line in self.lines if f" {words}" in line and " gave up " in line]
-        return sum(count for _, count in told), told[0][0] if told else None
+def given_up(broker, words):
+    """How many clients were given up so, and when the first."""
+    told = [(moment, int(line.split(" gave up ")[1].split()[0])) for moment, line in list(broker.lines) if f" {words}" in line and " gave up " in line]
+    return sum(count for _, count in told), told[0][0] if told else None
 
 
 class Reader(threading.Thread):
@@ -160,7 +109,6 @@ def send_all(port, checks):
 
 def reads_nothing(broker, checks):
     """2,000 clients that read nothing harm themselves alone"""
-    told = Listener(broker)
     stalled = stall(broker.port)
     checks.tell(f"{STALLED} clients there: {broker.memory('VmRSS') // 1024} MiB, and {broker.memory('VmData') // 1024} MiB of data")
     reader = Reader(broker.port)
@@ -168,7 +116,7 @@ def reads_nothing(broker, checks):
     sent, waits = send_all(broker.port, checks)
     took = time.monotonic() - start
     reader.join(20)
-    checks.check("the broker still runs", broker.is_running(), [line for _, line in told.lines[-3:]])
+    checks.check("the broker still runs", broker.is_running(), broker.lines[-3:])
     peak = broker.memory("VmHWM") * 1024
     checks.tell(f"{len(waits)} SENDs in {took:.1f} s; the longest receipt took {max(waits, default=0) * 1000:.0f} ms")
     checks.check(f"each receipt came within {LONGEST_WAIT} s", len(waits) == MESSAGES and max(waits) <= LONGEST_WAIT, max(waits, default=None))
@@ -178,9 +126,9 @@ def reads_nothing(broker, checks):
     checks.check(f"each within {LONGEST_WAIT} s", bool(late) and max(late) <= LONGEST_WAIT, max(late, default=None))
     checks.check("the reader was not dropped", reader.fault is None, reader.fault)
     time.sleep(1.5)
-    most, first = told.given_up("clients that took the most memory")
-    nothing, _ = told.given_up("clients that took nothing")
-    checks.check("clients were given up that took the most memory", most > 0, [line for _, line in told.lines])
+    most, first = given_up(broker, "clients that took the most memory")
+    nothing, _ = given_up(broker, "clients that took nothing")
+    checks.check("clients were given up that took the most memory", most > 0, broker.lines)
     if first:
         checks.check(f"the first before {TAKES_NOTHING} s", first - start < TAKES_NOTHING, first - start)
     checks.tell(f"{most} of them, the first after {(first or start) - start:.1f} s; {nothing} that took nothing")
@@ -194,7 +142,7 @@ def reads_nothing(broker, checks):
 
 def unfinished_heads(broker, checks):
     """4,000 heads that don't end count: those who hold most are given up"""
-    told, before = Listener(broker), broker.memory("VmRSS")
+    before = broker.memory("VmRSS")
     broker.forget_peak()
     front = handshake(0)[:-2] + b"X-Long: "
     some = [socket.create_connection(("127.0.0.1", broker.port)) for _ in range(HEADS)]
@@ -203,7 +151,7 @@ def unfinished_heads(broker, checks):
         with contextlib.suppress(OSError):
             one.sendall(front + bytes(HEAD_BYTES - len(front)).replace(b"\0", b"x"))
     time.sleep(2)
-    peak, (most, _) = broker.memory("VmHWM") - before, told.given_up("clients that took the most memory")
+    peak, (most, _) = broker.memory("VmHWM") - before, given_up(broker, "clients that took the most memory")
     left = HEADS - most
     checks.check("those who are left keep to the budget", left * HEAD_BYTES <= LEAST_BUDGET, f"{left} of {HEADS} are left")
     checks.check("and are no fewer than fit", left * HEAD_BYTES > LEAST_BUDGET / 2, f"{left} of {HEADS} are left")
@@ -213,34 +161,10 @@ def unfinished_heads(broker, checks):
         one.close()
 
 
-@contextlib.contextmanager
 def as_shipped(more=""):
-    """The environment with what `bin/serve` asks of the C library, and more."""
+    """The environment in which `bin/serve` starts it, whose settings of the C library may have more."""
     asked = re.search(r"^tunables=(.*)$", (scenario.TOP / "bin" / "serve").read_text(encoding="utf-8"), re.M)[1]
-    before = os.environ.get("GLIBC_TUNABLES")
-    os.environ["GLIBC_TUNABLES"] = asked + more
-    try:
-        yield
-    finally:
-        os.environ.pop("GLIBC_TUNABLES")
-        if before is not None:
-            os.environ["GLIBC_TUNABLES"] = before
-
-
-class Shipped(scenario.Broker):
-    """The program as `bin/serve` starts it."""
-
-    def serve(self):
-        with as_shipped():
-            super().serve()
-
-
-class Returning(scenario.Broker):
-    """The same with the settings by which the C library keeps nothing, as docs/RUNNING.md has them."""
-
-    def serve(self):
-        with as_shipped(KEEPS_NOTHING):
-            super().serve()
+    return {**os.environ, "GLIBC_TUNABLES": asked + more}
 
 
 def come_and_go(broker, count):
@@ -290,7 +214,7 @@ def frames_that_wait(broker, checks):
     for one in senders:
         one.receive()
     time.sleep(1)
-    told, before = Listener(broker), broker.memory("VmRSS")
+    before = broker.memory("VmRSS")
     message = message_bytes(TEXT, SENDS * stomp_bytes("SEND", [("destination", "/topic/none")]))
     for number, one in enumerate(senders):
         with contextlib.suppress(OSError):
@@ -298,19 +222,12 @@ def frames_that_wait(broker, checks):
         if number % WAVE == WAVE - 1:
             time.sleep(0.25)
     time.sleep(2)
-    taken, (most, _) = broker.memory("VmRSS") - before, told.given_up("clients that took the most memory")
+    taken, (most, _) = broker.memory("VmRSS") - before, given_up(broker, "clients that took the most memory")
     checks.check("clients were given up that took the most memory", most > SENDERS / 2, f"{most} of {SENDERS}")
     checks.check(f"all took at most the budget and {WAITING_REST >> 20} MiB", taken * 1024 <= LEAST_BUDGET + WAITING_REST, f"{taken >> 10} MiB")
     checks.tell(f"{most} were given up; the server has {taken >> 10} MiB more than before them")
     for one in senders:
         one.close()
-
-
-class AsServed(Shipped):
-    """The same, with the least budget."""
-
-    def __init__(self, program, journal):
-        super().__init__(program, journal, more=["--memory", str(LEAST_BUDGET)])
 
 
 def send_each(clients, message):
@@ -322,10 +239,9 @@ def send_each(clients, message):
 
 def longest_messages(broker, checks):
     """messages as long as may be count with all that they take: clients that send one each keep to the budget at every moment"""
-    told = Listener(broker)
     for headers in HEADERS:
         senders = [Client(broker.port, timeout=60).connect() for _ in range(LONGEST)]
-        before, gone = broker.memory("VmRSS"), told.given_up("clients that took the most memory")[0]
+        before, gone = broker.memory("VmRSS"), given_up(broker, "clients that took the most memory")[0]
         broker.forget_peak()
         frame = stomp_bytes("SEND", [("destination", "/topic/none"), *((f"h{at}", "x") for at in range(headers))])
         message = message_bytes(TEXT, LONGEST_BYTES // len(frame) * frame)
@@ -336,7 +252,7 @@ def longest_messages(broker, checks):
             one.join()
         time.sleep(2)
         peak = broker.memory("VmHWM") - before
-        most = told.given_up("clients that took the most memory")[0] - gone
+        most = given_up(broker, "clients that took the most memory")[0] - gone
         checks.check(f"with {headers} headers a frame all took at most the budget and {LONGEST_REST >> 20} MiB", peak * 1024 <= LEAST_BUDGET + LONGEST_REST, f"{peak >> 10} MiB")
         checks.check("some were given up, and some are left", 0 < most < LONGEST, most)
         checks.tell(f"{most} were given up; the peak was {peak >> 10} MiB more than before them")
@@ -345,29 +261,25 @@ def longest_messages(broker, checks):
         time.sleep(1)
 
 
-def with_least_budget(program, journal):
-    return scenario.Broker(program, journal, more=["--memory", str(LEAST_BUDGET)])
-
-
 def main():
-    program = scenario.words_of(__doc__).parse_args().program
+    program = scenario.program_of(__doc__)
     scenario.take_descriptors()
     checks = scenario.Checks()
     start = time.monotonic()
-    with scenario.serving(program, kind=Limited) as broker:
-        checks.check("it takes a budget", broker.budget, "served without")
-        scenario.try_one(reads_nothing, broker, checks)
-    with scenario.serving(program, kind=with_least_budget) as broker:
-        scenario.try_one(unfinished_heads, broker, checks)
-    with scenario.serving(program, kind=Shipped) as broker:
-        scenario.try_one(comers_again, broker, checks)
-    with scenario.serving(program, kind=Returning) as broker:
-        scenario.try_one(what_is_empty, broker, checks)
     checks.check("docs/RUNNING.md has these settings", KEEPS_NOTHING[1:] in (scenario.TOP / "docs" / "RUNNING.md").read_text(encoding="utf-8"))
-    with scenario.serving(program, kind=Slow) as broker:
-        scenario.try_one(frames_that_wait, broker, checks)
-    with scenario.serving(program, kind=AsServed) as broker:
-        scenario.try_one(longest_messages, broker, checks)
+    least = ("--memory", str(LEAST_BUDGET))
+    # Each sync is held up.
+    slow = strace("/dev/null", "fdatasync", f"fdatasync:delay_enter={SYNC}") + ["--seccomp-bpf", "-qq"]
+    for one, options in (
+        (reads_nothing, {"more": ("--memory", str(BUDGET)), "limits": {"DATA": LIMIT}}),
+        (unfinished_heads, {"more": least}),
+        (comers_again, {"env": as_shipped()}),
+        (what_is_empty, {"env": as_shipped(KEEPS_NOTHING)}),
+        (frames_that_wait, {"more": least, "before": slow}),
+        (longest_messages, {"more": least, "env": as_shipped()}),
+    ):
+        with scenario.serving(program, **options) as broker:
+            scenario.try_one(one, broker, checks)
     checks.tell(f"{time.monotonic() - start:.1f} s")
     return checks.status()
 

@@ -1,5 +1,5 @@
 #!/usr/bin/env python3
-"""Feeds deploy/metrics.py with logs of servers that serve, end, fail, are killed and begin again, and looks at what it says of each. Needs Python 3 alone.
+"""Feeds deploy/metrics.py with logs of servers that serve, end, fail, are killed and begin again, and looks at what it says of each.
 
     python3 tests/program/metrics.py
 

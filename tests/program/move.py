@@ -1,13 +1,10 @@
 #!/usr/bin/env python3
 """Tries `stompd move`: which frames it says, that headers and binary bodies stay as they are, and that nothing is lost or comes twice when servers or the
-program are killed at any moment. Compares with docs/CLI.md ("The client") and STOMP 1.2. Needs Python 3 alone; the gate does not run it.
+program are killed at any moment. Compares with docs/CLI.md ("The client") and STOMP 1.2.
 
     python3 tests/program/move.py [PROGRAM]
-
-PROGRAM is the built program; without it, the one that bin/stompd leaves in crates/stompd/out.
 """
 
-import concurrent.futures
 import contextlib
 import fcntl
 import os
@@ -23,7 +20,7 @@ import time
 from lib.commands import FULL, NOBODY, NONE, UNWRITTEN, told
 from lib.commands import run_for_text as run
 from lib.fake_peer import CONNECT, LEAVE, Peer, answering, connected, ending, receipt_of, receipted, saying
-from lib.scenario import BUILT, Checks, built_program, free_port, serving, words_of
+from lib.scenario import free_port, serving, try_parts
 from lib.stomp_client import Client
 from lib.wire import BINARY, CLOSE, PING, message_bytes, take_frame
 
@@ -380,8 +377,8 @@ def far_frames(program, checks):
     checks.same("and are closed", (here.heard[-1][0], there.heard[-1][0]), (CLOSE, CLOSE))
 
 
-def renewed(program):
-    """With --to, where a message comes after more than ten seconds: what the program ended with, and the frames on each connection to the other server."""
+def renewed(program, checks):
+    """With --to a message comes after more than ten seconds, over a connection to the other server that is made anew."""
     heard = []
 
     def twice(peer):
@@ -408,11 +405,13 @@ def renewed(program):
     there = Peer(twice)
     seen, _ = said_to(program, Peer(answering(connected, late, receipted, receipted)), "--to", there.port, "--count", 1, "--timeout", 60)
     there.end()
-    return seen, heard, there.fault
+    send = b"SEND\ndestination:/queue/b\nreceipt:1\ncontent-length:0\n\n\0"
+    wanted = ((0, "moved 1 messages\n", ""), [[CONNECT], [CONNECT, send, LEAVE]], None)
+    checks.same(f"after {STALE} seconds without a message the other server is connected to anew", (seen, heard, there.fault), wanted)
 
 
-def with_pings(program):
-    """What a move ends with that no message comes for, and after how long: the server pings twice a second, for twenty seconds."""
+def with_pings(program, checks):
+    """No message comes, and the server pings twice a second, for twenty seconds."""
 
     def pings(peer):
         peer.shake()
@@ -433,11 +432,12 @@ def with_pings(program):
 
     peer, start = Peer(pings), time.monotonic()
     seen, _ = said_to(program, peer, "--timeout", 1)
-    return seen, time.monotonic() - start
+    took = time.monotonic() - start
+    checks.check("pings are no messages, so it ends in time", seen == (0, "moved 0 messages\n", "") and took < 10, (seen, took))
 
 
-def one_after_another(program):
-    """What a move of all ends with whose messages come one after another, each in half of the time that none may come for."""
+def one_after_another(program, checks):
+    """Messages come one after another, each in half of the time that none may come for."""
 
     def act(peer):
         peer.shake()
@@ -450,7 +450,8 @@ def one_after_another(program):
         receipted(peer, peer.hear()[1])
         peer.hear()
 
-    return said_to(program, Peer(act), "--timeout", SPAN)[0]
+    seen = said_to(program, Peer(act), "--timeout", SPAN)[0]
+    checks.same("each message begins the time anew in which none may come", seen, (0, "moved 3 messages\n", ""))
 
 
 def bad_words(program, checks):
@@ -502,23 +503,6 @@ def broken_pipe(program, checks):
         checks.same("and all others are there", run(program, "listen", broker.port, "/queue/a", "--settle", "--timeout", 1)[:2], (4, "".join(it + "\n" for it in bodies[3:])))
 
 
-def main():
-    program = built_program(words_of(__doc__, BUILT).parse_args())
-    checks, start = Checks(), time.monotonic()
-    # These mostly wait, so the others run meanwhile.
-    waits = concurrent.futures.ThreadPoolExecutor()
-    renewal, pinged, slow = (waits.submit(it, program) for it in (renewed, with_pings, one_after_another))
-    for scenario in (bad_words, frames, far_frames, moves, many_headers, to_another, killed_server, killed_mover, killed_between, broken_pipe):
-        scenario(program, checks)
-    send = b"SEND\ndestination:/queue/b\nreceipt:1\ncontent-length:0\n\n\0"
-    wanted = ((0, "moved 1 messages\n", ""), [[CONNECT], [CONNECT, send, LEAVE]], None)
-    checks.same(f"after {STALE} seconds without a message the other server is connected to anew", renewal.result(), wanted)
-    ended, took = pinged.result()
-    checks.check("pings are no messages, so it ends in time", ended == (0, "moved 0 messages\n", "") and took < 10, (ended, took))
-    checks.same("each message begins the time anew in which none may come", slow.result(), (0, "moved 3 messages\n", ""))
-    print(f"{checks.failed} checks failed, in {time.monotonic() - start:.0f} s")
-    sys.exit(1 if checks.failed else 0)
-
-
 if __name__ == "__main__":
-    main()
+    PARTS = (bad_words, frames, far_frames, moves, many_headers, to_another, killed_server, killed_mover, killed_between, broken_pipe)
+    sys.exit(try_parts(__doc__, PARTS, (renewed, with_pings, one_after_another)))

@@ -146,7 +146,7 @@ def try_lintian(package, checks):
 
 
 def main():
-    parser = scenario.words_of(__doc__, scenario.BUILT)
+    parser = scenario.words_of(__doc__)
     parser.add_argument("--package", type=pathlib.Path, metavar="DEB")
     words = parser.parse_args()
     if shutil.which("dpkg-deb") is None or os.geteuid() != 0:

@@ -1,11 +1,9 @@
 #!/usr/bin/env python3
 """Stops a running server for 85 seconds, longer than a silent client is kept, and lets it go on: no client is given up for that, and what waited in the sockets
 meanwhile is heard before anyone is. Another is stopped eight times for 9.5 seconds, with a second between, and no silent client is given up either, nor one
-in the midst of its handshake. Needs Python 3 alone; the gate does not run it.
+in the midst of its handshake.
 
     python3 tests/program/pauses.py [PROGRAM]
-
-PROGRAM is the built program; without it, the one that bin/stompd leaves in crates/stompd/out.
 """
 
 import socket
@@ -100,4 +98,4 @@ def several_pauses(broker, checks):
 
 
 if __name__ == "__main__":
-    sys.exit(scenario.run_side_by_side(__doc__, [pause, several_pauses], scenario.BUILT))
+    sys.exit(scenario.run_side_by_side(__doc__, [pause, several_pauses]))

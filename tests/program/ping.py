@@ -1,11 +1,8 @@
 #!/usr/bin/env python3
 """Pings servers that answer, and others that do not or do it wrong, and compares the status and the one line that is told with what
 docs/CLI.md says ("Pings"). The others are servers that are stopped, full or at their end, and sockets that speak HTTP, half of a WebSocket, or another STOMP.
-Needs Python 3 alone; the gate does not run it.
 
     python3 tests/program/ping.py [PROGRAM]
-
-PROGRAM is the built program; without it, the one that bin/stompd leaves in crates/stompd/out.
 """
 
 import concurrent.futures
@@ -22,7 +19,7 @@ import time
 
 from lib.commands import FULL, NOBODY, UNWRITTEN, run_for_text, told
 from lib.fake_peer import CONNECT, CONNECTED, Peer, answering, close, closing, connected, ending, nothing, receipt_of, receipted, saying
-from lib.scenario import BUILT, Checks, built_program, free_port, serving, words_of
+from lib.scenario import free_port, serving, try_parts
 from lib.stomp_client import Client, Closed, Refused
 from lib.wire import BINARY, CLOSE, PING, TEXT, handshake
 
@@ -333,14 +330,5 @@ def other_servers(program, checks):
         thread.join()
 
 
-def main():
-    program = built_program(words_of(__doc__, BUILT).parse_args())
-    checks, start = Checks(), time.monotonic()
-    for trial in (ports, hosts, running, full, other_servers, what_is_said, peers):
-        trial(program, checks)
-    print(f"ping: {checks.failed} failed, {time.monotonic() - start:.0f} s")
-    return checks.status()
-
-
 if __name__ == "__main__":
-    sys.exit(main())
+    sys.exit(try_parts(__doc__, (ports, hosts, running, full, other_servers, what_is_said), (peers,)))

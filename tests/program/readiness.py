@@ -200,7 +200,7 @@ def reads_in_vain(program, checks):
 
 
 def main():
-    program, checks = scenario.words_of(__doc__).parse_args().program, scenario.Checks()
+    program, checks = scenario.program_of(__doc__), scenario.Checks()
     scenarios = [
         the_end_comes_with_bytes, a_handshake_ends_within, a_handshake_fills_a_read, a_reset_comes_with_bytes, bytes_fill_reads, bytes_come_in_between,
         bytes_come_unread

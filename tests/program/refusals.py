@@ -1,17 +1,15 @@
 #!/usr/bin/env python3
 """Asks a running server for what is no WebSocket, or none that it gives, and reads the answers to their end: the status, the
 fields that belong to it, and a text of the length that is named. What is expected stands in RFC 6455 (sections 4.2 and 4.4), RFC 9110
-(sections 9.3.2, 15.5.6 and 15.5.22) and RFC 9112 (section 3.2). No answer is lost in a reset, however much of a request is unread. Needs Python 3 alone; the gate does not run it.
+(sections 9.3.2, 15.5.6 and 15.5.22) and RFC 9112 (section 3.2). No answer is lost in a reset, however much of a request is unread.
 
     python3 tests/program/refusals.py [PROGRAM]
-
-PROGRAM is the built program; without it, the one that bin/stompd leaves in crates/stompd/out.
 """
 
 import socket
 import sys
 
-from lib.scenario import BUILT, BriefChecks, built_program, serving, words_of
+from lib.scenario import BriefChecks, program_of, serving
 from lib.wire import stomp_bytes
 
 KEY = "Sec-WebSocket-Key: dGhlIHNhbXBsZSBub25jZQ=="
@@ -125,7 +123,7 @@ def faults(head, body, status, has_content):
 
 
 def main():
-    program = built_program(words_of(__doc__, BUILT).parse_args())
+    program = program_of(__doc__)
     checks = BriefChecks(program)
 
     def check(port, what, asked, status):

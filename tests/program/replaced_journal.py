@@ -1,5 +1,5 @@
 #!/usr/bin/env python3
-"""Takes the file of a running server's journal away, or puts another in its place, and looks what the server does. Needs Python 3 alone.
+"""Takes the file of a running server's journal away, or puts another in its place, and looks what the server does.
 
     python3 tests/program/replaced_journal.py [PROGRAM]
 
@@ -25,7 +25,7 @@ import threading
 import time
 
 from lib.commands import held_or_fault
-from lib.scenario import BUILT, Broker, Checks, built_program, make_journal, words_of
+from lib.scenario import Broker, Checks, make_journal, program_of
 from lib.stomp_client import Client, Closed
 
 # Two areas of 64 KiB.
@@ -324,7 +324,7 @@ def nothing_lost(program, folder, checks):
 
 
 def main():
-    program, checks = built_program(words_of(__doc__, BUILT).parse_args()), Checks()
+    program, checks = program_of(__doc__), Checks()
     tasks = [(lose, loss, is_busy) for loss in LOSSES for is_busy in (False, True) if not (is_busy and loss[0] in AT_REST)]
     tasks += [(link_led_elsewhere,), (header_before_a_compaction,), (header_at_rest,), (nothing_lost,)]
     tasks += [(sent_after_it, loses) for loses in (removed, removed_beside_others, renamed_over, truncated, overwritten_by_a_backup)]

@@ -7,8 +7,6 @@ Needs Linux and Python 3 alone; the gate does not run it.
 - With --new a first start makes the journal and serves it. Without it a missing journal ends it, with a line that says how to make one.
 - A program that is missing, a port that is none and words that the program does not know are refused.
 - SIGTERM ends it with status 143, SIGINT with 130, SIGHUP with 129, at whatever moment, and no server of it is left.
-- Of two first starts at once on one file one serves, the other ends since it is locked, and neither replaces the other's journal.
-- What a killed first start has left is not taken for a journal, nor does it stand in the way of the next start.
 - What the server writes to standard error is there at once, and the options are passed on. It has the settings of the C library, and as many
   descriptors as there may be.
 - Nothing of it stays in the temporary folder.
@@ -17,8 +15,7 @@ Needs Linux and Python 3 alone; the gate does not run it.
 - It goes on if nobody reads what is logged any more, serves though standard error was full before, and ends in good order if a signal comes
   to all of its process group. If it is killed, its server ends in good order.
 
-PROGRAM is the built program; without it, the one that bin/stompd leaves in crates/stompd/out. With --few there are fewer moments and pairs, since each
-first start writes 512 MiB.
+With --few there are fewer moments.
 """
 
 import contextlib
@@ -30,13 +27,12 @@ import resource
 import select
 import shutil
 import signal
-import socket
 import subprocess
 import sys
 import tempfile
 import time
 
-from lib.scenario import BUILT, TOP, BriefChecks, built_program, free_port, words_of
+from lib.scenario import TOP, BriefChecks, free_port, words_of
 from lib.stomp_client import Client
 
 SERVE = TOP / "bin" / "serve"
@@ -53,15 +49,14 @@ OPENING = re.compile(r"stompd: opening the journal, \d+ s so far$")
 PATIENCE = 120
 # For how long the script waits for a server that it ends, in seconds.
 GRACE = 8
-# Signals at random moments, and pairs of first starts.
-MOMENTS, PAIRS = 40, 20
-FEW_MOMENTS, FEW_PAIRS = 5, 2
+# Signals at random moments.
+MOMENTS, FEW_MOMENTS = 40, 5
 
 
 class Checks(BriefChecks):
     def __init__(self, program, folder, has_few):
         super().__init__(program, folder)
-        self.moments, self.pairs = (FEW_MOMENTS, FEW_PAIRS) if has_few else (MOMENTS, PAIRS)
+        self.moments = FEW_MOMENTS if has_few else MOMENTS
 
     def stand_in(self, text):
         """A program that begins with these lines of shell, and goes on as the built one."""
@@ -174,29 +169,11 @@ def words_and_programs(checks):
         usage = "bin/serve [--proved] [--new] [FILE [PORT [OPTION..]]]\n"
         expected = (0, usage, "") if where == "stdout" else (2, "", f"serve: {usage}")
         checks.same(f"{words} print how it is called", (done.returncode, done.stdout, done.stderr), expected)
-    for words in (["--port"], [file, "eighty"], [file, "0"], [file, "70000"], [file, "080800"], [file, "80", "x"], [file, "80", "--origin"], [file, "80", "--threads"], [file, "80", "--memory"], [file, "80", "--origin", "o", "p"]):
+    for words in (["--port"], [file, "eighty"], [file, "80", "--origin", "o", "p"]):
         checks.same(f"{words} are refused", Start(checks.program, *words).end()[0], 2)
-    status, logged = Start(checks.program, file, free_port(), "--origin", "https://chat.example/").end()
-    checks.check("an origin that no browser sends is refused", status == 2 and "SCHEME://HOST" in logged, (status, logged))
-    with socket.socket() as taken:
-        taken.bind(("127.0.0.1", 0))
-        taken.listen()
-        port = taken.getsockname()[1]
-        status, logged = Start(checks.program, "--new", file, port).end()
-        checks.same("a port in use is reported", (status, logged), (1, f"stompd: cannot open: port {port}: another program listens there\n"))
     status, logged = Start(checks.program, file, free_port()).end()
     checks.check("a missing journal is not made unasked, and the line says how it is made", status == 1 and "there is no such file" in logged and "--new" in logged, (status, logged))
     checks.same("and nothing is made", list(file.parent.iterdir()), [])
-    link = file.parent / "link"
-    link.symlink_to(file.parent / "nothing")
-    status, logged = Start(checks.program, "--new", link, free_port()).end()
-    checks.check("a link to nothing is refused, and stays", (status, link.is_symlink(), link.exists()) == (1, True, False), (status, logged))
-    link.unlink()
-    nowhere = file.parent / "none" / "rooms.journal"
-    status, logged = Start(checks.program, "--new", nowhere, free_port()).end()
-    checks.check("a folder that isn't there is reported", status == 1 and "there is no such folder" in logged, (status, logged))
-    status, logged = Start(checks.program, "--new", file.parent, free_port()).end()
-    checks.check("so is a folder in the place of a file", status == 1 and "it is a directory" in logged, (status, logged))
 
 
 def a_first_start(checks):
@@ -237,42 +214,6 @@ def signals_at_any_moment(checks):
         status, _ = start.end(random.choice([None, sent]))
         checks.check(f"{sent.name} at moment {number}", status in (STATUSES[sent], -sent), status)
         wait_until(lambda: not running_over(file))
-
-
-def two_first_starts(checks):
-    for number in range(checks.pairs):
-        file, ports = new_file(checks), (free_port(), free_port())
-        starts = [Start(checks.program, "--new", file, port) for port in ports]
-        wait_until(file.exists)
-        inode = file.stat().st_ino
-        serving = [start.listens() for start in starts]
-        checks.same(f"one of two serves, pair {number}", sorted(serving), [False, True])
-        if sorted(serving) != [False, True]:
-            [start.kill_all() for start in starts]
-            continue
-        publish(ports[serving.index(True)], "kept")
-        loser = starts[serving.index(False)].end()
-        checks.check(f"the other reports the lock, pair {number}", loser[0] == 1 and "lock" in loser[1].splitlines()[-1], loser)
-        checks.same(f"one journal, pair {number}", (file.stat().st_ino, beside(file)), (inode, []))
-        checks.same(f"the first one ends, pair {number}", starts[serving.index(True)].end(signal.SIGTERM)[0], 143)
-        again = Start(checks.program, file, ports[0])
-        checks.check(f"it is served again, pair {number}", again.listens())
-        checks.same(f"with what was sent, pair {number}", found_in(ports[0]), ["kept"])
-        checks.same(f"and ends, pair {number}", again.end(signal.SIGTERM), (143, ""))
-
-
-def a_killed_first_start(checks):
-    file, port = new_file(checks), free_port()
-    start = Start(checks.program, "--new", file, port)
-    wait_until(lambda: beside(file))
-    start.kill_all()
-    checks.check("it has left no half a journal", beside(file) and not file.exists() or file.exists(), beside(file))
-    again = Start(checks.program, "--new", file, port)
-    checks.check("the next start makes one, or serves the whole one", again.listens())
-    checks.same("and leaves nothing beside it", beside(file), [])
-    publish(port, "kept")
-    checks.same("and keeps what is sent", found_in(port), ["kept"])
-    again.kill_all()
 
 
 def what_the_server_logs(checks):
@@ -484,8 +425,6 @@ SCENARIOS = [
     words_and_programs,
     a_first_start,
     signals_at_any_moment,
-    two_first_starts,
-    a_killed_first_start,
     what_the_server_logs,
     servers_that_end_late,
     nobody_reads,
@@ -509,11 +448,11 @@ def try_one(checks, scenario):
 
 
 def main():
-    parser = words_of(__doc__, BUILT)
-    parser.add_argument("--few", action="store_true", help="fewer moments and pairs")
+    parser = words_of(__doc__)
+    parser.add_argument("--few", action="store_true", help="fewer moments")
     words = parser.parse_args()
     with tempfile.TemporaryDirectory(prefix="stompd-serve-") as folder:
-        checks = Checks(built_program(words), pathlib.Path(folder), words.few)
+        checks = Checks(words.program, pathlib.Path(folder), words.few)
         for scenario in SCENARIOS:
             try_one(checks, scenario)
     return checks.status()

@@ -71,10 +71,10 @@ def lost_in_line(broker, checks):
 
 
 def main():
-    program, checks = scenario.words_of(__doc__).parse_args().program, scenario.Checks()
+    program, checks = scenario.program_of(__doc__), scenario.Checks()
     for one in (backlog, lost_in_line):
         with tempfile.TemporaryDirectory() as folder, scenario.serving(program, env=scenario.slow_syncs(folder, SYNCS_HELD=f"{folder}/held")) as broker:
-            one(broker, checks)
+            scenario.try_one(one, broker, checks)
     return checks.status()
 
 

@@ -19,7 +19,7 @@ import sys
 import tempfile
 
 from lib.commands import held_or_fault, run
-from lib.scenario import BUILT, Broker, Checks, Unserved, built_program, make_journal, words_of
+from lib.scenario import Broker, Checks, Unserved, make_journal, program_of
 from lib.stomp_client import Client
 from lib.tracing import need_strace, strace, text_of
 
@@ -124,7 +124,7 @@ def tear_what_is_written_back(program, folder, journal, checks):
 
 
 def main():
-    program, checks = built_program(words_of(__doc__, BUILT).parse_args()), Checks()
+    program, checks = program_of(__doc__), Checks()
     checks.is_brief = True
     need_strace()
     with tempfile.TemporaryDirectory(prefix="start-") as name:

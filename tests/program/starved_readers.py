@@ -137,7 +137,7 @@ def send_many(sender, many):
 
 def read_while_their_worker_starves(broker, checks):
     """nobody is disconnected whose worker alone gets little of the processors"""
-    with scenario.serving(broker.program, kind=lambda *words: scenario.Broker(*words, more=("--threads", "2"))) as two:
+    with scenario.serving(broker.program, more=("--threads", "2")) as two:
         clients, sender = seated_together(two)
         for it in clients:
             it.subscribe("s", TOPIC)

@@ -1,10 +1,8 @@
 #!/usr/bin/env python3
 """Runs the built program on good and bad words, files and ports, and compares its status and what it writes to standard
-output and standard error with what docs/CLI.md says. Needs Python 3 alone; the gate does not run it.
+output and standard error with what docs/CLI.md says.
 
     python3 tests/program/statuses.py [PROGRAM]
-
-PROGRAM is the built program; without it, the one that bin/stompd leaves in crates/stompd/out.
 """
 
 import errno
@@ -22,7 +20,7 @@ import tempfile
 import time
 
 from lib.old_journal import area, journal, open_operation, record, send_operation, subscribe_operation
-from lib.scenario import BUILT, BriefChecks, built_program, free_port, words_of
+from lib.scenario import BriefChecks, free_port, program_of
 
 # What may be written: just this text, some text that is not ours to say, or nothing. Of None nothing is looked at.
 SOME = object()
@@ -142,7 +140,9 @@ def formats(checks, folder):
 
 def unfinished(checks, folder):
     """Each command that makes a file leaves what is there under its name, and under the name with which it is made: one that is locked, or that somebody may need."""
-    made, draft = folder / "draft", folder / "draft.new"
+    room = folder / "room"
+    room.mkdir()
+    made, draft = room / "draft", room / "draft.new"
     foreign = unopened(draft, "it is there, and no unfinished journal; rename or remove it")
     there, is_locked = unopened(made, "it is there already"), unopened(draft, "it is locked, since another stompd makes the file")
     drafts = [(lambda data=data: draft.write_bytes(data), draft.unlink, foreign) for data in (b"mine", b"STOMPJ02", bytes(7) + b"x")]
@@ -152,9 +152,9 @@ def unfinished(checks, folder):
         words = [str(it) for it in words]
         for make, remove, text in drafts + (taken if words[0] != "serve" else []):
             make()
-            before = state(folder)
+            before = state(room)
             checks.run(words, 1, NOTHING, text)
-            checks.same(f"{words[0]}: what is there stays", state(folder), before)
+            checks.same(f"{words[0]}: what is there stays", state(room), before)
             remove()
         with draft.open("wb") as lock:
             fcntl.flock(lock, fcntl.LOCK_EX)
@@ -363,6 +363,17 @@ def new_journals(checks, folder, port):
     checks.check("so has a copy", copy.stat().st_blocks * 512 >= LIMITED, copy.stat().st_blocks)
     checks.check("only its owner may read it", made.stat().st_mode & 0o777 == 0o600, oct(made.stat().st_mode))
     checks.check("a journal that is there keeps its size", zeros.stat().st_size == SMALLEST)
+    for number in range(4):
+        both = folder / f"both {number}"
+        starts = [subprocess.Popen([checks.program, "serve", both, str(free_port()), "--new", "9kib"], stdout=subprocess.PIPE, stderr=subprocess.PIPE) for _ in range(2)]
+        listening = [bool(it.stdout.readline()) for it in starts]
+        checks.same("of two that make a journal at once one serves", sorted(listening), [False, True])
+        for one, listens in zip(starts, listening):
+            if listens:
+                one.kill()
+            said = one.communicate(timeout=60)[1].decode().splitlines()[-1]
+            checks.check("and the other tells of the lock", listens or (one.returncode == 1 and "lock" in said), (one.returncode, said))
+        checks.run(["held", str(both)], 0, EMPTY, NOTHING)
     zeros.write_bytes(before)
 
 
@@ -402,7 +413,7 @@ def words(checks, folder):
 
 
 def main():
-    checks = Checks(built_program(words_of(__doc__, BUILT).parse_args()))
+    checks = Checks(program_of(__doc__))
     with tempfile.TemporaryDirectory() as name:
         folder = pathlib.Path(name)
         scripts(checks)

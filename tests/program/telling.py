@@ -1,5 +1,5 @@
 #!/usr/bin/env python3
-"""Looks at the lines that a server tells its operator, and that a client's names get into none of them. Needs Python 3 alone.
+"""Looks at the lines that a server tells its operator, and that a client's names get into none of them.
 
     python3 tests/program/telling.py [PROGRAM]
 
@@ -247,13 +247,5 @@ def slow(program, checks):
         checks.same("the server tells it", server.told("outbox"), ["gave up 1 clients whose outbox was full"])
 
 
-def main():
-    program = scenario.words_of(__doc__).parse_args().program
-    checks = scenario.Checks()
-    for part in (starts, threads, counts, names, around_the_limit, topics, errors, alone, slow):
-        scenario.try_one(part, program, checks)
-    return checks.status()
-
-
 if __name__ == "__main__":
-    sys.exit(main())
+    sys.exit(scenario.try_parts(__doc__, (starts, threads, counts, names, around_the_limit, topics, errors, alone, slow)))

@@ -29,7 +29,7 @@ import tempfile
 import threading
 import time
 
-from lib.scenario import BUILT, built_program, child_of, free_port, words_of
+from lib.scenario import child_of, free_port, program_of
 from lib.stomp_client import Client
 
 AREA = 65_536
@@ -407,7 +407,7 @@ def second_run(program, folder, path):
 
 
 def main():
-    program = built_program(words_of(__doc__, BUILT).parse_args())
+    program = program_of(__doc__)
     if shutil.which("strace") is None:
         print("trace_serve: strace is missing", file=sys.stderr)
         sys.exit(2)

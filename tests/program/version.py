@@ -103,7 +103,7 @@ def of_this_checkout(program, checks):
 
 
 def main():
-    program = scenario.words_of(__doc__).parse_args().program
+    program = scenario.program_of(__doc__)
     checks = scenario.Checks()
     with tempfile.TemporaryDirectory(prefix="version-") as folder:
         notes(program, pathlib.Path(folder), checks)

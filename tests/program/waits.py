@@ -2,7 +2,7 @@
 """Looks for a wake-up that is lost: 640 clients send with random pauses, some to a topic that others hear, and nobody may wait over three quarters of a
 second, for a receipt or for a message. (The flusher looks by itself each second, which would heal a lost wake-up.) Some send a burst, of which only the
 last SEND asks for a receipt: it waits for room in its window, which the mark gives. First four clients, each at a desk of another worker if there are so
-many, send such bursts one after another, so that nothing but the mark wakes the worker. Needs Python 3 alone.
+many, send such bursts one after another, so that nothing but the mark wakes the worker.
 
     python3 tests/program/waits.py [PROGRAM] [--minutes N] [--clients N] [--seed N]
 
