@@ -19,7 +19,7 @@ export type State = "connecting" | "open" | "lost" | "refused" | "closed";
 export interface StateDetail {
   /** The close code of the WebSocket, or 1006 if it had none. Missing if the module abandoned a silent connection. */
   code?: number;
-  /** Milliseconds until the next try. */
+  /** Milliseconds until the next try. Missing if the page was left or is frozen: the client connects again when it is shown or resumed. */
   pause?: number;
   /** The `message` of the broker's ERROR, the time-out for which the module abandoned the connection, or why a function gave no answer. */
   reason?: string | null;
@@ -81,6 +81,9 @@ export interface Message {
 
 export interface SubscribeOptions {
   ack?: "auto" | "client" | "client-individual";
+  /** Milliseconds from a message's arrival to its acknowledgement. After these the client closes its connection, so that the broker gives all that is
+   *  unacknowledged to others, and connects again. Not for `auto`. It goes by the page's own timers. */
+  ackWithin?: number;
   /** The name of a durable subscription of a topic; the client needs a `clientId`. */
   durable?: string;
   id?: string;

@@ -41,16 +41,36 @@ class Message {
     if (this.headers.ack === undefined) throw unsent("a message of an auto subscription is not acknowledged");
     if (!client.isOpen(this.#link)) throw unsent("the session that this message came in is over");
     if (this.#subscription.isEnded) throw unsent("the subscription that this message came for has ended");
-    return [command, { id: this.headers.ack }];
+    return [command, { id: this.headers.ack }, "", this];
   }
+  settle() { this.#subscription.settle(this); }
 }
 
 class Subscription {
   /* Contested: its durable name was in use when it was last asked for. */
   isReady = false; isEnded = false; isContested = false;
-  constructor(client, id, headers, heard) {
-    Object.assign(this, { client, id, headers, heard });
+  /* The timers of messages that are not acknowledged yet. */
+  #held = new Map();
+  constructor(client, id, headers, heard, ackWithin) {
+    Object.assign(this, { client, id, headers, heard, ackWithin });
     this.ready = leavable(new Promise((resolve, reject) => Object.assign(this, { resolve, reject })));
+  }
+  /* Has a message until it is acknowledged, or for `ackWithin`. */
+  hold(message, isLate) { this.#held.set(message, after(this.ackWithin, isLate)); }
+  /* An acknowledgement in the mode `client` is one of earlier messages too. */
+  settle(message) {
+    if (!this.#held.has(message)) return;
+    for (const [it, timer] of this.#held) {
+      if (it !== message && this.headers.ack != "client") continue;
+      clearTimeout(timer);
+      this.#held.delete(it);
+      if (it === message) return;
+    }
+  }
+  /* What it held comes again, or is another's. */
+  letGo() {
+    for (const timer of this.#held.values()) clearTimeout(timer);
+    this.#held.clear();
   }
   end() {
     const link = this.client.drop(this);
@@ -147,6 +167,7 @@ class Link {
     const frames = post.make(), [command, headers, body] = frames.at(-1), receipt = numbered(++this.#count);
     this.write([...frames.slice(0, -1), [command, { ...headers, receipt }, body]]);
     this.#asked.set(receipt, post);
+    for (const [, , , message] of frames) message?.settle();
     this.#isToldLast = false;
   }
   /* Is over, by itself or since it is left. An engine may wait long for the end of a dead socket, so nobody waits for it here. */
@@ -205,6 +226,8 @@ class Link {
 
 class Client {
   #url; #options; #link; #timer; #pause; #count = 0; #isWanted = true;
+  /* Whether its page was left or is frozen, and what ends the listening for that. */
+  #isAway = false; #page = new AbortController();
   /* Why the session was refused, whether by what is not asked again, and when that was so last. */
   #refusal; #isSettled; #settledAt = -Infinity;
   #subscriptions = new Map(); #waiting = new Set(); #closing = [];
@@ -216,6 +239,7 @@ class Client {
     this.#pause = this.#options.shortestPause;
     if (!isFunction(this.#options.WebSocket)) throw unsent(NO_WEBSOCKET);
     connectFrame(this.#options.clientId, {});
+    this.#watchPage();
     this.#start();
   }
 
@@ -238,10 +262,10 @@ class Client {
       return false;
     }
   }
-  subscribe(destination, heard, { ack = "auto", durable, id = `subscription ${++this.#count}`, headers = {} } = {}) {
+  subscribe(destination, heard, { ack = "auto", ackWithin, durable, id = `subscription ${++this.#count}`, headers = {} } = {}) {
     if (this.#subscriptions.has(id)) throw unsent(`there is a subscription ${id}`);
     const name = durable === undefined ? {} : { "activemq.subscriptionName": durable };
-    const subscription = new Subscription(this, id, { ...given(headers), destination: String(destination), ack, ...name }, heard);
+    const subscription = new Subscription(this, id, { ...given(headers), destination: String(destination), ack, ...name }, heard, ackWithin);
     this.#subscriptions.set(id, subscription);
     if (this.#isWanted) this.#ask(subscription); else this.drop(subscription);
     return subscription;
@@ -253,7 +277,7 @@ class Client {
       await work(made);
       this.#hasRoom();
       await this.ask(() => {
-        const members = made.makers.map(make => make()).map(([command, headers, body]) => [command, { ...headers, transaction }, body]);
+        const members = made.makers.map(make => make()).map(([command, headers, ...rest]) => [command, { ...headers, transaction }, ...rest]);
         return [["BEGIN", { transaction }], ...members, ["COMMIT", { transaction }]];
       });
     })());
@@ -288,11 +312,31 @@ class Client {
   drop(subscription) {
     if (this.#subscriptions.get(subscription.id) !== subscription) return null;
     this.#reject(subscription, unsent("the subscription was ended before it was ready"));
+    subscription.letGo();
     if (!this.session) return null;
     this.#link.ending.push(subscription);
     return this.#link;
   }
 
+  /* A browser may keep a page that was left, with its connection: the page would hold its messages and names, and settle none. */
+  #watchPage() {
+    const on = (target, name, act) => target?.addEventListener?.(name, act, { signal: this.#page.signal });
+    on(globalThis, "pagehide", () => this.#leave());
+    on(globalThis, "pageshow", () => this.#return());
+    on(globalThis.document, "freeze", () => this.#leave());
+    on(globalThis.document, "resume", () => this.#return());
+  }
+  #leave() {
+    if (this.#isAway || !this.#isWanted) return;
+    this.#isAway = true;
+    clearTimeout(this.#timer);
+    this.#link.end({ reason: "the page was left" });
+  }
+  #return() {
+    if (!this.#isAway || !this.#isWanted) return;
+    this.#isAway = false;
+    this.#start();
+  }
   #start() {
     this.#refusal = this.#isSettled = null;
     this.#tell("connecting");
@@ -327,6 +371,7 @@ class Client {
     try {
       checked(["SUBSCRIBE", { ...headers, id }], { receipt: NUMBER });
       if (!MODES.includes(headers.ack)) throw refused(`E20 bad header value: ack is ${MODES.join(", ")}`);
+      if (subscription.ackWithin !== undefined && headers.ack == "auto") throw unsent("ackWithin is for ack: \"client\" or \"client-individual\"");
       if (this.#subscriptions.size > MOST_SUBSCRIPTIONS) throw refused(`E18 too many subscriptions: ${MOST_SUBSCRIPTIONS} are the most`);
       if (name && !this.isNamed && headers.destination.startsWith("/topic/")) throw refused(NAMELESS);
     } catch (error) {
@@ -367,7 +412,9 @@ class Client {
     const link = this.#link, id = headers.subscription, ending = link.ending.find(it => it.id == id), subscription = ending ?? this.#subscriptions.get(id);
     // What was on its way to one that is ended is heard if it left the broker; else it comes again.
     if (!subscription || (ending && headers.ack !== undefined)) return;
-    this.#call(() => subscription.heard(new Message(this, link, subscription, headers, body)), subscription);
+    const message = new Message(this, link, subscription, headers, body), { ackWithin } = subscription;
+    if (headers.ack !== undefined) subscription.hold(message, () => link.end({ reason: `a message was not acknowledged within ${ackWithin} ms` }));
+    this.#call(() => subscription.heard(message), subscription);
   }
   /* What was asked after a refused one waits for the next session. */
   #isRefused(post, later, error) {
@@ -377,8 +424,10 @@ class Client {
     this.#isSettled = post !== undefined && ![...this.#subscriptions.values()].some(it => it.isContested);
   }
   #isOver(posts, detail) {
+    this.#subscriptions.forEach(it => it.letGo());
     for (const it of posts) it.reject(new StompdError("unknown", `the connection was lost (${detail.code ?? detail.reason}) before the receipt`));
     if (!this.#isWanted) return this.#isClosed(detail);
+    if (this.#isAway) return this.#tell("lost", detail);
     const pause = this.#nextPause();
     this.#timer = setTimeout(() => this.#start(), pause);
     this.#tell(this.#refusal ? "refused" : "lost", { pause, reason: this.#refusal, ...detail });
@@ -398,6 +447,7 @@ class Client {
   }
   #isClosed(detail) {
     clearTimeout(this.#timer);
+    this.#page.abort();
     for (const it of this.#waiting) clearTimeout(it.timer);
     for (const it of [...this.#waiting, ...this.#subscriptions.values()]) it.reject(unsent("the client is closed"));
     this.#waiting.clear();
