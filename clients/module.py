@@ -26,6 +26,7 @@ import traceback
 import module_faults
 import module_limits
 import module_pages
+import module_waits
 from chromium import BROWSERS, Browser
 from fake_broker import Relay
 from lib import scenario
@@ -40,14 +41,16 @@ MOST_SECONDS = 90
 WORDS = """
 const late = () => new Promise(resolve => setTimeout(resolve, 20000, "nothing in 20 s"));
 globalThis.outcome = promise => Promise.race([promise.then(() => "resolved", error => error.kind ?? error.message), late()]);
+globalThis.how = promise => promise.then(() => "taken", ({ kind, code, message }) => [kind, code, message.startsWith(`${code} `)]);
 globalThis.soon = async (holds, seconds = 15) => {
   for (const end = Date.now() + 1000 * seconds; Date.now() < end && !holds();) await new Promise(resolve => setTimeout(resolve, 10));
   return holds();
 };
 globalThis.open = (options = {}, url = URL_) => {
   const states = [], errors = [], onstate = (state, { pause, reason }) => states.push([state, pause, reason]);
-  const client = connect(url, { onstate, onerror: (...told) => errors.push(told), ...options });
-  return Object.assign(client, { states, errors });
+  const fulls = [], onfull = (full, pause) => fulls.push([full, pause ?? null]);
+  const client = connect(url, { onstate, onfull, onerror: (...told) => errors.push(told), ...options });
+  return Object.assign(client, { states, errors, fulls });
 };
 globalThis.unhandled = [];
 globalThis.process?.on("unhandledRejection", error => unhandled.push(String(error)));
@@ -391,7 +394,7 @@ def a_program_ends(program, folder, ws, checks):
             checks.check(f"a program ends with its client: {kind}", process.returncode == 0, (process.returncode, told[-300:]))
 
 
-TRIALS = [what_promises_say, *module_limits.TRIALS, *module_pages.REAL, around_refusals, silences, work_is_done, durable_ones, a_lost_one_is_unknown, page_says_why, kills_under_load]
+TRIALS = [what_promises_say, *module_limits.TRIALS, *module_pages.REAL, *module_waits.REAL, around_refusals, silences, work_is_done, durable_ones, a_lost_one_is_unknown, page_says_why, kills_under_load]
 
 
 def run_trial(trial, engine, *more):
@@ -423,7 +426,7 @@ def try_engine(kind, folder, words, checks):
     try:
         engine.value(WORDS)
         if words.only != "real":
-            for trial in chosen(words, module_faults.TRIALS + module_pages.FAKE + (module_pages.FAKE_OF_PAGES if kind is Chromium else [])):
+            for trial in chosen(words, module_faults.TRIALS + module_waits.FAKE + module_pages.FAKE + (module_pages.FAKE_OF_PAGES if kind is Chromium else [])):
                 run_trial(trial, engine, checks)
         if words.only != "fake":
             try_over_the_broker(engine, words, checks)

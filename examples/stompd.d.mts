@@ -45,13 +45,15 @@ export interface ConnectOptions {
   /** How long the broker may be silent while it connects or owes an answer (15,000); at most twice that. After such a silence an idle connection is
    *  probed, and lost without an answer. */
   answerTimeout?: number;
-  /** How long something waits for a connection before it is `unsent` (60,000). */
+  /** How long something waits for a connection, or for room, before it is `unsent` (60,000), counted from its call. */
   waitTimeout?: number;
   /** How long `close` waits for the broker (5,000). */
   closeTimeout?: number;
   /** How many sends and transactions may be unanswered (10,000); a further one is `unsent`. */
   mostWaiting?: number;
   onstate?: (state: State, detail: StateDetail) => void;
+  /** Is called when `full` has changed; with a pause in milliseconds if another destination has none. */
+  onfull?: (full: readonly string[], pause?: number) => void;
   /** Gets errors without a promise: those of a listener or `onstate`, of a refused `tell`, and each refusal of a subscription, with the subscription.
    *  By default these go to the console. */
   onerror?: (error: unknown, subscription?: Subscription) => void;
@@ -114,6 +116,9 @@ export interface Client {
   readonly state: State;
   /** The open session. */
   readonly session: string | null;
+  /** The destinations that had no room (E12), while the client sends nothing there: first for the shortest pause, and twice as long each time that follows.
+   *  Sends and transactions that waited to go there were rejected with it; later ones wait. If several are full, all sends wait. Listening goes on. */
+  readonly full: readonly string[];
   /** Resolves at the receipt: the message is in the journal. Without a connection it waits for one. It is never carried out twice: it is sent again
    *  only if the broker refused something before it, and so dropped it. */
   send(destination: string, body?: Body, headers?: Headers): Promise<void>;

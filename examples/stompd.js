@@ -10,7 +10,9 @@ const { StompdError, checked, connectFrame, encoder, given, numbered, operationS
 const NOTHING = () => {};
 /* What each option and call means stands in stompd.d.mts. */
 const TIMES = { shortestPause: 500, longestPause: 8_000, answerTimeout: 15_000, waitTimeout: 60_000, closeTimeout: 5_000 };
-const DEFAULTS = { ...TIMES, mostWaiting: 10_000, headers: {}, protocols: [], onstate: NOTHING, onerror: error => console.error(error) };
+const DEFAULTS = { ...TIMES, mostWaiting: 10_000, headers: {}, protocols: [], onstate: NOTHING, onfull: NOTHING, onerror: error => console.error(error) };
+/* Where a NACK puts what it refuses. */
+const DEAD = "/queue/dead";
 const NO_WEBSOCKET = "there is no WebSocket: use Node 22, start Node 20 with --experimental-websocket, or give connect that of the package ws";
 const NAMELESS = "E13 durable subscription without a clientId";
 /* Bytes that may wait in a socket before what is only told is left out. */
@@ -26,6 +28,19 @@ const isFunction = it => typeof it == "function";
 /* A timer. One of more than 24 days, such as `Infinity`, never fires. */
 const after = (milliseconds, act) => milliseconds < 2 ** 31 ? setTimeout(act, milliseconds) : undefined;
 
+/* Pauses that double. Each is up to a quarter shorter or longer, so that many clients that were lost together come back one after another. */
+class Pauses {
+  #next; #options;
+  constructor(options) { this.#options = options; this.reset(); }
+  reset() { this.#next = this.#options.shortestPause; }
+  get shortestNow() { return this.#next; }
+  next() {
+    const pause = this.#next * (0.75 + Math.random() / 2);
+    this.#next = Math.min(2 * this.#next, this.#options.longestPause);
+    return pause;
+  }
+}
+
 /* What came for a subscription. */
 class Message {
   #client; #link; #subscription;
@@ -35,7 +50,7 @@ class Message {
   }
   get bytes() { return typeof this.body == "string" ? encoder.encode(this.body) : this.body; }
   ack() { return this.#client.ask(() => [this.frame("ACK", this.#client)]); }
-  nack() { return this.#client.ask(() => [this.frame("NACK", this.#client)]); }
+  nack() { return this.#client.ask(() => [this.frame("NACK", this.#client)], { destinations: [DEAD], makesRoom: true }); }
   /* An acknowledgement belongs to the connection that the message came by, and to its subscription. After these it comes again, or is another's. */
   frame(command, client) {
     if (this.headers.ack === undefined) throw unsent("a message of an auto subscription is not acknowledged");
@@ -80,46 +95,49 @@ class Subscription {
       return [["UNSUBSCRIBE", { id: this.id }]];
     };
     // If its session ends first, so does it.
-    return leavable(this.client.ask(make, () => link.forget(this)).catch(error => { if (error.kind == "refused") throw error; }));
+    return leavable(this.client.ask(make, { accepted: () => link.forget(this) }).catch(error => { if (error.kind == "refused") throw error; }));
   }
   giveUp() {
     const name = this.headers["activemq.subscriptionName"];
     if (name === undefined) return leavable(Promise.reject(unsent("only a durable subscription has a name to give up")));
     if (!this.client.isNamed) return leavable(Promise.reject(refused(NAMELESS)));
     const link = this.client.drop(this);
-    return this.client.ask(() => [["UNSUBSCRIBE", { id: this.id, "activemq.subscriptionName": name }]], () => link?.forget(this));
+    return this.client.ask(() => [["UNSUBSCRIBE", { id: this.id, "activemq.subscriptionName": name }]], { accepted: () => link?.forget(this) });
   }
 }
 
-/* What a transaction is made of. */
+/* What a transaction is made of, where it sends to, and whether it acknowledges. */
 class Transaction {
   #size = 0;
-  constructor(client) { Object.assign(this, { client, makers: [] }); }
+  constructor(client) { Object.assign(this, { client, makers: [], destinations: [], makesRoom: false }); }
   send(destination, body, headers = {}) {
     const frame = sendFrame(destination, body, headers, { transaction: NUMBER });
-    this.#add(operationSize(frame), () => frame);
+    this.#add(operationSize(frame), () => frame, frame[1].destination);
   }
-  ack(message) { this.#add(9, () => message.frame("ACK", this.client)); }
-  nack(message) { this.#add(9, () => message.frame("NACK", this.client)); }
-  #add(size, make) {
+  ack(message) { this.#settle("ACK", message); }
+  nack(message) { this.#settle("NACK", message, DEAD); }
+  #settle(command, message, destination) {
+    this.#add(9, () => message.frame(command, this.client), destination);
+    this.makesRoom = true;
+  }
+  #add(size, make, destination) {
     if (this.makers.length >= MOST_MEMBERS) throw refused(`E17 transaction too large: it has ${MOST_MEMBERS} members, which are the most`);
     this.#size += size;
     if (this.#size > MOST_OPERATIONS) throw refused(`E17 transaction too large: ${this.#size} bytes, and ${MOST_OPERATIONS} are the most`);
     this.makers.push(make);
+    if (destination) this.destinations.push(destination);
   }
 }
 
-/* What is told has no answer unless it is refused. */
-const TOLD = { isTold: true, reject: NOTHING };
 /* An idle connection is asked for something that changes nothing. */
-const PROBE = { make: () => [["BEGIN", { transaction: "probe" }], ["ABORT", { transaction: "probe" }]], resolve: NOTHING, reject: NOTHING };
+const PROBE = { destinations: [], make: () => [["BEGIN", { transaction: "probe" }], ["ABORT", { transaction: "probe" }]], resolve: NOTHING, reject: NOTHING };
 
 /* A connection, with what was asked on it and has no answer yet. Answers come in the order of what they answer. */
 class Link {
   session = null; isOver = false;
   /* Subscriptions whose end has no receipt yet. */
   ending = [];
-  #socket; #timer; #on; #openedAt; #count = 0; #asked = new Map(); #isToldLast = false;
+  #socket; #timer; #on; #openedAt; #count = 0; #asked = new Map(); #told;
   /* Whether nothing was heard since the last look, and whether an answer was due then. */
   #isQuiet = true; #wasDue = true;
   /* `on` is called with what happens: failed, opened, heard, refused, over. */
@@ -158,8 +176,9 @@ class Link {
   tell(frame) {
     if (this.#socket.bufferedAmount > MOST_BUFFERED) return false;
     this.write([frame]);
-    if (!this.#isToldLast) this.#asked.set(`told ${++this.#count}`, TOLD);
-    this.#isToldLast = true;
+    // What is told in a row has no answer unless it is refused.
+    if (!this.#told) this.#asked.set(`told ${++this.#count}`, this.#told = { isTold: true, reject: NOTHING, destinations: [] });
+    if (!this.#told.destinations.includes(frame[1].destination)) this.#told.destinations.push(frame[1].destination);
     return true;
   }
   /* Sends the frames of a post, whose last one asks for a receipt. */
@@ -168,7 +187,7 @@ class Link {
     this.write([...frames.slice(0, -1), [command, { ...headers, receipt }, body]]);
     this.#asked.set(receipt, post);
     for (const [, , , message] of frames) message?.settle();
-    this.#isToldLast = false;
+    this.#told = null;
   }
   /* Is over, by itself or since it is left. An engine may wait long for the end of a dead socket, so nobody waits for it here. */
   end(detail) {
@@ -225,18 +244,20 @@ class Link {
 }
 
 class Client {
-  #url; #options; #link; #timer; #pause; #count = 0; #isWanted = true;
+  #url; #options; #link; #timer; #pauses; #count = 0; #isWanted = true;
   /* Whether its page was left or is frozen, and what ends the listening for that. */
   #isAway = false; #page = new AbortController();
-  /* Why the session was refused, whether by what is not asked again, and when that was so last. */
-  #refusal; #isSettled; #settledAt = -Infinity;
+  /* Why the session was refused, whether by what is not asked again, or not soon, and when the first was so last. */
+  #refusal; #isSettled; #rests; #settledAt = -Infinity;
+  /* Where the broker had no room: the pauses of sending there, with the timer of one that lasts. If several last, all sending rests. */
+  #full = new Map(); #restsWholly = false;
   #subscriptions = new Map(); #waiting = new Set(); #closing = [];
   /* connecting, open, lost, refused or closed. */
   state = "connecting";
   constructor(url, options) {
     this.#url = url;
     this.#options = { ...DEFAULTS, WebSocket: globalThis.WebSocket, ...options };
-    this.#pause = this.#options.shortestPause;
+    this.#pauses = new Pauses(this.#options);
     if (!isFunction(this.#options.WebSocket)) throw unsent(NO_WEBSOCKET);
     connectFrame(this.#options.clientId, {});
     this.#watchPage();
@@ -245,17 +266,18 @@ class Client {
 
   /* The session that is open, or null. */
   get session() { return this.#link?.session ?? null; }
+  get full() { return [...this.#full].filter(([, { timer }]) => timer).map(([destination]) => destination); }
   send(destination, body, headers = {}) {
     return leavable((async () => {
       const frame = sendFrame(destination, body, headers, { receipt: NUMBER });
       this.#hasRoom();
-      await this.ask(() => [frame]);
+      await this.ask(() => [frame], { destinations: [frame[1].destination] });
     })());
   }
   tell(destination, body, headers = {}) {
     try {
       const frame = sendFrame(destination, body, headers, {});
-      return this.session !== null && this.#link.tell(frame);
+      return this.session !== null && !this.#isFull({ destinations: [frame[1].destination] }) && this.#link.tell(frame);
     } catch (error) {
       if (error.kind != "refused") throw error;
       queueMicrotask(() => this.#complain(error));
@@ -279,7 +301,7 @@ class Client {
       await this.ask(() => {
         const members = made.makers.map(make => make()).map(([command, headers, ...rest]) => [command, { ...headers, transaction }, ...rest]);
         return [["BEGIN", { transaction }], ...members, ["COMMIT", { transaction }]];
-      });
+      }, made);
     })());
   }
   close() {
@@ -297,11 +319,12 @@ class Client {
   }
 
   /* For the classes above: asks for what the frames say, whose last one asks for a receipt. They are made once there is a connection. */
-  ask(make, accepted = NOTHING) {
+  ask(make, { accepted = NOTHING, destinations = [], makesRoom = false } = {}) {
     return leavable(new Promise((resolve, reject) => {
       if (!this.#isWanted) throw unsent("the client is closed");
-      const post = { make, reject, resolve: () => { accepted(); resolve(); }, waits: true };
-      if (this.session) return this.#post(post);
+      const isAccepted = () => { accepted(); this.#hadRoom(destinations); resolve(); };
+      const post = { make, reject, resolve: isAccepted, destinations, makesRoom, waits: true, since: performance.now() };
+      if (this.session && !this.#isFull(post)) return this.#post(post);
       make();                                  // what can't be sent later either is told now
       this.#wait(post);
     }));
@@ -338,7 +361,7 @@ class Client {
     this.#start();
   }
   #start() {
-    this.#refusal = this.#isSettled = null;
+    this.#refusal = this.#isSettled = this.#rests = null;
     this.#tell("connecting");
     if (!this.#isWanted) return;               // `onstate` has closed it
     this.#link = new Link(this.#url, this.#options, {
@@ -360,9 +383,56 @@ class Client {
     if (this.#waiting.size + (this.#link?.count ?? 0) >= mostWaiting) throw unsent(`${mostWaiting} others wait already`);
   }
   #wait(post) {
-    const { waitTimeout } = this.#options;
+    const { waitTimeout } = this.#options, isLate = () => {
+      this.#waiting.delete(post);
+      post.reject(unsent(`no ${this.full.length ? "room" : "connection"} within ${waitTimeout} ms`));
+    };
     this.#waiting.add(post);
-    post.timer = after(waitTimeout, () => { this.#waiting.delete(post); post.reject(unsent(`no connection within ${waitTimeout} ms`)); });
+    post.timer = after(post.since + waitTimeout - performance.now(), isLate);
+  }
+  /* Sends what waits and need not any more. */
+  #flush() {
+    for (const it of this.#waiting) {
+      if (!this.session || this.#isFull(it)) continue;
+      this.#waiting.delete(it);
+      clearTimeout(it.timer);
+      this.#post(it);
+    }
+  }
+  /* Whether sending there rests. What acknowledges makes room, so it rests only after its like was refused. */
+  #isFull({ destinations, makesRoom }) {
+    const isFull = it => { const rest = this.#full.get(it); return rest?.timer && (!makesRoom || rest.makesRoom); };
+    return destinations.some(isFull) || (this.#restsWholly && destinations.length > 0 && !makesRoom);
+  }
+  /* The broker had no room. What would be refused by the same is rejected with it, and the rest of what goes there waits. */
+  #rest({ destinations, makesRoom }, later) {
+    this.#restsWholly ||= this.full.some(it => !destinations.includes(it));
+    let longest = 0;
+    for (const it of destinations) {
+      const rest = this.#full.get(it) ?? { pauses: new Pauses(this.#options) }, pause = rest.pauses.next();
+      clearTimeout(rest.timer);
+      rest.timer = setTimeout(() => this.#hasRested(rest), pause);
+      this.#full.set(it, Object.assign(rest, { makesRoom }));
+      longest = Math.max(longest, pause);
+    }
+    const others = [...this.#waiting, ...later].filter(it => it.waits && !it.makesRoom && destinations.every(place => it.destinations.includes(place)));
+    for (const it of others) {
+      this.#waiting.delete(it);
+      clearTimeout(it.timer);
+      it.reject(refused(`E12 no room for the message: ${destinations.join(", ")} had none for an earlier one`));
+    }
+    this.#call(() => this.#options.onfull(this.full, longest));
+    return later.filter(it => !others.includes(it));
+  }
+  #hasRested(rest) {
+    rest.timer = null;
+    const { full } = this;
+    if (!full.length) this.#restsWholly = false;
+    this.#flush();
+    this.#call(() => this.#options.onfull(full));
+  }
+  #hadRoom(destinations) {
+    for (const it of destinations) if (!this.#full.get(it)?.timer) this.#full.delete(it);
   }
   #post(post) { try { this.#link.post(post); } catch (error) { post.reject(error); } }
   /* Opens a new subscription, if the broker can take it and there is a session. */
@@ -390,7 +460,7 @@ class Client {
     const resolve = () => Object.assign(subscription, { isReady: true, isContested: false }).resolve();
     // One that is lost comes back with the next session.
     const reject = error => { if (error.kind != "unknown") this.#isDenied(subscription, error); };
-    this.#post({ make: () => [["SUBSCRIBE", { ...headers, id }]], resolve, reject });
+    this.#post({ make: () => [["SUBSCRIBE", { ...headers, id }]], resolve, reject, destinations: [] });
   }
   /* The broker holds a session that was lost without a close for up to 80 s, and its durable names with it. One that was ready is asked for again
      with each session, after all else, so that what waits is carried out before the session is refused again. */
@@ -401,10 +471,9 @@ class Client {
     this.#complain(error, subscription);
   }
   #begin() {
-    const subscriptions = [...this.#subscriptions.values()], waiting = [...this.#waiting];
-    this.#waiting.clear();
+    const subscriptions = [...this.#subscriptions.values()];
     subscriptions.filter(it => !it.isContested).forEach(it => this.#open(it));
-    waiting.forEach(it => { clearTimeout(it.timer); this.#post(it); });
+    this.#flush();
     subscriptions.filter(it => it.isContested).forEach(it => this.#open(it));
     this.#tell("open");
   }
@@ -419,8 +488,10 @@ class Client {
   /* What was asked after a refused one waits for the next session. */
   #isRefused(post, later, error) {
     this.#refusal = error.message;
-    later.filter(it => it.waits).forEach(it => this.#wait(it));
     if (post && !post.isTold) post.reject(error); else this.#complain(error);
+    this.#rests = error.code == "E12" && post?.destinations.length > 0;
+    const left = this.#rests ? this.#rest(post, later) : later;
+    left.filter(it => it.waits).forEach(it => this.#wait(it));
     this.#isSettled = post !== undefined && ![...this.#subscriptions.values()].some(it => it.isContested);
   }
   #isOver(posts, detail) {
@@ -433,21 +504,21 @@ class Client {
     this.#tell(this.#refusal ? "refused" : "lost", { pause, reason: this.#refusal, ...detail });
   }
   #nextPause() {
-    const { shortestPause, longestPause } = this.#options, now = performance.now(), since = now - this.#settledAt;
-    if (this.#link.lasted() >= longestPause) this.#pause = shortestPause;
+    const now = performance.now(), since = now - this.#settledAt;
+    if (this.#link.lasted() >= this.#options.longestPause) this.#pauses.reset();
+    if (this.#rests) return 0;
     if (this.#isSettled) {
       this.#settledAt = now;
       // What was refused is out of the way, so this goes on at once, unless that was so just before.
-      if (since > 2 * this.#pause) return 0;
+      if (since > 2 * this.#pauses.shortestNow) return 0;
     }
-    // Many clients that were lost together come back one after another.
-    const pause = this.#pause * (0.75 + Math.random() / 2);
-    this.#pause = Math.min(2 * this.#pause, longestPause);
-    return pause;
+    return this.#pauses.next();
   }
   #isClosed(detail) {
     clearTimeout(this.#timer);
     this.#page.abort();
+    for (const it of this.#full.values()) clearTimeout(it.timer);
+    this.#full.clear();
     for (const it of this.#waiting) clearTimeout(it.timer);
     for (const it of [...this.#waiting, ...this.#subscriptions.values()]) it.reject(unsent("the client is closed"));
     this.#waiting.clear();
