@@ -1,7 +1,7 @@
 #!/usr/bin/env python3
 """examples/stompd.mjs in Node and in headless Chromium, over a broker that is killed and started again under load, and over a fake one.
 
-    python3 clients/module.py [PROGRAM] [--kills N] [--only fake|real] [--engine Node|Chromium] [--module PATH] [--ws PATH]
+    python3 clients/module.py [PROGRAM] [--kills N] [--only fake|real] [--trial WORD] [--engine Node|Chromium] [--module PATH] [--ws PATH]
 
 What a promise says is held against what comes: what has resolved is there, what was refused is not, and what is unknown may be. Needs Node 20 with
 Debian's node-ws or Node's own experimental WebSocket, and for the second part Chromium; what is missing is told at the end, with status 2 if there is
@@ -25,6 +25,8 @@ import traceback
 
 import module_faults
 import module_limits
+import module_pages
+import module_waits
 from chromium import BROWSERS, Browser
 from fake_broker import Relay
 from lib import scenario
@@ -39,14 +41,16 @@ MOST_SECONDS = 90
 WORDS = """
 const late = () => new Promise(resolve => setTimeout(resolve, 20000, "nothing in 20 s"));
 globalThis.outcome = promise => Promise.race([promise.then(() => "resolved", error => error.kind ?? error.message), late()]);
+globalThis.how = promise => promise.then(() => "taken", ({ kind, code, message }) => [kind, code, message.startsWith(`${code} `)]);
 globalThis.soon = async (holds, seconds = 15) => {
   for (const end = Date.now() + 1000 * seconds; Date.now() < end && !holds();) await new Promise(resolve => setTimeout(resolve, 10));
   return holds();
 };
 globalThis.open = (options = {}, url = URL_) => {
   const states = [], errors = [], onstate = (state, { pause, reason }) => states.push([state, pause, reason]);
-  const client = connect(url, { onstate, onerror: (...told) => errors.push(told), ...options });
-  return Object.assign(client, { states, errors });
+  const fulls = [], onfull = (full, pause) => fulls.push([full, pause ?? null]);
+  const client = connect(url, { onstate, onfull, onerror: (...told) => errors.push(told), ...options });
+  return Object.assign(client, { states, errors, fulls });
 };
 globalThis.unhandled = [];
 globalThis.process?.on("unhandledRejection", error => unhandled.push(String(error)));
@@ -112,6 +116,23 @@ class Chromium:
 
     def value(self, code):
         return self.page.value(f"(async () => {{ {code} }})()")
+
+    def leave(self):
+        """The page is left for another one, and the browser keeps it."""
+        self.page.call("Page.navigate", url=f"http://127.0.0.1:{self.server.server_address[1]}/nothing.html?another")
+        assert self.page.comes("document.readyState == 'complete' && location.search"), "the page is not left"
+
+    def back(self):
+        entries = self.page.call("Page.getNavigationHistory")
+        self.page.call("Page.navigateToHistoryEntry", entryId=entries["entries"][entries["currentIndex"] - 1]["id"])
+        assert self.page.comes("document.readyState == 'complete' && !location.search"), "the page is not back"
+        assert self.page.value("typeof connect") == "function", "the browser has not kept the page"
+
+    def freeze(self):
+        self.page.call("Page.setWebLifecycleState", state="frozen")
+
+    def thaw(self):
+        self.page.call("Page.setWebLifecycleState", state="active")
 
     def close(self):
         self.server.shutdown()
@@ -373,7 +394,7 @@ def a_program_ends(program, folder, ws, checks):
             checks.check(f"a program ends with its client: {kind}", process.returncode == 0, (process.returncode, told[-300:]))
 
 
-TRIALS = [what_promises_say, *module_limits.TRIALS, around_refusals, silences, work_is_done, durable_ones, a_lost_one_is_unknown, page_says_why, kills_under_load]
+TRIALS = [what_promises_say, *module_limits.TRIALS, *module_pages.REAL, *module_waits.REAL, around_refusals, silences, work_is_done, durable_ones, a_lost_one_is_unknown, page_says_why, kills_under_load]
 
 
 def run_trial(trial, engine, *more):
@@ -387,10 +408,14 @@ def run_trial(trial, engine, *more):
         checks.check(f"{trial.__name__} runs to its end", False, error)
 
 
+def chosen(words, trials):
+    return [it for it in trials if words.trial in it.__name__]
+
+
 def try_over_the_broker(engine, words, checks):
     with scenario.serving(words.program) as broker:
         engine.value(f"globalThis.URL_ = 'ws://127.0.0.1:{broker.port}/'")
-        for trial in TRIALS:
+        for trial in chosen(words, TRIALS + (module_pages.REAL_OF_PAGES if engine.name == "Chromium" else [])):
             run_trial(trial, engine, broker, *([words.kills] if trial is kills_under_load else []), checks)
             if not broker.is_running():
                 broker.serve()
@@ -401,11 +426,11 @@ def try_engine(kind, folder, words, checks):
     try:
         engine.value(WORDS)
         if words.only != "real":
-            for trial in module_faults.TRIALS:
+            for trial in chosen(words, module_faults.TRIALS + module_waits.FAKE + module_pages.FAKE + (module_pages.FAKE_OF_PAGES if kind is Chromium else [])):
                 run_trial(trial, engine, checks)
         if words.only != "fake":
             try_over_the_broker(engine, words, checks)
-            if kind is Node:
+            if kind is Node and not words.trial:
                 lines_with_node_ws(words.program, folder, words.ws, checks)
                 a_program_ends(words.program, folder, words.ws, checks)
     finally:
@@ -416,6 +441,7 @@ def main():
     parser = scenario.words_of(__doc__)
     parser.add_argument("--kills", type=int, default=20)
     parser.add_argument("--only", choices=["fake", "real"], help="the trials over a fake broker, or over the real one")
+    parser.add_argument("--trial", default="", metavar="WORD", help="those alone that have it in their name")
     parser.add_argument("--engine", choices=["Node", "Chromium"], help="in this one alone")
     parser.add_argument("--module", type=pathlib.Path, default=HERE.parent / "examples")
     parser.add_argument("--ws", type=pathlib.Path, default=WS)

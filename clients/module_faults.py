@@ -6,9 +6,11 @@ import re
 from fake_broker import FakeBroker
 from lib.wire import BINARY, TEXT
 
-# The shortest pause of a trial in which refusals follow each other, which a slow machine has to keep up with; and times with which others are short, of
-# which the last ones are never met.
+# The shortest pause of a trial in which refusals follow each other, which a slow machine has to keep up with.
 LONGER = 300
+# A refusal that the client does nothing more about.
+REFUSAL = "E20 bad header value"
+# Times with which others are short, of which the last ones are never met.
 QUICK = "shortestPause: 20, longestPause: 4000, answerTimeout: 10000, waitTimeout: 10000, closeTimeout: 10000"
 
 
@@ -107,17 +109,17 @@ def refusals(engine, checks):
     with opened(engine, f"shortestPause: {LONGER}") as (fake, link):
         for number in range(4):
             run(f"globalThis.full = outcome(it.send('/topic/room', '{number}'))")
-            link.refuse("E12 no room for the message", link.take())
+            link.refuse(REFUSAL, link.take())
             checks.same("a refused SEND is told so", run("return full"), "refused")
             link = fake.take()
         pauses = run("return it.states.filter(([state]) => state == 'refused').map(([, pause]) => pause)")
         checks.check("the first is followed by no pause, and those just after it by pauses that grow", len(pauses) == 4 and pauses[0] == 0 and grows(pauses[1:], LONGER), pauses)
         run("await soon(() => it.state == 'open'); it.tell('/topic/full', 'told'); globalThis.after = outcome(it.send('/topic/room', 'after'))")
         link.take_all(2)
-        link.refuse("E12 no room for the message")
+        link.refuse(REFUSAL)
         link = fake.take()
         checks.same("what was asked after a refused one without a receipt is carried out", (link.accept_next().body, run("return after")), (b"after", "resolved"))
-        checks.same("and the refusal is told", run("return it.errors.map(([error]) => error.message)"), ["E12 no room for the message"])
+        checks.same("and the refusal is told", run("return it.errors.map(([error]) => error.message)"), [REFUSAL])
         run("globalThis.ends = ['first', 'large', 'last'].map(text => outcome(it.send('/topic/room', text)))")
         first = link.take()
         link.take_all(2)
@@ -128,7 +130,7 @@ def refusals(engine, checks):
         run("it.tell('/topic/room', 'told'); globalThis.ends = [outcome(it.send('/topic/room', 'a'))]; it.tell('/topic/full', 'told'); ends.push(outcome(it.send('/topic/room', 'b')))")
         frames = link.take_all(4)
         link.accept(frames[1])
-        link.refuse("E12 no room for the message")
+        link.refuse(REFUSAL)
         link = fake.take()
         checks.same("also between others", (link.accept_next().body, run("return Promise.all(ends)")), (b"b", ["resolved", "resolved"]))
         run("it.tell('/topic/room', 'told'); globalThis.ends = [outcome(it.send('/topic/room', 'a')), outcome(it.send('/topic/room', 'large'))]; globalThis.told = it.errors.length")
@@ -155,7 +157,7 @@ def refusals(engine, checks):
     with opened(engine, "longestPause: 60000") as (fake, link):
         for _ in range(2):
             run("await soon(() => false, 0.5); it.send('/topic/room', 'x')")
-            link.refuse("E12 no room for the message", link.take())
+            link.refuse(REFUSAL, link.take())
             link = fake.take()
         run("await soon(() => it.state == 'open')")
         link.drop()
@@ -164,10 +166,10 @@ def refusals(engine, checks):
         checks.same("refusals long after each other have no pause, and a loss after them is none", seen, [["refused", False, True], ["refused", False, True], ["lost", True, False]])
     with opened(engine, f"shortestPause: {10 * LONGER}, longestPause: 60000") as (fake, link):
         run("it.send('/topic/room', 'x')")
-        link.refuse("E12 no room for the message", link.take())
+        link.refuse(REFUSAL, link.take())
         link = fake.take()
         run(f"await soon(() => false, {1.25 * 10 * LONGER / 1000}); it.send('/topic/room', 'x')")
-        link.refuse("E12 no room for the message", link.take())
+        link.refuse(REFUSAL, link.take())
         checks.check("one within twice the pause is just after another", run("return soon(() => it.states.filter(([state]) => state == 'refused').length == 2)") and grows(pauses_of(engine), 10 * LONGER), pauses_of(engine))
         checks.same("and has a pause", len(pauses_of(engine)), 1)
 
@@ -238,7 +240,7 @@ def a_refusal_by_its_receipt(engine, checks):
     with opened(engine) as (fake, link):
         run("it.tell('/topic/room', 'told'); globalThis.ends = ['first', 'refused', 'later'].map(text => outcome(it.send('/topic/room', text)))")
         frames = link.take_all(4)
-        link.refuse("E12 no room for the message", frames[2])
+        link.refuse(REFUSAL, frames[2])
         link = fake.take()
         checks.same("what is asked after it is asked again", link.accept_next().body, b"later")
         checks.same("and what had no answer before it is unknown", run("return Promise.all(ends)"), ["unknown", "refused", "resolved"])

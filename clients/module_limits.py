@@ -27,8 +27,6 @@ ACK_BYTES = 9
 SHORTEST, LONGEST = stated(r"`/topic/` or `/queue/` and # to # ASCII letters")
 (HELD_BYTES,) = stated(r"Held messages: [\d,]+; their bytes: # \(E12\)")
 
-HOW = "globalThis.how = promise => promise.then(() => 'taken', ({ kind, code, message }) => [kind, code, message.startsWith(`${code} `)]);"
-
 
 def refused(code):
     return ["refused", code, True]
@@ -62,7 +60,7 @@ class Limits:
 
     def __init__(self, engine, relay, checks):
         self.run, self.relay, self.checks = engine.value, relay, checks
-        self.run(f"globalThis.URL_ = 'ws://127.0.0.1:{relay.port}/'; {HOW} globalThis.limited = open()")
+        self.run(f"globalThis.URL_ = 'ws://127.0.0.1:{relay.port}/'; globalThis.limited = open()")
         # A receipt of a later frame may not make it longer.
         self.run("await Promise.all(Array.from({ length: 100 }, () => limited.send('/topic/none', 'x')))")
         self.run("globalThis.session = limited.session")
@@ -180,7 +178,7 @@ def at_the_limits(engine, broker, checks):
 def a_long_text_is_pasted(engine, broker, checks):
     """who sends what is too large misses nothing of others"""
     run = engine.value
-    run(f"{HOW} globalThis.lines = []; globalThis.page = open(); await page.subscribe('/topic/lines', it => lines.push(it.body)).ready")
+    run(f"globalThis.lines = []; globalThis.page = open(); await page.subscribe('/topic/lines', it => lines.push(it.body)).ready")
     other = Client(broker.port).connect()
     for number in range(100):
         other.publish("/topic/lines", str(number))
@@ -203,16 +201,17 @@ def drain(engine, from_):
 
 
 def after_a_refusal(engine, broker, checks):
-    """the broker's refusal has its code, and no pause after it, unless another came just before"""
+    """the broker's refusal has its code, and no pause after it, while sending there rests"""
     run = engine.value
     fill(engine, "/queue/full")
     large = f"pushed.send('/queue/full', 'x'.repeat({BODY}))"
-    run(f"{HOW} globalThis.pushed = open(); await pushed.send('/topic/none', 'x'); globalThis.before = pushed.session")
+    run(f"globalThis.pushed = open(); await pushed.send('/topic/none', 'x'); globalThis.before = pushed.session")
     checks.same("a SEND without room is refused, with its code", run(f"return how({large})"), refused("E12"))
     checks.same("the client is back at once", run("await soon(() => pushed.session && pushed.session != before); return pushed.states.map(([state, pause]) => [state, pause ?? null])"), [["connecting", None], ["open", None], ["refused", 0], ["connecting", None], ["open", None]])
-    run(f"pushed.states.length = 0; for (let count = 0; count < 3; count++) {{ await how({large}); await soon(() => pushed.session); }}")
-    pauses = run("return pushed.states.filter(([state]) => state == 'refused').map(it => it[1])")
-    checks.check("refusals that follow each other at once have growing pauses", len(pauses) == 3 and all(0.75 * 500 * 2**number <= pause <= 1.25 * 500 * 2**number for number, pause in enumerate(pauses)), pauses)
+    run(f"for (let count = 0; count < 2; count++) {{ await how({large}); await soon(() => pushed.session); }}")
+    checks.same("so it is after each that follows", run("return pushed.states.filter(([state]) => state == 'refused').map(it => it[1])"), [0, 0, 0])
+    pauses = run("return pushed.fulls.filter(([full]) => full.length).map(it => it[1])")
+    checks.check("and sending there rests for growing pauses", len(pauses) == 3 and all(0.75 * 500 * 2**number <= pause <= 1.25 * 500 * 2**number for number, pause in enumerate(pauses)), pauses)
     drain(engine, "/queue/full")
     checks.same("once there is room it is taken", run(f"return how({large})"), "taken")
     run("await pushed.close()")

@@ -19,7 +19,7 @@ export type State = "connecting" | "open" | "lost" | "refused" | "closed";
 export interface StateDetail {
   /** The close code of the WebSocket, or 1006 if it had none. Missing if the module abandoned a silent connection. */
   code?: number;
-  /** Milliseconds until the next try. */
+  /** Milliseconds until the next try. Missing if the page was left or is frozen: the client connects again when it is shown or resumed. */
   pause?: number;
   /** The `message` of the broker's ERROR, the time-out for which the module abandoned the connection, or why a function gave no answer. */
   reason?: string | null;
@@ -45,13 +45,15 @@ export interface ConnectOptions {
   /** How long the broker may be silent while it connects or owes an answer (15,000); at most twice that. After such a silence an idle connection is
    *  probed, and lost without an answer. */
   answerTimeout?: number;
-  /** How long something waits for a connection before it is `unsent` (60,000). */
+  /** How long something waits for a connection, or for room, before it is `unsent` (60,000), counted from its call. */
   waitTimeout?: number;
   /** How long `close` waits for the broker (5,000). */
   closeTimeout?: number;
   /** How many sends and transactions may be unanswered (10,000); a further one is `unsent`. */
   mostWaiting?: number;
   onstate?: (state: State, detail: StateDetail) => void;
+  /** Is called when `full` has changed; with a pause in milliseconds if another destination has none. */
+  onfull?: (full: readonly string[], pause?: number) => void;
   /** Gets errors without a promise: those of a listener or `onstate`, of a refused `tell`, and each refusal of a subscription, with the subscription.
    *  By default these go to the console. */
   onerror?: (error: unknown, subscription?: Subscription) => void;
@@ -81,6 +83,9 @@ export interface Message {
 
 export interface SubscribeOptions {
   ack?: "auto" | "client" | "client-individual";
+  /** Milliseconds from a message's arrival to its acknowledgement. After these the client closes its connection, so that the broker gives all that is
+   *  unacknowledged to others, and connects again. Not for `auto`. It goes by the page's own timers. */
+  ackWithin?: number;
   /** The name of a durable subscription of a topic; the client needs a `clientId`. */
   durable?: string;
   id?: string;
@@ -111,6 +116,9 @@ export interface Client {
   readonly state: State;
   /** The open session. */
   readonly session: string | null;
+  /** The destinations that had no room (E12), while the client sends nothing there: first for the shortest pause, and twice as long each time that follows.
+   *  Sends and transactions that waited to go there were rejected with it; later ones wait. If several are full, all sends wait. Listening goes on. */
+  readonly full: readonly string[];
   /** Resolves at the receipt: the message is in the journal. Without a connection it waits for one. It is never carried out twice: it is sent again
    *  only if the broker refused something before it, and so dropped it. */
   send(destination: string, body?: Body, headers?: Headers): Promise<void>;
@@ -129,6 +137,6 @@ export interface Client {
 export function connect(url: Renewed<string>, options?: ConnectOptions): Client;
 
 declare global {
-  /** Made by stompd.js, also for a page that loads only that. */
+  /** Made by stompd.js, also for a page that loads only that and stompd_frames.js. */
   var Stompd: { connect: typeof connect; StompdError: typeof StompdError };
 }

@@ -1,118 +1,44 @@
 /* A client of STOMP 1.2 over WebSocket for stompd, which comes back by itself. It has no dependencies, and no export, so that a page which was
-   opened from a file can load it too: `<script src="stompd.js">` makes `Stompd`. Modules import stompd.mjs, whose types are in stompd.d.mts. */
+   opened from a file can load it too: `<script src="stompd.js">` after one of stompd_frames.js makes `Stompd`. Modules import stompd.mjs, whose types are
+   in stompd.d.mts. */
 (() => {
 "use strict";
+
+if (!globalThis.StompdFrames) throw new Error("stompd_frames.js has to be loaded before stompd.js");
+const { StompdError, checked, connectFrame, encoder, given, numbered, operationSize, read, refused, sendFrame, unsent, written } = StompdFrames;
 
 const NOTHING = () => {};
 /* What each option and call means stands in stompd.d.mts. */
 const TIMES = { shortestPause: 500, longestPause: 8_000, answerTimeout: 15_000, waitTimeout: 60_000, closeTimeout: 5_000 };
-const DEFAULTS = { ...TIMES, mostWaiting: 10_000, headers: {}, protocols: [], onstate: NOTHING, onerror: error => console.error(error) };
+const DEFAULTS = { ...TIMES, mostWaiting: 10_000, headers: {}, protocols: [], onstate: NOTHING, onfull: NOTHING, onerror: error => console.error(error) };
+/* Where a NACK puts what it refuses. */
+const DEAD = "/queue/dead";
 const NO_WEBSOCKET = "there is no WebSocket: use Node 22, start Node 20 with --experimental-websocket, or give connect that of the package ws";
 const NAMELESS = "E13 durable subscription without a clientId";
 /* Bytes that may wait in a socket before what is only told is left out. */
 const MOST_BUFFERED = 1 << 20;
-/* Headers that only the module sets. */
-const OWN_HEADERS = ["content-length", "receipt", "transaction"];
-/* The broker's limits (docs/PROTOCOL.md, "Limits"). It answers what passes one with an ERROR, which ends the session, so that is not sent. */
-const MOST_HEADERS = 64, MOST_HEAD = 8_192, MOST_BODY = 65_536, MOST_SUBSCRIPTIONS = 16, MOST_MEMBERS = 64, MOST_OPERATIONS = 262_144;
-const DESTINATION = /^\/(topic|queue)\/[A-Za-z0-9._\/-]{1,200}$/, MODES = ["auto", "client", "client-individual"];
-/* Headers that a message does not keep, so they count for no operation. */
-const UNKEPT = [...OWN_HEADERS, "destination", "subscription", "message-id", "ack"];
-
-/* Why a promise was rejected, by its kind. A refusal has the broker's code. */
-class StompdError extends Error {
-  constructor(kind, message, code) { Object.assign(super(message), { name: "StompdError", kind, code }); }
-}
-const unsent = message => new StompdError("unsent", message);
-const refused = message => new StompdError("refused", message, /^E\d+/.exec(message)?.[0]);
+/* Further limits of the broker (docs/PROTOCOL.md, "Limits"). */
+const MOST_SUBSCRIPTIONS = 16, MOST_MEMBERS = 64, MOST_OPERATIONS = 262_144, MODES = ["auto", "client", "client-individual"];
+/* A receipt, or the name of a transaction. */
+const NUMBER = numbered(0);
 
 /* A promise that nobody has to await: its rejection reaches those who do, and ends no program. */
 const leavable = promise => { promise.catch(NOTHING); return promise; };
 const isFunction = it => typeof it == "function";
 /* A timer. One of more than 24 days, such as `Infinity`, never fires. */
 const after = (milliseconds, act) => milliseconds < 2 ** 31 ? setTimeout(act, milliseconds) : undefined;
-const ESCAPES = { "\\": "\\\\", "\r": "\\r", "\n": "\\n", ":": "\\c" }, MEANINGS = { "\\": "\\", r: "\r", n: "\n", c: ":" };
-const escaped = text => String(text).replace(/[\\\r\n:]/g, letter => ESCAPES[letter]);
-const unescaped = text => text.replace(/\\(.)/g, (_, letter) => MEANINGS[letter]);
-const encoder = new TextEncoder(), decoder = new TextDecoder("utf-8", { fatal: true, ignoreBOM: true });
-const sizeOf = it => typeof it == "string" ? encoder.encode(it).length : it.length;
-/* Receipts and names of transactions, all as long as each other: a frame that is at a limit stays there. */
-const numbered = number => String(number).padStart(12, "0"), NUMBER = numbered(0);
-/* A body is text or bytes. Bytes are copied, since the frame may have to wait. */
-function bodyOf(body) {
-  if (body === undefined || body === null) return "";
-  if (body instanceof ArrayBuffer) return new Uint8Array(body.slice(0));
-  if (ArrayBuffer.isView(body)) return new Uint8Array(body.buffer, body.byteOffset, body.byteLength).slice();
-  if (["object", "function", "symbol"].includes(typeof body)) throw unsent(`a body is a text or bytes, and no ${typeof body}`);
-  return String(body);
-}
 
-/* Headers of the caller, of which those without a value are left out. */
-const given = headers => Object.fromEntries(Object.entries(headers).filter(([name, value]) => value != null && !OWN_HEADERS.includes(name)));
-
-/* A SEND, if the broker can take it. `added` are as long as the headers that it gets once it is sent. */
-function sendFrame(destination, body, headers, added) {
-  const content = bodyOf(body), size = sizeOf(content), counted = size ? { "content-length": size } : {};
-  if (size > MOST_BODY) throw refused(`E2 frame too large: a body of ${size} bytes, and ${MOST_BODY} are the most`);
-  return checked(["SEND", { ...given(headers), destination: String(destination), ...counted }, content], added);
-}
-
-/* A frame, if the broker would not refuse its head with these headers added. */
-function checked(frame, added) {
-  const [command, headers] = frame, all = { ...headers, ...added }, count = Object.keys(all).length, head = headOf([command, all]);
-  if ("" in all) throw refused("E1 malformed frame: a header has no name");
-  if (count > MOST_HEADERS) throw refused(`E2 frame too large: ${count} headers, and ${MOST_HEADERS} are the most`);
-  // A letter has at most three bytes for each of its places in the text.
-  if (3 * head.length > MOST_HEAD && sizeOf(head) > MOST_HEAD) throw refused(`E2 frame too large: ${sizeOf(head)} bytes of command and headers, and ${MOST_HEAD} are the most`);
-  if (command == "CONNECT" || DESTINATION.test(all.destination)) return frame;
-  throw refused("E8 bad destination: it is /topic/ or /queue/, and 1 to 200 letters, digits, points, dashes, underscores and slashes");
-}
-
-/* How many bytes a SEND takes as a member of a transaction (docs/JOURNAL.md, "The record of a command"). */
-function operationSize([, headers]) {
-  const kept = Object.entries(headers).filter(([name]) => !UNKEPT.includes(name)), own = 11 + headers.destination.length;
-  return kept.reduce((sum, [name, value]) => sum + 8 + sizeOf(name) + sizeOf(String(value)), own + (headers["content-length"] ?? 0));
-}
-
-/* Only a clientId sets the client-id, so it is known whether there is one. */
-const connectFrame = (clientId, headers) => checked(["CONNECT", given({ ...headers, "accept-version": "1.2", "client-id": clientId || null })], {});
-
-/* CONNECT has no escapes. */
-const plain = text => { if (/[\r\n]/.test(text)) throw unsent("a clientId and the headers of CONNECT have no end of a line"); return String(text); };
-
-/* The head of a frame, with its empty line. */
-function headOf([command, headers]) {
-  const spell = command == "CONNECT" ? plain : escaped;
-  const head = `${command}\n${Object.entries(headers).map(([name, value]) => `${spell(name)}:${spell(value)}\n`).join("")}\n`;
-  if (head.includes("\0")) throw unsent("a header has a NUL, which no frame can carry");
-  return head;
-}
-
-/* A frame as it stands on the wire: text if its body is one, else bytes. */
-function written(frame) {
-  const head = headOf(frame), [, , body = ""] = frame;
-  if (typeof body == "string") return `${head}${body}\0`;
-  const start = encoder.encode(head), whole = new Uint8Array(start.length + body.length + 1);
-  for (const [part, place] of [[start, 0], [body, start.length]]) whole.set(part, place);
-  return whole;
-}
-
-/* The head and the body of what has come. The broker sends a frame as Binary if it is not UTF-8; then its body stays bytes. */
-function parted(data) {
-  const isText = typeof data == "string", whole = isText ? data : new Uint8Array(data);
-  const end = isText ? data.indexOf("\n\n") : whole.findIndex((byte, place) => byte == 10 && whole[place + 1] == 10);
-  return [textOf(whole.slice(0, end)), textOf(whole.slice(end + 2, -1))];
-}
-function textOf(whole) {
-  try { return typeof whole == "string" ? whole : decoder.decode(whole); } catch { return whole; }
-}
-
-/* Each message of the broker holds one frame. Of a repeated header the first counts. A header may have any name, as `constructor`. */
-function read(data) {
-  const [head, body] = parted(data), [command, ...lines] = head.split("\n"), headers = Object.create(null);
-  const spell = command == "CONNECTED" ? String : unescaped;
-  for (const line of lines) headers[spell(line.slice(0, line.indexOf(":")))] ??= spell(line.slice(line.indexOf(":") + 1));
-  return { command, headers, body };
+/* Pauses that double. Each is up to a quarter shorter or longer, so that many clients that were lost together come back one after another. */
+class Pauses {
+  #next; #options;
+  constructor(options) { this.#options = options; this.reset(); }
+  reset() { this.#next = this.#options.shortestPause; }
+  get shortestNow() { return this.#next; }
+  next() {
+    const pause = this.#next * (0.75 + Math.random() / 2);
+    this.#next = Math.min(2 * this.#next, this.#options.longestPause);
+    return pause;
+  }
 }
 
 /* What came for a subscription. */
@@ -124,22 +50,42 @@ class Message {
   }
   get bytes() { return typeof this.body == "string" ? encoder.encode(this.body) : this.body; }
   ack() { return this.#client.ask(() => [this.frame("ACK", this.#client)]); }
-  nack() { return this.#client.ask(() => [this.frame("NACK", this.#client)]); }
+  nack() { return this.#client.ask(() => [this.frame("NACK", this.#client)], { destinations: [DEAD], makesRoom: true }); }
   /* An acknowledgement belongs to the connection that the message came by, and to its subscription. After these it comes again, or is another's. */
   frame(command, client) {
     if (this.headers.ack === undefined) throw unsent("a message of an auto subscription is not acknowledged");
     if (!client.isOpen(this.#link)) throw unsent("the session that this message came in is over");
     if (this.#subscription.isEnded) throw unsent("the subscription that this message came for has ended");
-    return [command, { id: this.headers.ack }];
+    return [command, { id: this.headers.ack }, "", this];
   }
+  settle() { this.#subscription.settle(this); }
 }
 
 class Subscription {
   /* Contested: its durable name was in use when it was last asked for. */
   isReady = false; isEnded = false; isContested = false;
-  constructor(client, id, headers, heard) {
-    Object.assign(this, { client, id, headers, heard });
+  /* The timers of messages that are not acknowledged yet. */
+  #held = new Map();
+  constructor(client, id, headers, heard, ackWithin) {
+    Object.assign(this, { client, id, headers, heard, ackWithin });
     this.ready = leavable(new Promise((resolve, reject) => Object.assign(this, { resolve, reject })));
+  }
+  /* Has a message until it is acknowledged, or for `ackWithin`. */
+  hold(message, isLate) { this.#held.set(message, after(this.ackWithin, isLate)); }
+  /* An acknowledgement in the mode `client` is one of earlier messages too. */
+  settle(message) {
+    if (!this.#held.has(message)) return;
+    for (const [it, timer] of this.#held) {
+      if (it !== message && this.headers.ack != "client") continue;
+      clearTimeout(timer);
+      this.#held.delete(it);
+      if (it === message) return;
+    }
+  }
+  /* What it held comes again, or is another's. */
+  letGo() {
+    for (const timer of this.#held.values()) clearTimeout(timer);
+    this.#held.clear();
   }
   end() {
     const link = this.client.drop(this);
@@ -149,46 +95,49 @@ class Subscription {
       return [["UNSUBSCRIBE", { id: this.id }]];
     };
     // If its session ends first, so does it.
-    return leavable(this.client.ask(make, () => link.forget(this)).catch(error => { if (error.kind == "refused") throw error; }));
+    return leavable(this.client.ask(make, { accepted: () => link.forget(this) }).catch(error => { if (error.kind == "refused") throw error; }));
   }
   giveUp() {
     const name = this.headers["activemq.subscriptionName"];
     if (name === undefined) return leavable(Promise.reject(unsent("only a durable subscription has a name to give up")));
     if (!this.client.isNamed) return leavable(Promise.reject(refused(NAMELESS)));
     const link = this.client.drop(this);
-    return this.client.ask(() => [["UNSUBSCRIBE", { id: this.id, "activemq.subscriptionName": name }]], () => link?.forget(this));
+    return this.client.ask(() => [["UNSUBSCRIBE", { id: this.id, "activemq.subscriptionName": name }]], { accepted: () => link?.forget(this) });
   }
 }
 
-/* What a transaction is made of. */
+/* What a transaction is made of, where it sends to, and whether it acknowledges. */
 class Transaction {
   #size = 0;
-  constructor(client) { Object.assign(this, { client, makers: [] }); }
+  constructor(client) { Object.assign(this, { client, makers: [], destinations: [], makesRoom: false }); }
   send(destination, body, headers = {}) {
     const frame = sendFrame(destination, body, headers, { transaction: NUMBER });
-    this.#add(operationSize(frame), () => frame);
+    this.#add(operationSize(frame), () => frame, frame[1].destination);
   }
-  ack(message) { this.#add(9, () => message.frame("ACK", this.client)); }
-  nack(message) { this.#add(9, () => message.frame("NACK", this.client)); }
-  #add(size, make) {
+  ack(message) { this.#settle("ACK", message); }
+  nack(message) { this.#settle("NACK", message, DEAD); }
+  #settle(command, message, destination) {
+    this.#add(9, () => message.frame(command, this.client), destination);
+    this.makesRoom = true;
+  }
+  #add(size, make, destination) {
     if (this.makers.length >= MOST_MEMBERS) throw refused(`E17 transaction too large: it has ${MOST_MEMBERS} members, which are the most`);
     this.#size += size;
     if (this.#size > MOST_OPERATIONS) throw refused(`E17 transaction too large: ${this.#size} bytes, and ${MOST_OPERATIONS} are the most`);
     this.makers.push(make);
+    if (destination) this.destinations.push(destination);
   }
 }
 
-/* What is told has no answer unless it is refused. */
-const TOLD = { isTold: true, reject: NOTHING };
 /* An idle connection is asked for something that changes nothing. */
-const PROBE = { make: () => [["BEGIN", { transaction: "probe" }], ["ABORT", { transaction: "probe" }]], resolve: NOTHING, reject: NOTHING };
+const PROBE = { destinations: [], make: () => [["BEGIN", { transaction: "probe" }], ["ABORT", { transaction: "probe" }]], resolve: NOTHING, reject: NOTHING };
 
 /* A connection, with what was asked on it and has no answer yet. Answers come in the order of what they answer. */
 class Link {
   session = null; isOver = false;
   /* Subscriptions whose end has no receipt yet. */
   ending = [];
-  #socket; #timer; #on; #openedAt; #count = 0; #asked = new Map(); #isToldLast = false;
+  #socket; #timer; #on; #openedAt; #count = 0; #asked = new Map(); #told;
   /* Whether nothing was heard since the last look, and whether an answer was due then. */
   #isQuiet = true; #wasDue = true;
   /* `on` is called with what happens: failed, opened, heard, refused, over. */
@@ -227,8 +176,9 @@ class Link {
   tell(frame) {
     if (this.#socket.bufferedAmount > MOST_BUFFERED) return false;
     this.write([frame]);
-    if (!this.#isToldLast) this.#asked.set(`told ${++this.#count}`, TOLD);
-    this.#isToldLast = true;
+    // What is told in a row has no answer unless it is refused.
+    if (!this.#told) this.#asked.set(`told ${++this.#count}`, this.#told = { isTold: true, reject: NOTHING, destinations: [] });
+    if (!this.#told.destinations.includes(frame[1].destination)) this.#told.destinations.push(frame[1].destination);
     return true;
   }
   /* Sends the frames of a post, whose last one asks for a receipt. */
@@ -236,7 +186,8 @@ class Link {
     const frames = post.make(), [command, headers, body] = frames.at(-1), receipt = numbered(++this.#count);
     this.write([...frames.slice(0, -1), [command, { ...headers, receipt }, body]]);
     this.#asked.set(receipt, post);
-    this.#isToldLast = false;
+    for (const [, , , message] of frames) message?.settle();
+    this.#told = null;
   }
   /* Is over, by itself or since it is left. An engine may wait long for the end of a dead socket, so nobody waits for it here. */
   end(detail) {
@@ -293,44 +244,50 @@ class Link {
 }
 
 class Client {
-  #url; #options; #link; #timer; #pause; #count = 0; #isWanted = true;
-  /* Why the session was refused, whether by what is not asked again, and when that was so last. */
-  #refusal; #isSettled; #settledAt = -Infinity;
+  #url; #options; #link; #timer; #pauses; #count = 0; #isWanted = true;
+  /* Whether its page was left or is frozen, and what ends the listening for that. */
+  #isAway = false; #page = new AbortController();
+  /* Why the session was refused, whether by what is not asked again, or not soon, and when the first was so last. */
+  #refusal; #isSettled; #rests; #settledAt = -Infinity;
+  /* Where the broker had no room: the pauses of sending there, with the timer of one that lasts. If several last, all sending rests. */
+  #full = new Map(); #restsWholly = false;
   #subscriptions = new Map(); #waiting = new Set(); #closing = [];
   /* connecting, open, lost, refused or closed. */
   state = "connecting";
   constructor(url, options) {
     this.#url = url;
     this.#options = { ...DEFAULTS, WebSocket: globalThis.WebSocket, ...options };
-    this.#pause = this.#options.shortestPause;
+    this.#pauses = new Pauses(this.#options);
     if (!isFunction(this.#options.WebSocket)) throw unsent(NO_WEBSOCKET);
     connectFrame(this.#options.clientId, {});
+    this.#watchPage();
     this.#start();
   }
 
   /* The session that is open, or null. */
   get session() { return this.#link?.session ?? null; }
+  get full() { return [...this.#full].filter(([, { timer }]) => timer).map(([destination]) => destination); }
   send(destination, body, headers = {}) {
     return leavable((async () => {
       const frame = sendFrame(destination, body, headers, { receipt: NUMBER });
       this.#hasRoom();
-      await this.ask(() => [frame]);
+      await this.ask(() => [frame], { destinations: [frame[1].destination] });
     })());
   }
   tell(destination, body, headers = {}) {
     try {
       const frame = sendFrame(destination, body, headers, {});
-      return this.session !== null && this.#link.tell(frame);
+      return this.session !== null && !this.#isFull({ destinations: [frame[1].destination] }) && this.#link.tell(frame);
     } catch (error) {
       if (error.kind != "refused") throw error;
       queueMicrotask(() => this.#complain(error));
       return false;
     }
   }
-  subscribe(destination, heard, { ack = "auto", durable, id = `subscription ${++this.#count}`, headers = {} } = {}) {
+  subscribe(destination, heard, { ack = "auto", ackWithin, durable, id = `subscription ${++this.#count}`, headers = {} } = {}) {
     if (this.#subscriptions.has(id)) throw unsent(`there is a subscription ${id}`);
     const name = durable === undefined ? {} : { "activemq.subscriptionName": durable };
-    const subscription = new Subscription(this, id, { ...given(headers), destination: String(destination), ack, ...name }, heard);
+    const subscription = new Subscription(this, id, { ...given(headers), destination: String(destination), ack, ...name }, heard, ackWithin);
     this.#subscriptions.set(id, subscription);
     if (this.#isWanted) this.#ask(subscription); else this.drop(subscription);
     return subscription;
@@ -342,9 +299,9 @@ class Client {
       await work(made);
       this.#hasRoom();
       await this.ask(() => {
-        const members = made.makers.map(make => make()).map(([command, headers, body]) => [command, { ...headers, transaction }, body]);
+        const members = made.makers.map(make => make()).map(([command, headers, ...rest]) => [command, { ...headers, transaction }, ...rest]);
         return [["BEGIN", { transaction }], ...members, ["COMMIT", { transaction }]];
-      });
+      }, made);
     })());
   }
   close() {
@@ -362,11 +319,12 @@ class Client {
   }
 
   /* For the classes above: asks for what the frames say, whose last one asks for a receipt. They are made once there is a connection. */
-  ask(make, accepted = NOTHING) {
+  ask(make, { accepted = NOTHING, destinations = [], makesRoom = false } = {}) {
     return leavable(new Promise((resolve, reject) => {
       if (!this.#isWanted) throw unsent("the client is closed");
-      const post = { make, reject, resolve: () => { accepted(); resolve(); }, waits: true };
-      if (this.session) return this.#post(post);
+      const isAccepted = () => { accepted(); this.#hadRoom(destinations); resolve(); };
+      const post = { make, reject, resolve: isAccepted, destinations, makesRoom, waits: true, since: performance.now() };
+      if (this.session && !this.#isFull(post)) return this.#post(post);
       make();                                  // what can't be sent later either is told now
       this.#wait(post);
     }));
@@ -377,13 +335,33 @@ class Client {
   drop(subscription) {
     if (this.#subscriptions.get(subscription.id) !== subscription) return null;
     this.#reject(subscription, unsent("the subscription was ended before it was ready"));
+    subscription.letGo();
     if (!this.session) return null;
     this.#link.ending.push(subscription);
     return this.#link;
   }
 
+  /* A browser may keep a page that was left, with its connection: the page would hold its messages and names, and settle none. */
+  #watchPage() {
+    const on = (target, name, act) => target?.addEventListener?.(name, act, { signal: this.#page.signal });
+    on(globalThis, "pagehide", () => this.#leave());
+    on(globalThis, "pageshow", () => this.#return());
+    on(globalThis.document, "freeze", () => this.#leave());
+    on(globalThis.document, "resume", () => this.#return());
+  }
+  #leave() {
+    if (this.#isAway || !this.#isWanted) return;
+    this.#isAway = true;
+    clearTimeout(this.#timer);
+    this.#link.end({ reason: "the page was left" });
+  }
+  #return() {
+    if (!this.#isAway || !this.#isWanted) return;
+    this.#isAway = false;
+    this.#start();
+  }
   #start() {
-    this.#refusal = this.#isSettled = null;
+    this.#refusal = this.#isSettled = this.#rests = null;
     this.#tell("connecting");
     if (!this.#isWanted) return;               // `onstate` has closed it
     this.#link = new Link(this.#url, this.#options, {
@@ -405,9 +383,56 @@ class Client {
     if (this.#waiting.size + (this.#link?.count ?? 0) >= mostWaiting) throw unsent(`${mostWaiting} others wait already`);
   }
   #wait(post) {
-    const { waitTimeout } = this.#options;
+    const { waitTimeout } = this.#options, isLate = () => {
+      this.#waiting.delete(post);
+      post.reject(unsent(`no ${this.full.length ? "room" : "connection"} within ${waitTimeout} ms`));
+    };
     this.#waiting.add(post);
-    post.timer = after(waitTimeout, () => { this.#waiting.delete(post); post.reject(unsent(`no connection within ${waitTimeout} ms`)); });
+    post.timer = after(post.since + waitTimeout - performance.now(), isLate);
+  }
+  /* Sends what waits and need not any more. */
+  #flush() {
+    for (const it of this.#waiting) {
+      if (!this.session || this.#isFull(it)) continue;
+      this.#waiting.delete(it);
+      clearTimeout(it.timer);
+      this.#post(it);
+    }
+  }
+  /* Whether sending there rests. What acknowledges makes room, so it rests only after its like was refused. */
+  #isFull({ destinations, makesRoom }) {
+    const isFull = it => { const rest = this.#full.get(it); return rest?.timer && (!makesRoom || rest.makesRoom); };
+    return destinations.some(isFull) || (this.#restsWholly && destinations.length > 0 && !makesRoom);
+  }
+  /* The broker had no room. What would be refused by the same is rejected with it, and the rest of what goes there waits. */
+  #rest({ destinations, makesRoom }, later) {
+    this.#restsWholly ||= this.full.some(it => !destinations.includes(it));
+    let longest = 0;
+    for (const it of destinations) {
+      const rest = this.#full.get(it) ?? { pauses: new Pauses(this.#options) }, pause = rest.pauses.next();
+      clearTimeout(rest.timer);
+      rest.timer = setTimeout(() => this.#hasRested(rest), pause);
+      this.#full.set(it, Object.assign(rest, { makesRoom }));
+      longest = Math.max(longest, pause);
+    }
+    const others = [...this.#waiting, ...later].filter(it => it.waits && !it.makesRoom && destinations.every(place => it.destinations.includes(place)));
+    for (const it of others) {
+      this.#waiting.delete(it);
+      clearTimeout(it.timer);
+      it.reject(refused(`E12 no room for the message: ${destinations.join(", ")} had none for an earlier one`));
+    }
+    this.#call(() => this.#options.onfull(this.full, longest));
+    return later.filter(it => !others.includes(it));
+  }
+  #hasRested(rest) {
+    rest.timer = null;
+    const { full } = this;
+    if (!full.length) this.#restsWholly = false;
+    this.#flush();
+    this.#call(() => this.#options.onfull(full));
+  }
+  #hadRoom(destinations) {
+    for (const it of destinations) if (!this.#full.get(it)?.timer) this.#full.delete(it);
   }
   #post(post) { try { this.#link.post(post); } catch (error) { post.reject(error); } }
   /* Opens a new subscription, if the broker can take it and there is a session. */
@@ -416,6 +441,7 @@ class Client {
     try {
       checked(["SUBSCRIBE", { ...headers, id }], { receipt: NUMBER });
       if (!MODES.includes(headers.ack)) throw refused(`E20 bad header value: ack is ${MODES.join(", ")}`);
+      if (subscription.ackWithin !== undefined && headers.ack == "auto") throw unsent("ackWithin is for ack: \"client\" or \"client-individual\"");
       if (this.#subscriptions.size > MOST_SUBSCRIPTIONS) throw refused(`E18 too many subscriptions: ${MOST_SUBSCRIPTIONS} are the most`);
       if (name && !this.isNamed && headers.destination.startsWith("/topic/")) throw refused(NAMELESS);
     } catch (error) {
@@ -434,7 +460,7 @@ class Client {
     const resolve = () => Object.assign(subscription, { isReady: true, isContested: false }).resolve();
     // One that is lost comes back with the next session.
     const reject = error => { if (error.kind != "unknown") this.#isDenied(subscription, error); };
-    this.#post({ make: () => [["SUBSCRIBE", { ...headers, id }]], resolve, reject });
+    this.#post({ make: () => [["SUBSCRIBE", { ...headers, id }]], resolve, reject, destinations: [] });
   }
   /* The broker holds a session that was lost without a close for up to 80 s, and its durable names with it. One that was ready is asked for again
      with each session, after all else, so that what waits is carried out before the session is refused again. */
@@ -445,10 +471,9 @@ class Client {
     this.#complain(error, subscription);
   }
   #begin() {
-    const subscriptions = [...this.#subscriptions.values()], waiting = [...this.#waiting];
-    this.#waiting.clear();
+    const subscriptions = [...this.#subscriptions.values()];
     subscriptions.filter(it => !it.isContested).forEach(it => this.#open(it));
-    waiting.forEach(it => { clearTimeout(it.timer); this.#post(it); });
+    this.#flush();
     subscriptions.filter(it => it.isContested).forEach(it => this.#open(it));
     this.#tell("open");
   }
@@ -456,37 +481,44 @@ class Client {
     const link = this.#link, id = headers.subscription, ending = link.ending.find(it => it.id == id), subscription = ending ?? this.#subscriptions.get(id);
     // What was on its way to one that is ended is heard if it left the broker; else it comes again.
     if (!subscription || (ending && headers.ack !== undefined)) return;
-    this.#call(() => subscription.heard(new Message(this, link, subscription, headers, body)), subscription);
+    const message = new Message(this, link, subscription, headers, body), { ackWithin } = subscription;
+    if (headers.ack !== undefined) subscription.hold(message, () => link.end({ reason: `a message was not acknowledged within ${ackWithin} ms` }));
+    this.#call(() => subscription.heard(message), subscription);
   }
   /* What was asked after a refused one waits for the next session. */
   #isRefused(post, later, error) {
     this.#refusal = error.message;
-    later.filter(it => it.waits).forEach(it => this.#wait(it));
     if (post && !post.isTold) post.reject(error); else this.#complain(error);
+    this.#rests = error.code == "E12" && post?.destinations.length > 0;
+    const left = this.#rests ? this.#rest(post, later) : later;
+    left.filter(it => it.waits).forEach(it => this.#wait(it));
     this.#isSettled = post !== undefined && ![...this.#subscriptions.values()].some(it => it.isContested);
   }
   #isOver(posts, detail) {
+    this.#subscriptions.forEach(it => it.letGo());
     for (const it of posts) it.reject(new StompdError("unknown", `the connection was lost (${detail.code ?? detail.reason}) before the receipt`));
     if (!this.#isWanted) return this.#isClosed(detail);
+    if (this.#isAway) return this.#tell("lost", detail);
     const pause = this.#nextPause();
     this.#timer = setTimeout(() => this.#start(), pause);
     this.#tell(this.#refusal ? "refused" : "lost", { pause, reason: this.#refusal, ...detail });
   }
   #nextPause() {
-    const { shortestPause, longestPause } = this.#options, now = performance.now(), since = now - this.#settledAt;
-    if (this.#link.lasted() >= longestPause) this.#pause = shortestPause;
+    const now = performance.now(), since = now - this.#settledAt;
+    if (this.#link.lasted() >= this.#options.longestPause) this.#pauses.reset();
+    if (this.#rests) return 0;
     if (this.#isSettled) {
       this.#settledAt = now;
       // What was refused is out of the way, so this goes on at once, unless that was so just before.
-      if (since > 2 * this.#pause) return 0;
+      if (since > 2 * this.#pauses.shortestNow) return 0;
     }
-    // Many clients that were lost together come back one after another.
-    const pause = this.#pause * (0.75 + Math.random() / 2);
-    this.#pause = Math.min(2 * this.#pause, longestPause);
-    return pause;
+    return this.#pauses.next();
   }
   #isClosed(detail) {
     clearTimeout(this.#timer);
+    this.#page.abort();
+    for (const it of this.#full.values()) clearTimeout(it.timer);
+    this.#full.clear();
     for (const it of this.#waiting) clearTimeout(it.timer);
     for (const it of [...this.#waiting, ...this.#subscriptions.values()]) it.reject(unsent("the client is closed"));
     this.#waiting.clear();

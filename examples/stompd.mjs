@@ -1,4 +1,5 @@
-/* The client of stompd.js as a module: `import { connect } from "./stompd.mjs"`. Take both files, and stompd.d.mts for the types. */
+/* The client of stompd.js as a module: `import { connect } from "./stompd.mjs"`. Take all three files, and stompd.d.mts for the types. */
+import "./stompd_frames.js";
 import "./stompd.js";
 
 export const { connect, StompdError } = globalThis.Stompd;
