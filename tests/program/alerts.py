@@ -24,6 +24,8 @@ FAULTS = (
                                                  "input/output error", "the system refused a call")),
     "no memory", "cannot start a thread", "input or output failed", "cannot open: /dev/null: it is no file", "cannot open: PORT: another program listens there",
     "cannot open: FILE: there is no such file; --new BYTES makes one",
+    *(f"cannot open: FILE: {cause}" for cause in ("it is there already", "another server has its lock", "permission denied", "it is a directory",
+                                                  "no file may be so large here", "the system refuses it")),
     "opening the journal again in 4 s, which makes room",
     "what the journal holds does not fit into half of it; docs/RUNNING.md says what helps",
 )
@@ -61,11 +63,11 @@ CALM_OBJECTS = (("opening", None), ("made", None), ("started", None), ("journal_
                 ("refused", "other_version"), ("refused", "large_head"), ("gave_up", "silent"), ("gave_up", "no_session"), ("left_out", "unread"),
                 ("errors", 1), ("errors", 5), ("errors", 8), ("errors", 2), ("errors", 10))
 # Where the program has their names: the functions that answer them.
-NAMERS = (("event_log/src/object.rt", "kind_of"), ("event_log/src/notice_object.rt", "kind_of"), ("event_log/src/object.rt", "deed"),
+NAMERS = (("event_log/src/object.rt", "kind_of"), ("event_log/src/notice.rt", "kind_of"), ("event_log/src/object.rt", "deed"),
           ("event_log/src/object.rt", "reason"))
 
 # Where the program has these texts: by the names of the files below crates/.
-SOURCES = ("event_log/src/event.rt", "event_log/src/notice.rt", "event_log/src/fault.rt", "event_log/src/kind.rt", "event_log/src/device.rt", "area_core/src/faults.rt",
+SOURCES = ("event_log/src/event.rt", "event_log/src/notice.rt", "event_log/src/fault.rt", "area_core/src/faults.rt",
            "recover_core/src/faults.rt", "flush_core/src/faults.rt", "stompd/src/reporting.rt", "stompd/src/serving.rt")
 
 
@@ -106,13 +108,16 @@ def lines():
 
 
 def texts_of_the_program():
-    """The literals of the program's texts, as expressions of what they print; those that only join others have no word of their own."""
+    """The literals of the program's texts, as expressions of what they print; those that only join others have no word of their own, and those of objects
+    are names of docs/CLI.md."""
+    table = (TOP / "docs" / "CLI.md").read_text(encoding="utf-8").partition("### Objects of the log")[2].partition("\n## ")[0]
+    names = set(re.findall(r"`(\w+)`", table))
     for name in SOURCES:
         source = (TOP / "crates" / name).read_text(encoding="utf-8")
         source = re.sub(r"(?m)^\s*//.*$|ghost [^;]*;", "", source)
         for literal in re.findall(r'"((?:[^"\\]|\\.)*)"', source):
             said = literal.removeprefix("stompd: ").strip()
-            if re.search(r"[a-z]{2}", re.sub(r"\{[^}]*\}", "", said)):
+            if said not in names and re.search(r"[a-z]{2}", re.sub(r"\{[^}]*\}", "", said)):
                 yield name, literal, re.compile(".*?".join(re.escape(part) for part in re.split(r"\{[^}]*\}", said)))
 
 
