@@ -7,18 +7,20 @@ Needs Linux and Python 3 alone; the gate does not run it.
 - With --new a first start makes the journal and serves it. Without it a missing journal ends it, with a line that says how to make one.
 - A program that is missing, a port that is none and words that the program does not know are refused.
 - SIGTERM ends it with status 143, SIGINT with 130, SIGHUP with 129, at whatever moment, and no server of it is left.
-- What the server writes to standard error is there at once, and the options are passed on. It has the settings of the C library, and as many
-  descriptors as there may be.
+- What the server writes to standard error is there at once, and its fault is the last line. It has the settings of the C library, and as many
+  descriptors as there may be. Each option of `stompd serve` takes effect, and without words for them FILE is rooms.journal and PORT 8080.
 - Nothing of it stays in the temporary folder.
-- A server is waited for, a second signal changes nothing, and one that doesn't end is killed after eight seconds.
+- A server is waited for, a second signal of any kind changes nothing, and one that doesn't end is killed after eight seconds.
 - A build that fails or is broken off ends it, and with --proved only a proved program serves.
-- It goes on if nobody reads what is logged any more, serves though standard error was full before, and ends in good order if a signal comes
-  to all of its process group. If it is killed, its server ends in good order.
+- It goes on if nobody reads what is logged any more, serves though standard error was full before, and leaves nothing behind then. It ends in good
+  order if a signal comes to all of its process group. If it is killed, its server ends in good order.
 
 With --few there are fewer moments.
 """
 
 import contextlib
+import itertools
+import json
 import os
 import pathlib
 import random
@@ -34,6 +36,7 @@ import time
 
 from lib.scenario import TOP, BriefChecks, free_port, words_of
 from lib.stomp_client import Client
+from lib.wire import handshake
 
 SERVE = TOP / "bin" / "serve"
 STATUSES = {signal.SIGTERM: 143, signal.SIGINT: 130, signal.SIGHUP: 129}
@@ -247,26 +250,63 @@ exit 7""")
 exit 7""")
     checks.same("without words it ends as its program does", Start(bare).end()[0], 7)
     checks.same("which had the file and the port of the first lines of the script", words.read_text(), "serve rooms.journal 8080 --until-eof\n")
+    checks.same("with a file alone it ends as its program does", Start(bare, "--new", "some.journal").end()[0], 7)
+    checks.same("which had that file, and the port of the first lines", words.read_text(), "serve some.journal 8080 --until-eof --new 536870944\n")
+
+
+def the_fault_is_last(checks):
+    """The version is logged before the server starts, however soon that fails."""
+    file = new_file(checks)
     fault = checks.stand_in("echo 'stompd: J3 device failed' >&2; exit 1")
-    checks.same("a server that fails ends it", Start(fault, file, free_port()).end(), (1, "stompd: J3 device failed\n"))
+    (fault.parent / "VERSION").write_text("stompd 1.2.3, not proved\n", encoding="utf-8")
+    for _ in range(checks.moments):
+        start = Start(fault, file, free_port())
+        logged = start.process.communicate(timeout=PATIENCE)[1]
+        checks.same("a server that fails ends it, and its fault is the last line", (start.process.returncode, logged), (1, "serve: stompd 1.2.3, not proved\nstompd: J3 device failed\n"))
+
+
+def options(checks):
+    """Each option of docs/CLI.md, given after PORT, does what that page says."""
+    usage = re.search(r"^`stompd serve FILE PORT (.*?)` listens", (TOP / "docs" / "CLI.md").read_text(encoding="utf-8"), re.M)[1]
+    # --until-eof is the script's own: it ends its server so.
+    checks.same("these are all options", sorted(re.findall(r"--[a-z-]+", usage)), ["--json", "--memory", "--new", "--origin", "--threads", "--until-eof"])
+    threads = []
+    for count in (2, 7):
+        file, port = new_file(checks), free_port()
+        start = Start(checks.program, file, port, "--origin", "http://here:1", "--threads", str(count), "--memory", "16M", "--new", "64M", "--json")
+        checks.check("it serves", start.listens())
+        server = child_with(start, "serve")
+        threads.append(len(os.listdir(f"/proc/{server}/task")))
+        checks.same("--new makes a journal of that size", file.stat().st_size, 64 << 20)
+        for origin, status in (("http://here:1", "101"), ("http://there:1", "403")):
+            with socket.create_connection(("127.0.0.1", port), timeout=PATIENCE) as page:
+                page.sendall(handshake(port, offer="v12.stomp", headers=[("Origin", origin)]))
+                checks.same(f"--origin: a page of {origin} is answered", page.recv(4_096).decode().split()[1], status)
+        start.process.send_signal(signal.SIGTERM)
+        logged = [json.loads(line) for line in start.process.communicate(timeout=PATIENCE)[1].splitlines() if not VERSION.match(line)]
+        checks.same("--json and --memory: an object says how much clients may hold", [it["memory_bytes"] for it in logged if it["kind"] == "started"], [16 << 20])
+    checks.same("--threads: with five threads more it has five more", threads[1] - threads[0], 5)
 
 
 def servers_that_end_late(checks):
     """A server is waited for, a second signal is none, and after eight seconds it is killed."""
     file = new_file(checks)
-    began, done = file.parent / "began", file.parent / "done"
-    slow = checks.stand_in(f': > "{began}"; cat > /dev/null; sleep 1; : > "{done}"; exit 0')
-    start, sent = Start(slow, file, free_port()), time.monotonic()
-    wait_until(began.exists)
-    start.process.send_signal(signal.SIGTERM)
-    time.sleep(0.3)
-    checks.same("a second signal while its server ends changes nothing", start.end(signal.SIGTERM)[0], 143)
-    ended = time.monotonic()
-    checks.check("its server has ended by itself, and is no longer waited for", done.exists() and ended - sent < GRACE, ended - sent)
-    with contextlib.suppress(AssertionError):
-        wait_until(lambda: not group_of(start), GRACE / 2)
-    checks.same("nor is anything else of it left, which would wait until then", group_of(start), [])
-    began.unlink()
+    began, told, done = (file.parent / it for it in ("began", "told", "done"))
+    slow = checks.stand_in(f': > "{began}"; cat > /dev/null; : > "{told}"; sleep 1; : > "{done}"; exit 0')
+    for first, second in itertools.product(STATUSES, STATUSES):
+        what = f"{second.name} after {first.name}"
+        start, sent = Start(slow, file, free_port()), time.monotonic()
+        wait_until(began.exists)
+        start.process.send_signal(first)
+        wait_until(told.exists)
+        checks.same(f"{what} while its server ends changes nothing", start.end(second)[0], STATUSES[first])
+        ended = time.monotonic()
+        checks.check(f"{what}: its server has ended by itself, and is no longer waited for", done.exists() and ended - sent < GRACE, ended - sent)
+        with contextlib.suppress(AssertionError):
+            wait_until(lambda: not group_of(start), GRACE / 2)
+        checks.same(f"{what}: nor is anything else of it left, which would wait until then", group_of(start), [])
+        for it in (began, told, done):
+            it.unlink(missing_ok=True)
     deaf = checks.stand_in(f': > "{began}"; exec sleep 600')
     start = Start(deaf, file, free_port())
     wait_until(began.exists)
@@ -311,14 +351,14 @@ def nobody_reads(checks):
     version = file.parent / "VERSION"
     shutil.copy2(checks.program, file.parent / "program")
     version.write_text("stompd 1.2.3, not proved\n", encoding="utf-8")
-    start = Start(file.parent / "program", file, port, errors=writes)
-    checks.check("it serves though standard error was full before", start.listens())
-    start.process.send_signal(signal.SIGTERM)
-    checks.same("and ends in good order then too", start.process.wait(PATIENCE), 143)
-    # The line of its version waits still, until nobody can read it.
+    for _ in range(checks.moments):
+        start = Start(file.parent / "program", file, port, errors=writes)
+        checks.check("it serves though standard error was full before", start.listens())
+        start.process.send_signal(signal.SIGTERM)
+        checks.same("and ends in good order then too", start.process.wait(PATIENCE), 143)
+        checks.same("and nothing of it is left, though still nobody reads", group_of(start), [])
     os.close(reads)
     os.close(writes)
-    wait_until(lambda: not running_over(file))
 
 
 def a_signal_to_the_group(checks):
@@ -338,7 +378,7 @@ def a_killed_script(checks):
     subprocess.run([checks.program, "format", "--sparse", file, "64M"], check=True)
     (file.parent / "VERSION").write_text("stompd 1.2.3, not proved\n", encoding="utf-8")
     shutil.copy2(checks.program, file.parent / "program")
-    # The line of the version waits, since standard error is full.
+    # Standard error is full.
     reads, writes = full_pipe()
     start = Start(file.parent / "program", file, port, errors=writes)
     checks.check("it serves", start.listens())
@@ -426,6 +466,8 @@ SCENARIOS = [
     a_first_start,
     signals_at_any_moment,
     what_the_server_logs,
+    the_fault_is_last,
+    options,
     servers_that_end_late,
     nobody_reads,
     a_signal_to_the_group,
