@@ -12,20 +12,18 @@ a line on standard error; a last server, whose standard error nobody reads, goes
 """
 
 import collections
-import contextlib
 import fcntl
 import os
 import random
 import re
-import shutil
 import signal
-import subprocess
 import sys
 import tempfile
 import threading
 import time
 
 from lib import kept, scenario
+from lib.tracing import need_strace, strace
 
 # Two areas of 512 KiB after a head of 32 bytes, whose byte 16 is the selector.
 JOURNAL_BYTES = 1_048_608
@@ -40,7 +38,7 @@ PADDING = "x" * 4_000
 # Within this many seconds after a compaction has begun a kill comes that is aimed at it.
 AIM = 0.0005
 
-COMPACTED = re.compile(r"stompd: \S+ compacted: (\d+) bytes won in (\d+) ms\n")
+COMPACTED = re.compile(r"stompd: \S+ compacted(?: slowly)?: (\d+) bytes won in (\d+) ms\n")
 WRITE = re.compile(r"pwrite64\(\d+, .*, (\d+), (\d+)(?:\)| <unfinished)")
 
 
@@ -108,39 +106,29 @@ class Watched(scenario.Broker):
     # Whether somebody reads what it tells while it runs.
     is_heard = True
 
+    def __init__(self, program, journal):
+        super().__init__(program, journal, before=("strace",))
+
     def serve(self):
         self.folder = tempfile.TemporaryDirectory(prefix="compactions-")
         pipe = os.path.join(self.folder.name, "trace")
         os.mkfifo(pipe)
-        self.count, self.runs, self.is_selected = 0, False, False
+        self.compactions, self.runs, self.is_selected = 0, False, False
         # How long after the next begin of a compaction the server is killed, if it is aimed at; and that it was.
         self.aim, self.is_hit = None, threading.Event()
-        self.watch = threading.Thread(target=self.read, args=(pipe,))
+        self.watch = threading.Thread(target=self.watch_calls, args=(pipe,))
         self.watch.start()
-        calls = ["strace", "-f", "--seccomp-bpf", "-qq", "-s", "0", "-o", pipe, "-e", "trace=pwrite64,fdatasync"]
-        words = [*calls, self.program, "serve", self.journal, str(self.port)]
-        self.process = subprocess.Popen(words, stdout=subprocess.PIPE, stderr=subprocess.PIPE)
+        self.before, self.is_read = [*strace(pipe, "pwrite64,fdatasync"), "--seccomp-bpf", "-qq", "-s", "0"], self.is_heard
+        super().serve()
         # What nobody reads is soon as much as the pipe holds.
         fcntl.fcntl(self.process.stderr, fcntl.F_SETPIPE_SZ, 4096)
-        self.words = []
-        self.listener = threading.Thread(target=self.listen)
-        line = self.process.stdout.readline().decode()
-        if line != f"listening {self.port}\n":
-            raise RuntimeError(f"the broker does not serve: {line!r}")
-        if self.is_heard:
-            self.listener.start()
-
-    def listen(self):
-        """Hears what is told on standard error."""
-        for line in self.process.stderr:
-            self.words.append(line.decode())
 
     def won(self):
         """How many bytes each compaction is told to have won, and how many milliseconds its turn took."""
-        told = [COMPACTED.fullmatch(line) for line in self.words]
+        told = [COMPACTED.fullmatch(line) for _, line in self.lines]
         return [(int(found.group(1)), int(found.group(2))) for found in told if found]
 
-    def read(self, pipe):
+    def watch_calls(self, pipe):
         with open(pipe, encoding="ascii") as trace:
             for line in trace:
                 self.see(line)
@@ -155,7 +143,7 @@ class Watched(scenario.Broker):
             self.is_selected = self.is_selected or (place == SELECTOR and size == 1)
         elif "fdatasync" in line and " = 0" in line and self.runs and self.is_selected:
             self.runs, self.is_selected = False, False
-            self.count += 1
+            self.compactions += 1
 
     def shoot(self):
         """Kills the server, if that is wanted, from the thread that reads the trace, since a compaction takes a millisecond."""
@@ -170,27 +158,15 @@ class Watched(scenario.Broker):
 
     def kill_within(self, aim):
         """Kills the server so long after the next compaction has begun."""
-        self.target = self.server()
+        self.target = self.number()
         self.aim = aim
         self.is_hit.wait(timeout=10)
 
-    def server(self):
-        return scenario.child_of(self.process.pid)
-
-    def kill(self):
-        """Kills the server itself, with which strace ends, and then knows whether a compaction ran."""
-        if self.process.poll() is None:
-            # One that was aimed at may be gone already.
-            with contextlib.suppress(ValueError, OSError):
-                os.kill(self.server(), signal.SIGKILL)
-        self.process.wait()
+    def close(self):
         self.watch.join()
-        if not self.is_heard:
-            self.listener.start()
-        self.listener.join()
-        self.told = "".join(self.words).encode()
-        self.process.stdout.close()
-        self.process.stderr.close()
+        if not self.reader:
+            self.read()
+        super().close()
         self.folder.cleanup()
 
 
@@ -225,11 +201,11 @@ def under_load(broker, seconds, chance, checks):
     """A server whose journal is full several times a second, for so long."""
     # What its opening wrote is seen by now, and is not told.
     time.sleep(0.5)
-    opened = broker.count
+    opened = broker.compactions
     talkers = begin(broker, "load", chance)
-    before = broker.count
+    before = broker.compactions
     time.sleep(seconds)
-    compactions = broker.count - before
+    compactions = broker.compactions - before
     for one in talkers:
         one.is_told_to_end = True
     join(talkers)
@@ -244,7 +220,7 @@ def under_load(broker, seconds, chance, checks):
     if broker.is_heard:
         # How much depends on how much is held just then.
         told = broker.won()
-        checks.same("each compaction is told", len(told), broker.count - opened)
+        checks.same("each compaction is told", len(told), broker.compactions - opened)
         checks.check("with what it won", all(0 < bytes_won < 524_288 for bytes_won, _ in told), sorted(told)[:5])
     checks.tell(f"{sum(one.count for one in talkers)} messages, {compactions} compactions in {seconds} s")
 
@@ -292,9 +268,7 @@ def main():
     parser.add_argument("--kills", type=int, default=100)
     parser.add_argument("--seed", type=int, default=random.randrange(2**32), help="of the moments and of what is sent")
     words = parser.parse_args()
-    if shutil.which("strace") is None:
-        print("compactions.py needs strace", file=sys.stderr)
-        return 2
+    need_strace()
     print(f"seed {words.seed}", flush=True)
     chance, checks = random.Random(words.seed), scenario.Checks()
     with scenario.serving(words.program, JOURNAL_BYTES, Watched) as broker:

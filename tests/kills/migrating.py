@@ -26,6 +26,7 @@ import tempfile
 import time
 
 from lib import old_journal, scenario
+from lib.commands import run, shown
 from lib.kept import DEAD, LAST_BODY
 from lib.stomp_client import Client
 
@@ -61,12 +62,6 @@ class Journal:
 
     def write(self, path):
         path.write_bytes(self.content)
-
-
-def show(program, path):
-    """What `show` tells, by its words."""
-    told = subprocess.run([program, "show", path], stdout=subprocess.PIPE, check=True, text=True).stdout
-    return {word: int(value) for word, value in (line.split(" ") for line in told.splitlines())}
 
 
 def take(port, destination, padding):
@@ -122,9 +117,9 @@ def served(program, path):
 def by_the_old_program(program, journal, path, checks):
     """What a program of the first version says of the journal, and what it serves of it."""
     journal.write(path)
-    shown = show(program, path)
+    seen = shown(program, "show", path)
     expected = {"version": 1, "area": 0, "used": journal.used, "count": journal.count, "held": journal.held}
-    checks.same("the old program shows the journal as it was made", shown, expected)
+    checks.same("the old program shows the journal as it was made", seen, expected)
     with served(program, path) as broker:
         faults = list(faults_of_what_is_there(broker.port, journal))
     checks.same("and serves what it stands for by the old rule", faults, [])
@@ -132,9 +127,8 @@ def by_the_old_program(program, journal, path, checks):
 
 def there_is_no_way_back(program, path, checks):
     """What a program of the first version says of the file once a newer one has opened it."""
-    ended = subprocess.run([program, "show", path], stdout=subprocess.PIPE, stderr=subprocess.PIPE, text=True)
-    told = ended.returncode, ended.stderr.split(" at ")[0]
-    checks.same("the old program refuses what the new one has opened", told, (1, "stompd: J2 damaged"))
+    status, _, said = run(program, "show", path)
+    checks.same("the old program refuses what the new one has opened", (status, said.split(" at ")[0]), (1, "stompd: J2 damaged"))
 
 
 class Watch:
@@ -230,10 +224,10 @@ class Tally:
 
 
 def faults_of_a_kill(program, path, journal, state, was_switched):
-    shown = show(program, path)
+    told = shown(program, "show", path)
     version = 2 if was_switched or state == AFTER else 1
     expected = {"version": version, "count": journal.count, "held": journal.held}
-    seen = {word: shown[word] for word in expected}
+    seen = {word: told[word] for word in expected}
     if seen != expected:
         yield f"killed {state}, `show` tells {seen} and not {expected}"
 
@@ -253,9 +247,9 @@ def one_round(program, path, journal, times, chance, tally):
     with served(program, path) as broker:
         tally.longest_restart = max(tally.longest_restart, time.perf_counter() - begin)
         faults += faults_of_what_is_there(broker.port, journal)
-    shown = show(program, path)
-    if (shown["version"], shown["held"]) != (2, 0):
-        faults.append(f"opened and drained, `show` tells {shown}")
+    told = shown(program, "show", path)
+    if (told["version"], told["held"]) != (2, 0):
+        faults.append(f"opened and drained, `show` tells {told}")
     tally.rounds += 1
     tally.messages += journal.held
     return faults

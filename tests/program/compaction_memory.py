@@ -21,7 +21,7 @@ TRAFFIC = "x" * 1_000
 UNDER_WAY = 8
 # A whole snapshot of what is held would take 16 MiB.
 MOST_GROWTH = 4 << 20
-COMPACTED = re.compile(r" compacted: (\d+) bytes won in \d+ ms\n")
+COMPACTED = re.compile(r" compacted(?: slowly)?: (\d+) bytes won in \d+ ms\n")
 
 
 def fill_until(client, broker, wanted):

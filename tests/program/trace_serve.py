@@ -17,20 +17,17 @@ docs/JOURNAL.md says. No contract can know this. Needs strace and Python 3 alone
 """
 
 import collections
-import os
 import pathlib
 import re
-import shutil
-import signal
 import struct
-import subprocess
 import sys
 import tempfile
 import threading
 import time
 
-from lib.scenario import child_of, free_port, program_of
+from lib.scenario import Broker, make_journal, program_of
 from lib.stomp_client import Client
+from lib.tracing import bytes_of, need_strace, strace
 
 AREA = 65_536
 HEAD = 32
@@ -63,7 +60,7 @@ class Call:
 
     def data(self):
         """The bytes of all the texts in its words."""
-        return b"".join(bytes.fromhex(text.replace("\\x", "")) for text in re.findall(r'"((?:\\x[0-9a-f]{2})*)"', self.words))
+        return b"".join(bytes_of(text) for text in re.findall(r'"((?:\\x[0-9a-f]{2})*)"', self.words))
 
     def place(self):
         return int(self.words.rsplit(",", 1)[1])
@@ -91,25 +88,6 @@ def calls_of(trace):
             calls.append(Call(name, words, number))
             calls[-1].end("", int(answer), number)
     return calls
-
-
-class Traced:
-    """A server under strace."""
-
-    def __init__(self, program, journal, trace):
-        self.port = free_port()
-        words = ["strace", "-f", "-xx", "-s", "1000000", "-o", trace, "-e", "trace=" + CALLS, program, "serve", journal, str(self.port)]
-        self.process = subprocess.Popen(words, stdout=subprocess.PIPE, stderr=subprocess.PIPE)
-        line = self.process.stdout.readline().decode()
-        if line != f"listening {self.port}\n":
-            sys.exit(f"trace_serve: the server does not listen: {line}{self.process.stderr.read().decode()}")
-
-    def kill(self):
-        """Kills the server itself, the one child of strace, which ends with it."""
-        os.kill(child_of(self.process.pid), signal.SIGKILL)
-        self.process.wait()
-        self.process.stdout.close()
-        self.process.stderr.close()
 
 
 def text(data):
@@ -357,7 +335,7 @@ def sends_at_once(calls):
 def first_run(program, folder, path):
     """An empty journal, and a client that waits for each receipt."""
     trace = folder / "first.trace"
-    server = Traced(program, path, trace)
+    server = Broker(program, path, before=strace(trace, CALLS, has_texts=True))
     records, client = one_at_a_time(server.port)
     server.kill()
     client.close()
@@ -387,7 +365,7 @@ def second_run(program, folder, path):
     """The journal with 40 messages held, and four clients at once."""
     trace = folder / "second.trace"
     began = time.monotonic()
-    server = Traced(program, path, trace)
+    server = Broker(program, path, before=strace(trace, CALLS, has_texts=True))
     asked = many_at_once(server.port)
     server.kill()
     calls = calls_of(trace)
@@ -408,13 +386,10 @@ def second_run(program, folder, path):
 
 def main():
     program = program_of(__doc__)
-    if shutil.which("strace") is None:
-        print("trace_serve: strace is missing", file=sys.stderr)
-        sys.exit(2)
+    need_strace()
     with tempfile.TemporaryDirectory() as name:
         folder = pathlib.Path(name)
-        path = str(folder / "journal")
-        subprocess.run([program, "format", path, str(HEAD + 2 * AREA)], check=True)
+        path = make_journal(program, str(folder / "journal"), HEAD + 2 * AREA)
         try:
             first_run(program, folder, path)
             second_run(program, folder, path)
