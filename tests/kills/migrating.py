@@ -26,7 +26,7 @@ import tempfile
 import time
 
 from lib import old_journal, scenario
-from lib.commands import run, shown
+from lib.commands import run, show
 from lib.kept import DEAD, LAST_BODY
 from lib.stomp_client import Client
 
@@ -117,7 +117,7 @@ def served(program, path):
 def by_the_old_program(program, journal, path, checks):
     """What a program of the first version says of the journal, and what it serves of it."""
     journal.write(path)
-    seen = shown(program, "show", path)
+    seen = show(program, path)
     expected = {"version": 1, "area": 0, "used": journal.used, "count": journal.count, "held": journal.held}
     checks.same("the old program shows the journal as it was made", seen, expected)
     with served(program, path) as broker:
@@ -224,7 +224,7 @@ class Tally:
 
 
 def faults_of_a_kill(program, path, journal, state, was_switched):
-    told = shown(program, "show", path)
+    told = show(program, path)
     version = 2 if was_switched or state == AFTER else 1
     expected = {"version": version, "count": journal.count, "held": journal.held}
     seen = {word: told[word] for word in expected}
@@ -247,7 +247,7 @@ def one_round(program, path, journal, times, chance, tally):
     with served(program, path) as broker:
         tally.longest_restart = max(tally.longest_restart, time.perf_counter() - begin)
         faults += faults_of_what_is_there(broker.port, journal)
-    told = shown(program, "show", path)
+    told = show(program, path)
     if (told["version"], told["held"]) != (2, 0):
         faults.append(f"opened and drained, `show` tells {told}")
     tally.rounds += 1

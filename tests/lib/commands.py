@@ -44,10 +44,16 @@ def started(program, *words, stdin=subprocess.DEVNULL, **how):
                 stream.close()
 
 
+def show(program, journal):
+    """The numbers that `show` prints of a journal by their words, or the line that it tells."""
+    status, printed, said = run_for_text(program, "show", journal)
+    return said.strip() if status else {word: int(number) for word, number in (it.split(" ") for it in printed.splitlines())}
+
+
 def held_or_fault(program, journal):
     """How many messages `show` says that a journal holds, or what it tells."""
-    status, printed, said = run_for_text(program, "show", journal)
-    return said.strip() if status else int(dict(it.split(" ") for it in printed.splitlines())["held"])
+    shown = show(program, journal)
+    return shown if isinstance(shown, str) else shown["held"]
 
 
 def shown(program, command, journal):
