@@ -132,7 +132,7 @@ SCRIPTS = [
     Script("tests/program/crowd.py", light="", alone="it measures how soon 700 are connected, and what idle ones cost"),
     Script("tests/program/crowd.py", "--many"),
     Script("tests/program/backpressure.py", light="", alone="it measures that nobody else waits"),
-    Script("tests/program/slow_reader.py", light="--few", alone="it measures that nobody else waits"),
+    Script("tests/program/slow_reader.py", light="", alone="it measures that nobody else waits"),
     Script("tests/program/steady_readers.py", light="", waits=True),
     Script("tests/program/starved_readers.py"),
     Script("tests/program/unread.py", light=""),

@@ -20,14 +20,14 @@ are in one thread, which waits for their sockets at once.
 A SIGKILL ends the program, not the machine: what the program had written is there for the system. What a lost machine leaves is the crash model's matter.
 """
 
+import functools
 import random
-import select
 import sys
 import time
 
 from lib import scenario
 from lib.kept import DEAD, MOST_OF_A_ROUND, QUEUE, Group, Sender, Totals, Worker, faults_of_a_round, faults_of_order, faults_of_refusals, take_all, tell
-from lib.members import Member
+from lib.members import Crowd, Member
 from lib.wire import frame_of, stomp_message
 
 # The topics of a crowd, and the receipts that each of it waits for at a time.
@@ -116,35 +116,8 @@ class Nobody:
     had, settled, refused, fault = {}, set(), set(), None
 
 
-class Crowd:
-    """The clients of a round, and what waits for their sockets."""
-
-    def __init__(self, port, name, count, chance):
-        self.poll, self.members = select.epoll(), {}
-        most = MOST_OF_A_ROUND // count
-        self.under_way, self.ready = 0, 0
-        waiting, end = list(range(count)), time.monotonic() + LONGEST
-        while self.ready < count and time.monotonic() < end:
-            while waiting and self.under_way < AT_ONCE:
-                number = waiting.pop()
-                self.add(SendingMember(port, f"{name}.{number}", number, most, chance))
-            self.look(1)
-
-    def add(self, member):
-        self.members[member.socket.fileno()] = member
-        self.poll.register(member.socket, select.EPOLLIN)
-        self.under_way += 1
-
-    def look(self, seconds):
-        for number, _ in self.poll.poll(seconds):
-            member = self.members[number]
-            was_ready = member.stage == "ready"
-            member.read()
-            if member.is_over:
-                self.poll.unregister(number)
-            if member.stage == "ready" and not was_ready:
-                self.under_way -= 1
-                self.ready += 1
+class SendingCrowd(Crowd):
+    """The clients of a round."""
 
     def send_until(self, moment):
         """All begin to send, and go on until that moment."""
@@ -170,10 +143,11 @@ class Crowd:
 
 def a_round_of_a_crowd(broker, name, chance, count, totals):
     """Kills and starts the broker, and answers what is wrong then."""
-    crowd = Crowd(broker.port, name, count, chance)
+    crowd, most = SendingCrowd(), MOST_OF_A_ROUND // count
+    ready = crowd.bring([functools.partial(SendingMember, broker.port, f"{name}.{number}", number, most, chance) for number in range(count)], AT_ONCE, LONGEST)
     members = list(crowd.members.values())
-    if crowd.ready < count:
-        return [f"{count - crowd.ready} of {count} were not there after {LONGEST} s"]
+    if ready < count:
+        return [f"{count - ready} of {count} were not there after {LONGEST} s"]
     crowd.send_until(time.monotonic() + chance.uniform(0.01, 0.6))
     closed = [f"{it.name} was closed before the kill" for it in members if it.is_over]
     broker.kill()

@@ -1,5 +1,7 @@
 """Clients of which there are a thousand and more in one thread: each subscribes to a topic, and never waits."""
 
+import collections
+import select
 import socket
 import time
 
@@ -71,3 +73,35 @@ class Member:
     def hear_more(self, payload):
         """Hears a frame of STOMP once it has subscribed."""
         raise NotImplementedError
+
+
+class Crowd:
+    """Members whose sockets are waited for at once."""
+
+    def __init__(self):
+        self.poll, self.members, self.lost = select.epoll(), {}, []
+
+    def bring(self, members, at_once, longest):
+        """Brings in so many at a time until each has its receipt, or is lost, or so many seconds are over. Answers how many are there."""
+        coming, under_way, end = collections.deque(members), set(), time.monotonic() + longest
+        while (coming or under_way) and time.monotonic() < end:
+            while coming and len(under_way) < at_once:
+                member = coming.popleft()()
+                self.members[member.socket.fileno()] = member
+                self.poll.register(member.socket, select.EPOLLIN)
+                under_way.add(member)
+            self.look(1)
+            under_way = {it for it in under_way if it.stage != "ready" and not it.is_over}
+        return sum(it.stage == "ready" for it in self.members.values())
+
+    def look(self, seconds):
+        """Lets those read for which something comes within that time. Answers whether it was so for any, and the other descriptors that have something."""
+        events = self.poll.poll(seconds)
+        for number, _ in events:
+            member = self.members.get(number)
+            if member:
+                member.read()
+                if member.is_over:
+                    self.poll.unregister(number)
+                    self.lost.append(member)
+        return bool(events), [number for number, _ in events if number not in self.members]

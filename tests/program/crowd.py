@@ -11,6 +11,7 @@ topic once, in order and within a second, and the broker goes on.
 """
 
 import collections
+import functools
 import multiprocessing
 import pathlib
 import select
@@ -19,7 +20,7 @@ import sys
 import time
 
 from lib import scenario
-from lib.members import Member
+from lib.members import Crowd, Member
 from lib.stomp_client import Client
 
 CROWD = 200
@@ -111,22 +112,6 @@ def comings_and_goings(broker, checks):
         client.disconnect()
 
 
-def one_gone_without_a_word(broker, checks):
-    """what one held that is gone without a DISCONNECT goes to another at once"""
-    holder = Client(broker.port).connect()
-    holder.subscribe("h", "/queue/crowd", "client-individual")
-    holder.publish("/queue/crowd", "x")
-    other = Client(broker.port).connect()
-    other.subscribe("h", "/queue/crowd", "client-individual")
-    start = time.perf_counter()
-    holder.close()
-    checks.same("another is handed it", other.receive().body, "x")
-    taken = time.perf_counter() - start
-    checks.check("at once", taken < 2, taken)
-    checks.tell(f"after {taken * 1000:.1f} ms")
-    other.disconnect()
-
-
 class Subscriber(Member):
     """One of the many, which keeps what it heard, and when."""
 
@@ -141,56 +126,22 @@ class Subscriber(Member):
             self.fault = payload
 
 
-def connect(port, topics, poll, clients, lost):
-    """Connects a client for each of these topics, some at a time, until each has its receipt."""
-    waiting, under_way, end = collections.deque(topics), 0, time.monotonic() + LONGEST
-    while (waiting or under_way) and time.monotonic() < end:
-        while waiting and under_way < AT_ONCE:
-            client = Subscriber(port, waiting.popleft())
-            clients[client.socket.fileno()] = client
-            poll.register(client.socket, select.EPOLLIN)
-            under_way += 1
-        for number, _ in poll.poll(1):
-            client = clients[number]
-            was = client.stage
-            client.read()
-            if client.is_over:
-                poll.unregister(number)
-                lost.append(client)
-                under_way -= was != "ready"
-            elif client.stage == "ready" and was != "ready":
-                under_way -= 1
-
-
-def listen(poll, clients, lost, orders):
-    """Hears what comes until told to stop, and then until nothing comes any more."""
-    stopping = None
-    while stopping is None or time.monotonic() < stopping:
-        events = poll.poll(0.2)
-        for number, _ in events:
-            if number == orders.fileno():
-                orders.recv()
-                poll.unregister(number)
-                stopping = time.monotonic() + LAST
-                continue
-            clients[number].read()
-            if clients[number].is_over:
-                poll.unregister(number)
-                lost.append(clients[number])
-        if stopping and not events:
-            break
-
-
 def crowd(port, topics, orders):
-    """A process: it connects its clients, tells so, and listens. It tells what each heard."""
-    poll, clients, lost = select.epoll(), {}, []
-    connect(port, topics, poll, clients, lost)
-    orders.send(sum(client.stage == "ready" for client in clients.values()))
-    poll.register(orders.fileno(), select.EPOLLIN)
-    listen(poll, clients, lost, orders)
-    orders.send([(client.number, client.heard) for client in clients.values()])
-    orders.send([client.fault for client in clients.values() if client.fault])
-    orders.send(len(lost))
+    """A process: it connects its clients, tells so, and listens until it is told to stop, and then until nothing comes any more. It tells what each heard."""
+    clients, stopping = Crowd(), None
+    orders.send(clients.bring([functools.partial(Subscriber, port, topic) for topic in topics], AT_ONCE, LONGEST))
+    clients.poll.register(orders.fileno(), select.EPOLLIN)
+    while stopping is None or time.monotonic() < stopping:
+        came, others = clients.look(0.2)
+        if others:
+            orders.recv()
+            clients.poll.unregister(orders.fileno())
+            stopping = time.monotonic() + LAST
+        elif stopping and not came:
+            break
+    orders.send([(client.number, client.heard) for client in clients.members.values()])
+    orders.send([client.fault for client in clients.members.values() if client.fault])
+    orders.send(len(clients.lost))
 
 
 def send_all(broker, topics, sends, seconds):
@@ -286,7 +237,7 @@ def main():
         """so many connections, each on a topic with others"""
         many(broker, checks, words)
 
-    few = [a_full_house, nothing_to_do, standing_still, comings_and_goings, one_gone_without_a_word]
+    few = [a_full_house, nothing_to_do, standing_still, comings_and_goings]
     return scenario.run_over(words.program, [many_at_once] if words.many else few)
 
 

@@ -1,11 +1,10 @@
 #!/usr/bin/env python3
-"""Clients that would hold their worker: one that sends fragments without end, one that answers a close with anything but its own, and one
-that sends pings and reads nothing. Each is served or let go in its time, and the others don't wait.
+"""Clients that would hold their worker: one that sends fragments without end, and one that answers a close with anything but its own. Each is served or
+let go in its time, and the others don't wait.
 
     python3 tests/program/holding.py [PROGRAM]
 """
 
-import select
 import sys
 import threading
 import time
@@ -14,8 +13,7 @@ from lib import scenario
 from lib.stomp_client import Client, Closed
 from lib.wire import CLOSE, CONTINUATION, PING, TEXT, message_bytes
 
-# For how many seconds a client may take nothing of what is written, and for how many its close is waited for.
-LONGEST_WRITE = 60
+# For how many seconds a client's close is waited for.
 LONGEST_CLOSE = 10
 # For a busy machine.
 SPARE = 4
@@ -145,37 +143,6 @@ def answers_its_close(broker, checks):
     client.close()
 
 
-def pings_and_never_reads(broker, checks):
-    """one that sends pings and reads nothing of their answers is given up after the 60 seconds of every write"""
-    client = Client(broker.port, receive_bytes=4_096).connect()
-    client.socket.setblocking(False)
-    ping = 100 * message_bytes(PING, b"x" * 125)
-    start = last = time.monotonic()
-    ended = False
-    sent = 0
-    while not ended and time.monotonic() - last < 2 * LONGEST_WRITE + 20:
-        _, writable, _ = select.select([], [client.socket], [], 0.2)
-        if not writable:
-            continue
-        try:
-            sent += client.socket.send(ping)
-            last = time.monotonic()
-        except BlockingIOError:
-            continue
-        except OSError:
-            ended = True
-    waited = time.monotonic() - last
-    checks.check("its connection is ended", ended, waited)
-    # At the end of its time what waits is offered to its socket once more. If that has room then, it has as long again.
-    checks.check("some 60 to 120 seconds after it could send no more", LONGEST_WRITE - SPARE < waited < 2 * LONGEST_WRITE + SPARE, waited)
-    checks.tell(f"{sent} bytes of pings in {last - start:.1f} s, ended {waited:.1f} s after the last of them")
-    client.close()
-    other = Client(broker.port).connect()
-    other.publish("/topic/none", "x")
-    other.disconnect()
-    checks.check("another is served", True)
-
-
 if __name__ == "__main__":
     scenario.keep_journals_in_memory()
-    sys.exit(scenario.run(__doc__, [sends_fragments, has_neighbours, answers_its_close, answers_no_close, pings_and_never_reads]))
+    sys.exit(scenario.run(__doc__, [sends_fragments, has_neighbours, answers_its_close, answers_no_close]))

@@ -1,9 +1,8 @@
 #!/usr/bin/env python3
 """A server whose clients may hold 256 MiB together: 2,000 subscribe to a topic and read nothing, while somebody sends to it. Those who hold most are
 given up, before they would be for taking nothing; one that reads everything and one that sends hear what is theirs at once; and the server lives
-under a limit of memory that it would pass if all of them held what waits for them. Then 4,000 send most of a head, to a server whose clients may hold
-16 MiB; and 1,500 one message of 600 SENDs each, to one whose disk is so slow that these wait. Then 3,000 come to a topic and go. Last, 400 send one
-message of 128 KiB each.
+under a limit of memory that it would pass if all of them held what waits for them. Then 3,000 come to a topic and go; 1,500 send one message of 600 SENDs
+each, to a server whose disk is so slow that these wait; and 400 send one message of 128 KiB each.
 
     python3 tests/program/memory_budget.py [PROGRAM]
 
@@ -20,7 +19,6 @@ It takes a minute or less, and needs strace and Python 3 alone.
 import contextlib
 import os
 import re
-import socket
 import sys
 import threading
 import time
@@ -28,7 +26,7 @@ import time
 from lib import scenario
 from lib.stomp_client import Client
 from lib.tracing import strace
-from lib.wire import TEXT, handshake, message_bytes, stomp_bytes
+from lib.wire import TEXT, message_bytes, stomp_bytes
 
 TOPIC = "/topic/unread"
 BUDGET = 268_435_456
@@ -37,8 +35,8 @@ BODY, MESSAGES, WINDOW = 100, 2_000, 8
 # What the system lets the server have beside the budget: so much for each client, and so much for the rest.
 EACH, REST = 262_144, 134_217_728
 LIMIT = BUDGET + STALLED * EACH + REST
-# Of heads that don't end: how many, of how many bytes, the least budget that a server takes, and what else they may take.
-HEADS, HEAD_BYTES, LEAST_BUDGET, HEADS_REST = 4_000, 16_000, 16_777_216, 67_108_864
+# The least budget that a server takes.
+LEAST_BUDGET = 16_777_216
 # How many come and go, and how much of their memory may stay, if the C library is told to keep nothing (docs/RUNNING.md, "Memory").
 COMERS, STAYS = 3_000, 12_582_912
 KEEPS_NOTHING = ":glibc.malloc.mxfast=0:glibc.malloc.tcache_count=0"
@@ -137,27 +135,6 @@ def reads_nothing(broker, checks):
     checks.check(f"at most {LIMIT >> 20} MiB at its peak", peak <= LIMIT, f"{peak >> 20} MiB")
     checks.tell(f"its peak was {peak >> 20} MiB; the budget is {BUDGET >> 20} MiB, and the limit {LIMIT >> 20} MiB")
     for one in stalled:
-        one.close()
-
-
-def unfinished_heads(broker, checks):
-    """4,000 heads that don't end count: those who hold most are given up"""
-    before = broker.memory("VmRSS")
-    broker.forget_peak()
-    front = handshake(0)[:-2] + b"X-Long: "
-    some = [socket.create_connection(("127.0.0.1", broker.port)) for _ in range(HEADS)]
-    for one in some:
-        # Whoever was given up meanwhile is sent nothing.
-        with contextlib.suppress(OSError):
-            one.sendall(front + bytes(HEAD_BYTES - len(front)).replace(b"\0", b"x"))
-    time.sleep(2)
-    peak, (most, _) = broker.memory("VmHWM") - before, given_up(broker, "clients that took the most memory")
-    left = HEADS - most
-    checks.check("those who are left keep to the budget", left * HEAD_BYTES <= LEAST_BUDGET, f"{left} of {HEADS} are left")
-    checks.check("and are no fewer than fit", left * HEAD_BYTES > LEAST_BUDGET / 2, f"{left} of {HEADS} are left")
-    checks.check(f"all took at most the budget and {HEADS_REST >> 20} MiB", peak * 1024 <= LEAST_BUDGET + HEADS_REST, f"{peak >> 10} MiB")
-    checks.tell(f"{most} were given up; the peak was {peak >> 10} MiB more than before them")
-    for one in some:
         one.close()
 
 
@@ -272,7 +249,6 @@ def main():
     slow = strace("/dev/null", "fdatasync", f"fdatasync:delay_enter={SYNC}") + ["--seccomp-bpf", "-qq"]
     for one, options in (
         (reads_nothing, {"more": ("--memory", str(BUDGET)), "limits": {"DATA": LIMIT}}),
-        (unfinished_heads, {"more": least}),
         (comers_again, {"env": as_shipped()}),
         (what_is_empty, {"env": as_shipped(KEEPS_NOTHING)}),
         (frames_that_wait, {"more": least, "before": slow}),

@@ -1,9 +1,8 @@
 #!/usr/bin/env python3
-"""A subscriber that stops reading, while another sends to its topic: its outbox of 32 MiB is cut, and nobody else waits.
+"""A subscriber that stops reading, while another sends to its topic: its outbox of 32 MiB is cut, and nobody else waits. steady_readers.py has one that
+never reads again.
 
-    python3 tests/program/slow_reader.py [PROGRAM] [--few]
-
-With --few it reads again, and the one that doesn't for two minutes is left out.
+    python3 tests/program/slow_reader.py [PROGRAM]
 """
 
 import sys
@@ -17,9 +16,6 @@ BODY = "x" * 16_000
 OUTBOX = 32 * 1_048_576 // 16_500
 # Enough to fill the outbox and what the two sockets keep, which is some megabytes.
 MESSAGES = 2_800
-
-# For how many seconds a client may take nothing of what is written before it is given up.
-LONGEST_WRITE = 60
 
 
 class Flood:
@@ -103,40 +99,6 @@ def answers_no_close(broker, checks):
     flood.leave()
 
 
-def reads_never(broker, checks):
-    """one that doesn't read again is given up, with no close, and the message that it held goes to another"""
-    slow = Client(broker.port, receive_bytes=65_536).connect()
-    slow.subscribe("h", "/queue/held", "client-individual")
-    held = [frame.body for frame in slow.publish("/queue/held", "held")]
-    checks.same("it holds a message of a queue", held, ["held"])
-    slow.subscribe("s", "/topic/stuck")
-    flood = Flood(broker.port, "/topic/stuck")
-    other = Client(broker.port).connect()
-    waiting = [frame.body for frame in other.subscribe("h", "/queue/held", "client-individual")]
-    checks.same("another that subscribes is handed nothing yet", waiting, [])
-    start = time.perf_counter()
-    sent = 0
-    while not other.has_message() and time.perf_counter() - start < 2 * LONGEST_WRITE + 20:
-        flood.send(sent)
-        sent += 1
-        time.sleep(0 if sent < MESSAGES else 0.25)
-    waited = time.perf_counter() - start
-    # At the end of its time what waits is offered to its socket once more. If that has room then, it has as long again.
-    checks.check("the other hears something after some 60 to 120 seconds", LONGEST_WRITE <= waited < 2 * LONGEST_WRITE + 5, waited)
-    checks.tell(f"after {waited:.1f} s, {sent} messages")
-    flood.tell(checks)
-    checks.same("it is handed the message", other.receive().body, "held")
-    frames, code = slow.to_the_end()
-    numbers = numbers_of(frames)
-    checks.same("when it reads at last, the stream ends with no close", code, 0)
-    checks.same("after a front of what was sent", numbers, list(range(len(numbers))))
-    other.disconnect()
-    flood.leave()
-
-
 if __name__ == "__main__":
-    words = scenario.words_of(__doc__)
-    words.add_argument("--few", action="store_true", help="without the one that never reads again")
-    given = words.parse_args()
     scenario.keep_journals_in_memory()
-    sys.exit(scenario.run_over(given.program, [reads_again, answers_no_close, *(() if given.few else (reads_never,))]))
+    sys.exit(scenario.run(__doc__, [reads_again, answers_no_close]))
