@@ -7,9 +7,9 @@ declare const process: { argv: string[]; exitCode: number };
 declare const console: { log(text: string): void };
 
 /* What typeof answers of each member: tsc asks that none is missing here and none too many, Node that each is there. */
-type Kinds<T> = { [Name in keyof Required<T>]: "string" | "object" | "function" };
-const CLIENT: Kinds<Client> = { state: "string", session: "string", send: "function", tell: "function", subscribe: "function", transaction: "function", close: "function" };
-const SUBSCRIPTION: Kinds<Subscription> = { id: "string", ready: "object", end: "function", giveUp: "function" };
+type Kinds<T> = { [Name in keyof Required<T>]: "string" | "object" | "function" | "boolean" };
+const CLIENT: Kinds<Client> = { state: "string", session: "string", full: "object", send: "function", tell: "function", subscribe: "function", transaction: "function", close: "function" };
+const SUBSCRIPTION: Kinds<Subscription> = { id: "string", isContested: "boolean", ready: "object", end: "function", giveUp: "function" };
 const MESSAGE: Kinds<Message> = { headers: "object", body: "string", bytes: "object", ack: "function", nack: "function" };
 const TRANSACTION: Kinds<Transaction> = { send: "function", ack: "function", nack: "function" };
 
@@ -23,8 +23,9 @@ function hold<T extends object>(what: string, value: T, kinds: Kinds<T>): void {
 
 const [, , url, package_of_ws] = process.argv, states: State[] = [];
 const options: Required<Omit<ConnectOptions, "WebSocket">> = {
-  clientId: "kiosk", headers: async () => ({ token: "t", none: null }), protocols: ["token.t"], shortestPause: 100, longestPause: 500, answerTimeout: 5_000, waitTimeout: Infinity, closeTimeout: 1_000, mostWaiting: 100,
+  clientId: "kiosk", headers: async () => ({ token: "t", none: null }), protocols: ["token.t"], shortestPause: 100, longestPause: 500, answerTimeout: 5_000, waitTimeout: Infinity, nameTimeout: 1_000, closeTimeout: 1_000, mostWaiting: 100,
   onstate: (state: State, { code, pause, reason }: StateDetail) => { states.push(state); const all: [number | undefined, number | undefined, string | null | undefined] = [code, pause, reason]; void all; },
+  onfull: (full: readonly string[], pause?: number) => { void full.length; void pause; },
   onerror: (error: unknown, subscription?: Subscription) => console.log(`${subscription?.id}: ${error}`),
 };
 const client: Client = connect(() => url!, package_of_ws ? { ...options, WebSocket: (await import(package_of_ws)).default } : options);

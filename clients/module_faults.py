@@ -45,43 +45,6 @@ def has_left(link):
     return False
 
 
-def a_name_in_use(engine, checks):
-    """a durable name that a lost session still holds is asked for again"""
-    run = engine.value
-    with opened(engine, "clientId: 'kiosk'") as (fake, link):
-        run("globalThis.heard = []; globalThis.paper = it.subscribe('/topic/news', it => heard.push(it.body), { durable: 'd' })")
-        link.accept_next()
-        checks.same("it is ready", run("return outcome(paper.ready)"), "resolved")
-        link.drop()
-        for _ in range(3):
-            link = fake.take()
-            link.refuse("E14 durable subscription unknown, in use or of another topic", link.take())
-        run("globalThis.late = outcome(it.send('/topic/room', 'late')); await soon(() => it.errors.length == 3)")
-        checks.same("each refusal is told, with its subscription", run("return it.errors.map(([error, it]) => [error.kind, error.message.slice(0, 3), it === paper])"), [["refused", "E14", True]] * 3)
-        link = fake.take()
-        frames = [link.accept_next(), link.accept_next()]
-        checks.same("what waits goes before it", [frame.command for frame in frames], ["SEND", "SUBSCRIBE"])
-        link.message(frames[1].headers["id"], "at last")
-        checks.same("and it is heard again", run("return [await soon(() => heard.length), heard[0], await late]"), [True, "at last", "resolved"])
-        pauses = pauses_of(engine)
-        checks.check("the pauses grow meanwhile", len(pauses) == 4 and grows(pauses), pauses)
-        link.drop()
-        run("await soon(() => !it.session); outcome(it.send('/topic/room', 'next'))")
-        link = fake.take()
-        checks.same("once it was ready it goes first again", [link.accept_next().command for _ in range(2)], ["SUBSCRIBE", "SEND"])
-        first = run("globalThis.other = it.subscribe('/topic/news', () => {}, { durable: 'e' }); return it.states.length")
-        link.refuse("E14 durable subscription unknown, in use or of another topic", link.take())
-        checks.same("one that was never ready is refused", run("return outcome(other.ready)"), "refused")
-        link = fake.take()
-        checks.check("and doesn't come back", link.accept_next().headers["activemq.subscriptionName"] == "d" and run(f"return it.states.length > {first}"))
-        run("globalThis.third = it.subscribe('/topic/news', () => {}, { durable: 'f' })")
-        link.accept_next()
-        for what, ask, headers in (("the end of one", "paper.end()", ["id", "receipt"]), ("and to give it up", "third.giveUp()", ["activemq.subscriptionName", "id", "receipt"])):
-            run(f"globalThis.asked = outcome({ask})")
-            frame = link.accept_next()
-            checks.same(f"{what} has these headers", (frame.command, sorted(frame.headers), run("return asked")), ("UNSUBSCRIBE", headers, "resolved"))
-
-
 def promises_left_alone(engine, checks):
     """a promise that nobody awaits ends nothing"""
     run = engine.value
@@ -427,4 +390,4 @@ def asked_anew(engine, checks):
         checks.same("nor one that a function answers", run("return it.errors.map(([error]) => error.kind)"), ["unsent"])
 
 
-TRIALS = [a_name_in_use, promises_left_alone, refusals, what_a_refusal_ends, what_is_left_at_a_close, what_is_over_stays_so, a_refusal_by_its_receipt, waits_end, frames_are_right, nothing_breaks, asked_anew]
+TRIALS = [promises_left_alone, refusals, what_a_refusal_ends, what_is_left_at_a_close, what_is_over_stays_so, a_refusal_by_its_receipt, waits_end, frames_are_right, nothing_breaks, asked_anew]

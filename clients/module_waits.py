@@ -1,6 +1,7 @@
 """What clients/module.py tries of a broker that has no room, and of durable names that are in use: what waits, for how long, and what goes on meanwhile."""
 
-from module_faults import grows, opened
+from fake_broker import Relay
+from module_faults import LONGER, grows, opened
 from lib.stomp_client import Client
 
 NO_ROOM, IN_USE = "E12 no room for the message", "E14 durable subscription unknown, in use or of another topic"
@@ -131,5 +132,72 @@ def a_bulk_without_room(engine, broker, checks):
     filler.disconnect()
 
 
-FAKE = [no_room, much_has_no_room, waits_are_counted]
-REAL = [a_bulk_without_room]
+def a_name_in_use(engine, checks):
+    """a durable name that a lost session still holds is asked for again, while all else goes on"""
+    run = engine.value
+    with opened(engine, f"clientId: 'kiosk', shortestPause: {LONGER}") as (fake, link):
+        run("globalThis.heard = []; globalThis.paper = it.subscribe('/topic/news', it => heard.push(it.body), { durable: 'd' })")
+        for _ in range(2):
+            link.refuse(IN_USE, link.take())
+            link = fake.take()
+        told = run("return it.errors.map(([error, it]) => [error.kind, error.code, /tried again/.test(error.message), it === paper])")
+        checks.same("each refusal is told, with its subscription, and that it is tried again", told, [["refused", "E14", True, True]] * 2)
+        checks.same("the subscription says so", run("return paper.isContested"), True)
+        checks.same("its sessions follow each other at once", run("return it.states.filter(([state]) => state == 'refused').map(it => it[1])"), [0, 0])
+        run("await soon(() => it.session); globalThis.other = it.subscribe('/topic/other', () => {}); globalThis.late = outcome(it.send('/topic/room', 'late'))")
+        frames = [link.accept_next() for _ in range(3)]
+        checks.same("what else is asked goes before it", [(frame.command, frame.headers["destination"]) for frame in frames], [("SUBSCRIBE", "/topic/other"), ("SEND", "/topic/room"), ("SUBSCRIBE", "/topic/news")])
+        link.message(frames[2].headers["id"], "at last")
+        checks.same("and it is ready", run("return [await outcome(paper.ready), paper.isContested, await soon(() => heard.length), heard, await late]"), ["resolved", False, True, ["at last"], "resolved"])
+        link.drop()
+        link = fake.take()
+        first, second = link.take(), link.take()
+        checks.same("in the next session it is asked for at once", {first.headers["destination"], second.headers["destination"]}, {"/topic/other", "/topic/news"})
+        paper = first if first.headers["destination"] == "/topic/news" else second
+        if paper is second:
+            link.accept(first)
+        link.refuse(IN_USE, paper)
+        link = fake.take()
+        checks.same("one that was ready is contested again", (link.accept_next().headers["destination"], run("return paper.isContested")), ("/topic/other", True))
+        run("globalThis.ended = outcome(paper.end()); globalThis.next = outcome(it.send('/topic/room', 'next'))")
+        checks.same("its end needs no broker", (link.accept_next().body, run("return [await ended, await next]")), (b"next", ["resolved", "resolved"]))
+    with opened(engine, f"clientId: 'kiosk', shortestPause: {LONGER}, nameTimeout: {3 * LONGER}") as (fake, link):
+        run("globalThis.paper = it.subscribe('/topic/news', () => {}, { durable: 'd' }); globalThis.end = how(paper.ready)")
+        count = 0
+        while not run("return paper.isEnded"):
+            link.refuse(IN_USE, link.take())
+            link, count = fake.take(), count + 1
+            run("await soon(() => it.errors.length == %d)" % count)
+        checks.same("one that was never ready is refused once its time is over", (run("return end"), count > 2), (["refused", "E14", True], True))
+        run("outcome(it.send('/topic/room', 'next'))")
+        checks.same("and is not asked for any more", link.accept_next().body, b"next")
+    with opened(engine, f"clientId: 'kiosk', shortestPause: {LONGER}") as (fake, link):
+        run("globalThis.papers = ['a', 'b', 'c'].map(durable => it.subscribe(`/topic/${durable}`, () => {}, { durable }))")
+        frames = link.take_all(3)
+        link.refuse(IN_USE, frames[0])
+        link = fake.take()
+        asked = [link.accept_next().headers["activemq.subscriptionName"] for _ in range(3)]
+        checks.same("the names of one session are asked for one after another", (asked, run("await Promise.all(papers.map(it => it.ready)); return it.states.filter(([state]) => state == 'refused').length")), (["b", "c", "a"], 1))
+        for what, ask, headers in (("the end of one", "papers[0].end()", ["id", "receipt"]), ("and to give it up", "papers[1].giveUp()", ["activemq.subscriptionName", "id", "receipt"])):
+            run(f"globalThis.asked = outcome({ask})")
+            frame = link.accept_next()
+            checks.same(f"{what} has these headers", (frame.command, sorted(frame.headers), run("return asked")), ("UNSUBSCRIBE", headers, "resolved"))
+
+
+def a_name_of_a_dead_session(engine, broker, checks):
+    """a client that starts while a dead session holds its durable name gets it once the broker has given that up"""
+    run = engine.value
+    with Relay(broker.port) as relay:
+        run(f"globalThis.direct = URL_; globalThis.URL_ = 'ws://127.0.0.1:{relay.port}/'; globalThis.dead = open({{ clientId: 'dead' }}); globalThis.URL_ = direct")
+        run("await dead.subscribe('/topic/dead', () => {}, { durable: 'd', ack: 'client' }).ready")
+        relay.cut()
+        run("await dead.close(); globalThis.heard = []; globalThis.alive = open({ clientId: 'dead', longestPause: 1000 }); globalThis.paper = alive.subscribe('/topic/dead', it => heard.push(it.body), { durable: 'd', ack: 'client' })")
+        checks.check("it waits", run("return await soon(() => alive.errors.length > 1) && paper.isContested"))
+        checks.same("meanwhile a SEND resolves", run("return outcome(alive.send('/topic/dead', 'meanwhile'))"), "resolved")
+        relay.end()
+        checks.same("and then has what came", run("return [await outcome(paper.ready), await soon(() => heard.length), heard]"), ["resolved", True, ["meanwhile"]])
+        run("await paper.giveUp(); await alive.close()")
+
+
+FAKE = [no_room, much_has_no_room, waits_are_counted, a_name_in_use]
+REAL = [a_bulk_without_room, a_name_of_a_dead_session]

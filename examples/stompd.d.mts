@@ -47,6 +47,8 @@ export interface ConnectOptions {
   answerTimeout?: number;
   /** How long something waits for a connection, or for room, before it is `unsent` (60,000), counted from its call. */
   waitTimeout?: number;
+  /** How long a durable name that is in use (E14) is asked for again before `ready` rejects (90,000): the broker may hold a dead session for so long. */
+  nameTimeout?: number;
   /** How long `close` waits for the broker (5,000). */
   closeTimeout?: number;
   /** How many sends and transactions may be unanswered (10,000); a further one is `unsent`. */
@@ -92,10 +94,12 @@ export interface SubscribeOptions {
   headers?: Headers;
 }
 
-/** Is renewed with each session, until it is ended or refused. A durable one that was `ready` is also renewed after E14: the broker holds a session
- *  that was lost without a close for up to 80 s. Each such refusal ends a session, and goes to `onerror`. */
+/** Is renewed with each session, until it is ended or refused. A durable one whose name is in use (E14) is asked for again after pauses, for
+ *  `nameTimeout`, or for good once it was `ready`. Each such refusal ends a session, which is followed by another at once, and goes to `onerror`. */
 export interface Subscription {
   readonly id: string;
+  /** Its durable name was in use when it was last asked for; it is asked for again. */
+  readonly isContested: boolean;
   /** Resolves once the subscription is in the journal; rejects if it is refused, or ended before. */
   readonly ready: Promise<void>;
   /** Ends it. A durable name keeps its messages. `auto` messages under way still arrive. */

@@ -9,7 +9,7 @@ const { StompdError, checked, connectFrame, encoder, given, numbered, operationS
 
 const NOTHING = () => {};
 /* What each option and call means stands in stompd.d.mts. */
-const TIMES = { shortestPause: 500, longestPause: 8_000, answerTimeout: 15_000, waitTimeout: 60_000, closeTimeout: 5_000 };
+const TIMES = { shortestPause: 500, longestPause: 8_000, answerTimeout: 15_000, waitTimeout: 60_000, nameTimeout: 90_000, closeTimeout: 5_000 };
 const DEFAULTS = { ...TIMES, mostWaiting: 10_000, headers: {}, protocols: [], onstate: NOTHING, onfull: NOTHING, onerror: error => console.error(error) };
 /* Where a NACK puts what it refuses. */
 const DEAD = "/queue/dead";
@@ -97,12 +97,15 @@ class Subscription {
     // If its session ends first, so does it.
     return leavable(this.client.ask(make, { accepted: () => link.forget(this) }).catch(error => { if (error.kind == "refused") throw error; }));
   }
+  get name() { return this.headers["activemq.subscriptionName"]; }
   giveUp() {
-    const name = this.headers["activemq.subscriptionName"];
+    const { id, name } = this;
     if (name === undefined) return leavable(Promise.reject(unsent("only a durable subscription has a name to give up")));
     if (!this.client.isNamed) return leavable(Promise.reject(refused(NAMELESS)));
     const link = this.client.drop(this);
-    return this.client.ask(() => [["UNSUBSCRIBE", { id: this.id, "activemq.subscriptionName": name }]], { accepted: () => link?.forget(this) });
+    // Without its connection the id may be another's by then.
+    const make = () => [["UNSUBSCRIBE", { ...(link && this.client.isOpen(link) ? { id } : {}), "activemq.subscriptionName": name }]];
+    return this.client.ask(make, { accepted: () => link?.forget(this) });
   }
 }
 
@@ -249,6 +252,8 @@ class Client {
   #isAway = false; #page = new AbortController();
   /* Why the session was refused, whether by what is not asked again, or not soon, and when the first was so last. */
   #refusal; #isSettled; #rests; #settledAt = -Infinity;
+  /* The pauses of asking for durable names that are in use, with the timer of one that lasts. */
+  #names; #nameTimer;
   /* Where the broker had no room: the pauses of sending there, with the timer of one that lasts. If several last, all sending rests. */
   #full = new Map(); #restsWholly = false;
   #subscriptions = new Map(); #waiting = new Set(); #closing = [];
@@ -257,7 +262,7 @@ class Client {
   constructor(url, options) {
     this.#url = url;
     this.#options = { ...DEFAULTS, WebSocket: globalThis.WebSocket, ...options };
-    this.#pauses = new Pauses(this.#options);
+    [this.#pauses, this.#names] = [new Pauses(this.#options), new Pauses(this.#options)];
     if (!isFunction(this.#options.WebSocket)) throw unsent(NO_WEBSOCKET);
     connectFrame(this.#options.clientId, {});
     this.#watchPage();
@@ -336,7 +341,7 @@ class Client {
     if (this.#subscriptions.get(subscription.id) !== subscription) return null;
     this.#reject(subscription, unsent("the subscription was ended before it was ready"));
     subscription.letGo();
-    if (!this.session) return null;
+    if (!this.isOpen(subscription.link)) return null;
     this.#link.ending.push(subscription);
     return this.#link;
   }
@@ -406,6 +411,7 @@ class Client {
   }
   /* The broker had no room. What would be refused by the same is rejected with it, and the rest of what goes there waits. */
   #rest({ destinations, makesRoom }, later) {
+    this.#rests = true;
     this.#restsWholly ||= this.full.some(it => !destinations.includes(it));
     let longest = 0;
     for (const it of destinations) {
@@ -437,7 +443,7 @@ class Client {
   #post(post) { try { this.#link.post(post); } catch (error) { post.reject(error); } }
   /* Opens a new subscription, if the broker can take it and there is a session. */
   #ask(subscription) {
-    const { id, headers } = subscription, name = headers["activemq.subscriptionName"];
+    const { id, headers, name } = subscription;
     try {
       checked(["SUBSCRIBE", { ...headers, id }], { receipt: NUMBER });
       if (!MODES.includes(headers.ack)) throw refused(`E20 bad header value: ack is ${MODES.join(", ")}`);
@@ -457,24 +463,41 @@ class Client {
   }
   #open(subscription) {
     const { id, headers } = subscription;
-    const resolve = () => Object.assign(subscription, { isReady: true, isContested: false }).resolve();
+    const resolve = () => {
+      const wasContested = subscription.isContested;
+      Object.assign(subscription, { isReady: true, isContested: false }).resolve();
+      if (wasContested) this.#askForName();
+    };
     // One that is lost comes back with the next session.
     const reject = error => { if (error.kind != "unknown") this.#isDenied(subscription, error); };
-    this.#post({ make: () => [["SUBSCRIBE", { ...headers, id }]], resolve, reject, destinations: [] });
+    subscription.link = this.#link;
+    this.#post({ make: () => [["SUBSCRIBE", { ...headers, id }]], resolve, reject, subscription, destinations: [] });
   }
-  /* The broker holds a session that was lost without a close for up to 80 s, and its durable names with it. One that was ready is asked for again
-     with each session, after all else, so that what waits is carried out before the session is refused again. */
+  /* The broker holds a session that was lost without a close for up to 90 s, and its durable names with it. So one in use is asked for again, after
+     pauses, while all else goes on: one that was ready for good, another for `nameTimeout`. */
   #isDenied(subscription, error) {
     if (subscription.isEnded) return;
-    if (subscription.isReady && error.message.startsWith("E14 ")) subscription.isContested = true;
-    else this.#reject(subscription, error);
-    this.#complain(error, subscription);
+    const now = performance.now(), since = subscription.deniedAt ??= now;
+    if (error.code != "E14" || !(subscription.isReady || now < since + this.#options.nameTimeout)) {
+      this.#reject(subscription, error);
+      return this.#complain(error, subscription);
+    }
+    this.#rests = subscription.isContested = true;
+    // Another one comes before it.
+    this.#subscriptions.delete(subscription.id);
+    this.#subscriptions.set(subscription.id, subscription);
+    this.#nameTimer = setTimeout(() => { this.#nameTimer = null; this.#askForName(); }, this.#names.next());
+    this.#complain(refused(`${error.message}; it is tried again, since the session that has the name may be dead`), subscription);
+  }
+  #askForName() {
+    const next = this.session && !this.#nameTimer && [...this.#subscriptions.values()].find(it => it.isContested);
+    if (next) this.#open(next); else if (this.session && !this.#nameTimer) this.#names.reset();
   }
   #begin() {
     const subscriptions = [...this.#subscriptions.values()];
     subscriptions.filter(it => !it.isContested).forEach(it => this.#open(it));
     this.#flush();
-    subscriptions.filter(it => it.isContested).forEach(it => this.#open(it));
+    this.#askForName();
     this.#tell("open");
   }
   #hear({ headers, body }) {
@@ -489,10 +512,11 @@ class Client {
   #isRefused(post, later, error) {
     this.#refusal = error.message;
     if (post && !post.isTold) post.reject(error); else this.#complain(error);
-    this.#rests = error.code == "E12" && post?.destinations.length > 0;
-    const left = this.#rests ? this.#rest(post, later) : later;
+    const isFull = error.code == "E12" && post?.destinations.length > 0, left = isFull ? this.#rest(post, later) : later;
     left.filter(it => it.waits).forEach(it => this.#wait(it));
-    this.#isSettled = post !== undefined && ![...this.#subscriptions.values()].some(it => it.isContested);
+    // The dead session may have its other names too.
+    if (post?.subscription?.isContested) for (const { subscription } of later) if (subscription?.name) subscription.isContested = true;
+    this.#isSettled = post !== undefined;
   }
   #isOver(posts, detail) {
     this.#subscriptions.forEach(it => it.letGo());
@@ -515,7 +539,7 @@ class Client {
     return this.#pauses.next();
   }
   #isClosed(detail) {
-    clearTimeout(this.#timer);
+    for (const it of [this.#timer, this.#nameTimer]) clearTimeout(it);
     this.#page.abort();
     for (const it of this.#full.values()) clearTimeout(it.timer);
     this.#full.clear();
