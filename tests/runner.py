@@ -50,7 +50,7 @@ class Script:
     words: str = ""
     light: str | None = None
     needs: tuple[str, ...] = ()
-    # Whether it mostly waits: all that do are begun at once.
+    # Whether it mostly waits: two of these run for each processor.
     waits: bool = False
     # Why it can't run beside others: it runs alone, after all that can.
     alone: str = ""
@@ -216,7 +216,7 @@ def run_all(calls, program, processors):
             endings.append(it.result())
             tell(endings[-1], len(endings), len(calls))
 
-    with concurrent.futures.ThreadPoolExecutor(max(1, len(waiting))) as patient, concurrent.futures.ThreadPoolExecutor(at_once) as eager:
+    with concurrent.futures.ThreadPoolExecutor(2 * processors) as patient, concurrent.futures.ThreadPoolExecutor(at_once) as eager:
         try:
             hear([*(patient.submit(under_way.run, it) for it in waiting), *(eager.submit(under_way.run, it) for it in busy)])
             for it in alone:
