@@ -148,11 +148,11 @@ SCRIPTS = [
     Script("clients/secure_page.py"),
     Script("clients/containers.py"),
     Script("clients/standby.py"),
-    Script("tests/kills/kills.py", "--rounds N", light="--rounds 20"),
-    Script("tests/kills/kills.py", "--crowd --rounds N"),
-    Script("tests/kills/compactions.py", "--kills N", alone="it measures how often a journal is compacted"),
+    Script("tests/kills/kills.py", "--rounds 100", light="--rounds 20"),
+    Script("tests/kills/kills.py", "--crowd --rounds 100"),
+    Script("tests/kills/compactions.py", "--kills 100", alone="it measures how often a journal is compacted"),
     Script("tests/program/compaction_memory.py", light=""),
-    Script("tests/kills/migrating.py", "--kills N"),
+    Script("tests/kills/migrating.py", "--kills 100"),
     Script("tests/kills/making.py"),
 ]
 
