@@ -16,8 +16,7 @@ import time
 
 from lib import scenario
 from lib.crowding import LONGEST, READERS, TOPIC, Pings, Waits, among_dear_frames, at_work, flood, held_up, listen, transaction, within
-from lib.stomp_client import Client
-from lib.wire import stomp_message
+from lib.stomp_client import Client, stomp_message
 
 # How many clients send COMMITs of how many SENDs.
 CASES = [(16, 10), (64, 16), (64, 1)]

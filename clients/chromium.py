@@ -6,8 +6,7 @@ import pathlib
 import subprocess
 import time
 
-from lib.stomp_client import WebSocket
-from lib.wire import TEXT
+from lib.stomp_client import TEXT, WebSocket
 
 BROWSERS = ("chromium", "chromium-browser", "google-chrome")
 SWITCHES = ["--headless=new", "--no-sandbox", "--disable-gpu", "--no-first-run", "--remote-debugging-port=0"]

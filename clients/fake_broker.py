@@ -8,7 +8,7 @@ import re
 import socket
 import threading
 
-from lib.wire import BINARY, CLOSE, PING, PONG, TEXT, frame_of, message_bytes, stomp_bytes, take_frame
+from lib.stomp_client import BINARY, CLOSE, PING, PONG, TEXT, frame_of, message_bytes, stomp_bytes, take_frame
 
 KEY_SUFFIX = b"258EAFA5-E914-47DA-95CA-C5AB0DC85B11"
 

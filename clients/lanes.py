@@ -13,8 +13,7 @@ import sys
 import time
 
 from lib import scenario
-from lib.stomp_client import Client, Closed
-from lib.wire import handshake
+from lib.stomp_client import Client, Closed, handshake
 
 TOP = pathlib.Path(__file__).resolve().parent.parent
 DEPLOY = TOP / "deploy"

@@ -4,7 +4,7 @@ import contextlib
 import re
 
 from fake_broker import FakeBroker
-from lib.wire import BINARY, TEXT
+from lib.stomp_client import BINARY, TEXT
 
 # The shortest pause of a trial in which refusals follow each other, which a slow machine has to keep up with.
 LONGER = 300

@@ -29,8 +29,7 @@ import urllib.parse
 
 from lanes import HERE, PAGE, Lane, SecureClient, login, make_certificate, nginx_places, start_cookie, start_nginx
 from lib import scenario
-from lib.stomp_client import Client, Closed, Refused
-from lib.wire import PING, PONG
+from lib.stomp_client import PING, PONG, Client, Closed, Refused
 
 CROWD, IDLE_SECONDS, MOST_OF_AN_ADDRESS = 200, 90, 250
 FOREIGN = "https://elsewhere.example"

@@ -11,8 +11,7 @@ import subprocess
 import time
 import typing
 
-from lib.stomp_client import Client, Stream, WebSocket
-from lib.wire import CONTINUATION, PING, TEXT, handshake, message_bytes, stomp_message
+from lib.stomp_client import CONTINUATION, PING, TEXT, Client, Stream, WebSocket, connect_message, handshake, message_bytes, stomp_message
 
 # How each is connected: what it does not read fills a small buffer.
 HOW = {"timeout": 60, "receive_bytes": 4_096}
@@ -77,7 +76,7 @@ def whole_of(data):
 
 
 REQUEST = handshake(0)
-CONNECT = stomp_message("CONNECT", [("accept-version", "1.2")])
+CONNECT = connect_message()
 NOWHERE, UNREAD_TOPIC = ("destination", "/topic/none"), ("destination", "/topic/unread")
 SEND = stomp_message("SEND", [NOWHERE], "x" * 100)
 BIG = stomp_message("SEND", [UNREAD_TOPIC], "x" * 60_000)

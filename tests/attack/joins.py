@@ -14,8 +14,7 @@ import time
 
 from lib import scenario
 from lib.crowding import at_work, flood, listen
-from lib.stomp_client import Client
-from lib.wire import stomp_message
+from lib.stomp_client import Client, stomp_message
 
 NEWS, BUSY, PINGED = "/topic/news", "/topic/busy", "/topic/stompd-ping"
 BUSY_READERS = 60

@@ -28,7 +28,7 @@ import time
 from lib import scenario
 from lib.kept import DEAD, MOST_OF_A_ROUND, QUEUE, Group, Sender, Totals, Worker, faults_of_a_round, faults_of_order, faults_of_refusals, take_all, tell
 from lib.members import Crowd, Member
-from lib.wire import frame_of, stomp_message
+from lib.stomp_client import frame_of, stomp_message
 
 # The topics of a crowd, and the receipts that each of it waits for at a time.
 TOPICS, IN_FLIGHT = 50, 2

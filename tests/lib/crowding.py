@@ -7,8 +7,7 @@ import subprocess
 import threading
 import time
 
-from .stomp_client import Client
-from .wire import stomp_message
+from .stomp_client import Client, stomp_message
 
 # A COMMIT of 16 SENDs to so many readers hands out nearly as many messages as may be held.
 TOPIC, READERS = "/topic/many", 255

@@ -7,7 +7,7 @@ import re
 import socket
 import threading
 
-from .wire import CLOSE, PONG, TEXT, message_bytes, take_frame
+from .stomp_client import CLOSE, PONG, TEXT, message_bytes, take_frame
 
 CONNECTED = b"CONNECTED\nversion:1.2\n\n\0"
 # What the program's client says first and last.

@@ -5,7 +5,7 @@ import select
 import socket
 import time
 
-from .wire import BINARY, PING, PONG, TEXT, frame_of, handshake, message_bytes, stomp_message, take_frame
+from .stomp_client import BINARY, PING, PONG, TEXT, connect_message, frame_of, handshake, message_bytes, stomp_message, take_frame
 
 
 class Member:
@@ -53,7 +53,7 @@ class Member:
             return
         self.buffer[:] = rest
         self.stage = "session"
-        self.write(stomp_message("CONNECT", [("accept-version", "1.2")]))
+        self.write(connect_message())
 
     def hear(self, payload):
         """Hears what comes up to the receipt of its subscription."""

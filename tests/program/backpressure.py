@@ -12,8 +12,7 @@ import sys
 import time
 
 from lib import scenario
-from lib.stomp_client import Client
-from lib.wire import TEXT, message_bytes, stomp_bytes
+from lib.stomp_client import TEXT, Client, message_bytes, stomp_bytes
 
 # The RECEIPT of a SEND has as many bytes as its SEND, nearly. An outbox has fewer places than these frames, and sockets less room.
 NAME, FRAMES = 1_000, 40_000

@@ -21,8 +21,7 @@ import time
 from lib.commands import FULL, NOBODY, NONE, UNWRITTEN, run, shown, started, told
 from lib.fake_peer import CONNECT, CONNECTED, LEAVE, Peer, answering, close, closing, connected, ending, nothing, receipted, saying
 from lib.scenario import free_port, serving, try_parts
-from lib.stomp_client import Client
-from lib.wire import CLOSE, PING, PONG, TEXT, message_bytes
+from lib.stomp_client import CLOSE, PING, PONG, TEXT, Client, message_bytes
 
 UNKNOWN = "; the server may have taken it, or not"
 # For how long nothing is said in some trials: more than a step may take, in seconds.

@@ -13,8 +13,7 @@ import time
 from concurrent.futures import ThreadPoolExecutor
 
 from lib import scenario
-from lib.stomp_client import Client
-from lib.wire import BINARY, CLOSE, TEXT, message_bytes
+from lib.stomp_client import BINARY, CLOSE, TEXT, Client, message_bytes
 
 TRIES = 100
 # A close is waited for ten seconds. A connection that has ended, or a session whose client has sent its close, ends within so many.

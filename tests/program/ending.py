@@ -21,8 +21,7 @@ import time
 
 from lib import scenario
 from lib.commands import shown
-from lib.stomp_client import Client, Closed
-from lib.wire import handshake
+from lib.stomp_client import Client, Closed, connect_message, handshake
 
 JOURNAL_BYTES = 67_108_896
 # In seconds: a server has so long to end.
@@ -233,7 +232,7 @@ def full_ring(program, journal, checks):
     server = begun(program, journal, env=scenario.slow_syncs(journal.parent, SLOW_SYNC=SLOW_SYNC))
     clients = [Client(server.port) for _ in range(SLOWED)]
     for one in clients:
-        one.send("CONNECT", [("accept-version", "1.2")])
+        one.write(connect_message())
     for one in clients:
         one.receive()
     for number, one in enumerate(clients):

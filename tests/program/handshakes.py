@@ -12,10 +12,10 @@ import sys
 import time
 
 from lib.scenario import Checks, program_of, serving
-from lib.wire import PONG, TEXT, handshake, message_bytes, stomp_message
+from lib.stomp_client import PONG, TEXT, connect_message, handshake, message_bytes
 
 REQUEST = handshake(0)
-CONNECT = stomp_message("CONNECT", [("accept-version", "1.2")])
+CONNECT = connect_message()
 END_OF_LINE = message_bytes(TEXT, b"\n")
 # One that nobody asked for, which says that the peer is there (RFC 6455, section 5.5.3).
 UNASKED_PONG = message_bytes(PONG, b"")

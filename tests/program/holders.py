@@ -15,8 +15,7 @@ import sys
 import time
 
 from lib import scenario
-from lib.stomp_client import Client, Closed
-from lib.wire import TEXT, handshake, message_bytes, stomp_bytes
+from lib.stomp_client import TEXT, Client, Closed, handshake, message_bytes, stomp_bytes
 
 # The least budget, and the desks of a server. A client comes to the desk that has the fewest, so the one of number N to desk N modulo 64.
 BUDGET, DESKS, A_DESK = 16_777_216, 64, 3

@@ -10,8 +10,7 @@ import threading
 import time
 
 from lib import scenario
-from lib.stomp_client import Client, Closed
-from lib.wire import CLOSE, CONTINUATION, PING, TEXT, message_bytes
+from lib.stomp_client import CLOSE, CONTINUATION, PING, TEXT, Client, Closed, message_bytes
 
 # For how many seconds a client's close is waited for.
 LONGEST_CLOSE = 10

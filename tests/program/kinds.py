@@ -19,8 +19,7 @@ import threading
 import time
 
 from lib import scenario
-from lib.stomp_client import Client, Closed, Refused, WebSocket
-from lib.wire import PING, PONG, handshake
+from lib.stomp_client import PING, PONG, Client, Closed, Refused, WebSocket, handshake
 
 ORIGIN = "https://rooms.example"
 LEAST_BUDGET, FEW = 16_777_216, 300

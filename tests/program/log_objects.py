@@ -18,8 +18,7 @@ import time
 from lib import scenario
 from lib.commands import run, run_for_text
 from lib.scenario import TOP
-from lib.stomp_client import Client, Closed
-from lib.wire import handshake
+from lib.stomp_client import Client, Closed, handshake
 
 JOURNAL_BYTES = 67_108_896
 # RFC 3339, section 5.6, in UTC and to the second.

@@ -24,9 +24,8 @@ import threading
 import time
 
 from lib import scenario
-from lib.stomp_client import Client
+from lib.stomp_client import TEXT, Client, connect_message, message_bytes, stomp_bytes
 from lib.tracing import strace
-from lib.wire import TEXT, message_bytes, stomp_bytes
 
 TOPIC = "/topic/unread"
 BUDGET = 268_435_456
@@ -187,7 +186,7 @@ def frames_that_wait(broker, checks):
     """frames that find the ring full count: those who hold most are given up, and give up what waits"""
     senders = [Client(broker.port, timeout=60) for _ in range(SENDERS)]
     for one in senders:
-        one.send("CONNECT", [("accept-version", "1.2")])
+        one.write(connect_message())
     for one in senders:
         one.receive()
     time.sleep(1)

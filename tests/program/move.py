@@ -21,8 +21,7 @@ from lib.commands import FULL, NOBODY, NONE, UNWRITTEN, told
 from lib.commands import run_for_text as run
 from lib.fake_peer import CONNECT, LEAVE, Peer, answering, connected, ending, receipt_of, receipted, saying
 from lib.scenario import free_port, serving, try_parts
-from lib.stomp_client import Client
-from lib.wire import BINARY, CLOSE, PING, message_bytes, take_frame
+from lib.stomp_client import BINARY, CLOSE, PING, Client, message_bytes, take_frame
 
 COUNT = 100
 # More than a byte counts.

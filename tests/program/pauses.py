@@ -11,8 +11,7 @@ import sys
 import time
 
 from lib import scenario
-from lib.stomp_client import Client, Closed, WebSocket
-from lib.wire import handshake, stomp_message
+from lib.stomp_client import Client, Closed, WebSocket, connect_message, handshake
 
 PAUSE = 85
 IDLE = 70
@@ -75,7 +74,7 @@ def pause(broker, checks):
     time.sleep(2)
     checks.same("all idle clients are there", sum(is_there(client) for client in idle), IDLE)
     checks.check("and the sender", is_there(sender))
-    unopened.write(stomp_message("CONNECT", [("accept-version", "1.2"), ("host", "a")]))
+    unopened.write(connect_message(("host", "a")))
     try:
         opened = unopened.receive_message()[1].startswith(b"CONNECTED\n")
     except (Closed, OSError):

@@ -20,8 +20,7 @@ import time
 from lib.commands import FULL, NOBODY, UNWRITTEN, run_for_text, told
 from lib.fake_peer import CONNECT, CONNECTED, Peer, answering, close, closing, connected, ending, nothing, receipt_of, receipted, saying
 from lib.scenario import free_port, serving, try_parts
-from lib.stomp_client import Client, Closed, Refused
-from lib.wire import BINARY, CLOSE, PING, TEXT, handshake
+from lib.stomp_client import BINARY, CLOSE, PING, TEXT, Client, Closed, Refused, handshake
 
 # A step may take five seconds. What a busy machine may add to that.
 STEP, BUSY = 5, 4

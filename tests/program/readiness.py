@@ -23,8 +23,7 @@ import tempfile
 import time
 
 from lib import scenario
-from lib.stomp_client import Client, Stream
-from lib.wire import handshake, stomp_message
+from lib.stomp_client import Client, Stream, connect_message, handshake, stomp_message
 
 LONGEST = 5.0
 # What one read of the server asks for after a handshake.
@@ -103,7 +102,7 @@ def a_handshake_fills_a_read(broker, checks):
     request = request.replace(b"X-Pad: ", b"X-Pad: " + (READ - len(request)) * b"x")
     assert len(request) == READ, len(request)
     with stopped(broker):
-        stream.write(request + stomp_message("CONNECT", [("accept-version", "1.2"), ("host", "localhost")]))
+        stream.write(request + connect_message(("host", "localhost")))
     stream.socket.settimeout(LONGEST)
     heard = b""
     with contextlib.suppress(TimeoutError):

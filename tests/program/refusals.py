@@ -10,7 +10,7 @@ import socket
 import sys
 
 from lib.scenario import BriefChecks, program_of, serving
-from lib.wire import stomp_bytes
+from lib.stomp_client import VERSION_1_2, stomp_bytes
 
 KEY = "Sec-WebSocket-Key: dGhlIHNhbXBsZSBub25jZQ=="
 HOST, UPGRADE, CONNECTION, VERSION = "Host: localhost", "Upgrade: websocket", "Connection: Upgrade", "Sec-WebSocket-Version: 13"
@@ -62,8 +62,8 @@ ASKED = (
     ("two keys", request(GET, *WHOLE, "sec-websocket-key: AAAAAAAAAAAAAAAAAAAAAA=="), 400),
     ("its version twice", request(GET, *WHOLE, VERSION), 400),
     ("two versions", request(GET, *WHOLE, "SEC-WEBSOCKET-VERSION: 8"), 400),
-    ("STOMP with no WebSocket", stomp_bytes("CONNECT", [("accept-version", "1.2"), ("host", "a")]), 400),
-    ("that with the other command", stomp_bytes("STOMP", [("accept-version", "1.2"), ("host", "a")]), 400),
+    ("STOMP with no WebSocket", stomp_bytes("CONNECT", [VERSION_1_2, ("host", "a")]), 400),
+    ("that with the other command", stomp_bytes("STOMP", [VERSION_1_2, ("host", "a")]), 400),
     ("a field of 16,000 bytes", request(GET, *WHOLE, "X-Long: " + 16_000 * "x"), 101),
 )
 

@@ -10,8 +10,7 @@ import sys
 import time
 
 from lib import scenario
-from lib.stomp_client import Client, Closed, Refused, Stream, WebSocket
-from lib.wire import BINARY, CLOSE, PING, PONG, TEXT, message_bytes
+from lib.stomp_client import BINARY, CLOSE, PING, PONG, TEXT, Client, Closed, Refused, Stream, WebSocket, message_bytes
 
 DESTINATION = "destination:/queue/rubbish\n"
 SUBSCRIBE = "SUBSCRIBE\nid:a\n" + DESTINATION

@@ -29,14 +29,14 @@ import resource
 import select
 import shutil
 import signal
+import socket
 import subprocess
 import sys
 import tempfile
 import time
 
 from lib.scenario import TOP, BriefChecks, free_port, words_of
-from lib.stomp_client import Client
-from lib.wire import handshake
+from lib.stomp_client import Client, handshake
 
 SERVE = TOP / "bin" / "serve"
 STATUSES = {signal.SIGTERM: 143, signal.SIGINT: 130, signal.SIGHUP: 129}

@@ -16,8 +16,7 @@ import threading
 import time
 
 from lib import scenario
-from lib.stomp_client import Client
-from lib.wire import message_bytes, stomp_bytes, TEXT
+from lib.stomp_client import TEXT, Client, message_bytes, stomp_bytes
 
 SUBSCRIBERS = 16
 # Twice as many programs as there are processors.

@@ -11,8 +11,7 @@ import threading
 import time
 
 from lib import scenario
-from lib.stomp_client import Client
-from lib.wire import PING, PONG, take_frame
+from lib.stomp_client import PING, PONG, Client, take_frame
 
 BODY = "x" * 65_000
 MESSAGES = 20 * 1_048_576 // len(BODY)

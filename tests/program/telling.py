@@ -16,8 +16,7 @@ import time
 
 from lib import scenario
 from lib.scenario import LINE
-from lib.stomp_client import Client, Closed
-from lib.wire import handshake
+from lib.stomp_client import Client, Closed, handshake
 
 JOURNAL_BYTES = 67_108_896
 ELSEWHERE = 20

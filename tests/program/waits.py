@@ -16,8 +16,7 @@ import sys
 import time
 
 from lib import scenario
-from lib.stomp_client import Client
-from lib.wire import TEXT, message_bytes, stomp_bytes
+from lib.stomp_client import TEXT, Client, message_bytes, stomp_bytes
 
 # In seconds: no wait may be longer, and this long a client pauses at most between two SENDs.
 LONGEST_WAIT, LONGEST_PAUSE = 0.75, 4.0
