@@ -77,7 +77,8 @@ export interface Message {
   readonly body: string | Uint8Array;
   /** The body's bytes, whatever they are. */
   readonly bytes: Uint8Array;
-  /** Resolves at the receipt. `unsent` if its session or subscription is over (then it comes again, or is another's), or is `auto`. */
+  /** Resolves at the receipt. `unsent` if its session or subscription is over (then it comes again, or is another's), or is `auto`; `refused` with E11, and
+   *  not sent, if it was acknowledged or refused before, in the mode `client` also with a later one. */
   ack(): Promise<void>;
   /** Refuses it: it goes to `/queue/dead`. */
   nack(): Promise<void>;
@@ -129,7 +130,7 @@ export interface Client {
   /** Sends without a receipt, for messages that are worthless later. Without a connection, if 1 MiB waits to be sent, or if the broker would refuse it,
    *  it does nothing. Returns whether it sent. */
   tell(destination: string, body?: Body, headers?: Headers): boolean;
-  /** Throws if a subscription has this id. There are at most 16. */
+  /** Throws if a subscription has this id. There are at most 16. `ready` rejects at once if an argument is wrong, and `onerror` gets that too. */
   subscribe(destination: string, heard: (message: Message) => unknown, options?: SubscribeOptions): Subscription;
   /** Carries out all that `work` puts into the transaction, or nothing. Resolves at the receipt of its COMMIT. */
   transaction(work: (tx: Transaction) => unknown): Promise<void>;

@@ -14,7 +14,7 @@ const DEFAULTS = { ...TIMES, mostWaiting: 10_000, headers: {}, protocols: [], on
 /* Where a NACK puts what it refuses. */
 const DEAD = "/queue/dead";
 const NO_WEBSOCKET = "there is no WebSocket: use Node 22, start Node 20 with --experimental-websocket, or give connect that of the package ws";
-const NAMELESS = "E13 durable subscription without a clientId";
+const NAMELESS = "E13 durable subscription without a clientId", TWICE = "E11 unknown acknowledgement id: the message was acknowledged or refused before";
 /* Bytes that may wait in a socket before what is only told is left out. */
 const MOST_BUFFERED = 1 << 20;
 /* Further limits of the broker (docs/PROTOCOL.md, "Limits"). */
@@ -56,8 +56,11 @@ class Message {
     if (this.headers.ack === undefined) throw unsent("a message of an auto subscription is not acknowledged");
     if (!client.isOpen(this.#link)) throw unsent("the session that this message came in is over");
     if (this.#subscription.isEnded) throw unsent("the subscription that this message came for has ended");
+    if (!this.#subscription.settledBy(this).length) throw refused(TWICE);
     return [command, { id: this.headers.ack }, "", this];
   }
+  /* The messages that its acknowledgement would settle. */
+  settled() { return this.#subscription.settledBy(this); }
   settle() { this.#subscription.settle(this); }
 }
 
@@ -72,14 +75,15 @@ class Subscription {
   }
   /* Has a message until it is acknowledged, or for `ackWithin`. */
   hold(message, isLate) { this.#held.set(message, after(this.ackWithin, isLate)); }
-  /* An acknowledgement in the mode `client` is one of earlier messages too. */
+  /* Which messages an acknowledgement of this one settles: in the mode `client` earlier ones too, and none if it was settled before. */
+  settledBy(message) {
+    const held = [...this.#held.keys()], place = held.indexOf(message);
+    return held.slice(this.headers.ack == "client" ? 0 : Math.max(place, 0), place + 1);
+  }
   settle(message) {
-    if (!this.#held.has(message)) return;
-    for (const [it, timer] of this.#held) {
-      if (it !== message && this.headers.ack != "client") continue;
-      clearTimeout(timer);
+    for (const it of this.settledBy(message)) {
+      clearTimeout(this.#held.get(it));
       this.#held.delete(it);
-      if (it === message) return;
     }
   }
   /* What it held comes again, or is another's. */
@@ -111,7 +115,7 @@ class Subscription {
 
 /* What a transaction is made of, where it sends to, and whether it acknowledges. */
 class Transaction {
-  #size = 0;
+  #size = 0; #settled = new Set();
   constructor(client) { Object.assign(this, { client, makers: [], destinations: [], makesRoom: false }); }
   send(destination, body, headers = {}) {
     const frame = sendFrame(destination, body, headers, { transaction: NUMBER });
@@ -120,6 +124,9 @@ class Transaction {
   ack(message) { this.#settle("ACK", message); }
   nack(message) { this.#settle("NACK", message, DEAD); }
   #settle(command, message, destination) {
+    message.frame(command, this.client);
+    if (this.#settled.has(message)) throw refused(TWICE);
+    message.settled().forEach(it => this.#settled.add(it));
     this.#add(9, () => message.frame(command, this.client), destination);
     this.makesRoom = true;
   }
@@ -289,12 +296,12 @@ class Client {
       return false;
     }
   }
-  subscribe(destination, heard, { ack = "auto", ackWithin, durable, id = `subscription ${++this.#count}`, headers = {} } = {}) {
+  subscribe(destination, heard, { ack = "auto", ackWithin, durable, id: wanted = `subscription ${++this.#count}`, headers = {} } = {}) {
+    const id = String(wanted), name = durable === undefined ? {} : { "activemq.subscriptionName": durable };
     if (this.#subscriptions.has(id)) throw unsent(`there is a subscription ${id}`);
-    const name = durable === undefined ? {} : { "activemq.subscriptionName": durable };
-    const subscription = new Subscription(this, id, { ...given(headers), destination: String(destination), ack, ...name }, heard, ackWithin);
+    const subscription = new Subscription(this, id, { destination: String(destination), ack, ...name }, heard, ackWithin);
     this.#subscriptions.set(id, subscription);
-    if (this.#isWanted) this.#ask(subscription); else this.drop(subscription);
+    if (this.#isWanted) this.#ask(subscription, headers); else this.drop(subscription);
     return subscription;
   }
   /* Nothing is sent before `work` is done, so what it throws leaves nothing. */
@@ -442,9 +449,11 @@ class Client {
   }
   #post(post) { try { this.#link.post(post); } catch (error) { post.reject(error); } }
   /* Opens a new subscription, if the broker can take it and there is a session. */
-  #ask(subscription) {
-    const { id, headers, name } = subscription;
+  #ask(subscription, further) {
+    const { id, name } = subscription;
     try {
+      if (!isFunction(subscription.heard)) throw unsent('subscribe takes a function, as subscribe("/topic/room", message => console.log(message.body))');
+      const headers = subscription.headers = { ...given(further), ...subscription.headers };
       checked(["SUBSCRIBE", { ...headers, id }], { receipt: NUMBER });
       if (!MODES.includes(headers.ack)) throw refused(`E20 bad header value: ack is ${MODES.join(", ")}`);
       if (subscription.ackWithin !== undefined && headers.ack == "auto") throw unsent("ackWithin is for ack: \"client\" or \"client-individual\"");
