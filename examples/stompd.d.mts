@@ -45,6 +45,8 @@ export interface ConnectOptions {
   /** How long the broker may be silent while it connects or owes an answer (15,000); at most twice that. After such a silence an idle connection is
    *  probed, and lost without an answer. */
   answerTimeout?: number;
+  /** How long an idle connection may be silent once it is probed since the computer or the page woke (3,000). */
+  probeTimeout?: number;
   /** How long something waits for a connection, or for room, before it is `unsent` (60,000), counted from its call. */
   waitTimeout?: number;
   /** How long a durable name that is in use (E14) is asked for again before `ready` rejects (90,000): the broker may hold a dead session for so long. */

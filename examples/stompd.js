@@ -9,7 +9,7 @@ const { StompdError, checked, connectFrame, encoder, given, numbered, operationS
 
 const NOTHING = () => {};
 /* What each option and call means stands in stompd.d.mts. */
-const TIMES = { shortestPause: 500, longestPause: 8_000, answerTimeout: 15_000, waitTimeout: 60_000, nameTimeout: 90_000, closeTimeout: 5_000 };
+const TIMES = { shortestPause: 500, longestPause: 8_000, answerTimeout: 15_000, probeTimeout: 3_000, waitTimeout: 60_000, nameTimeout: 90_000, closeTimeout: 5_000 };
 const DEFAULTS = { ...TIMES, mostWaiting: 10_000, headers: {}, protocols: [], onstate: NOTHING, onfull: NOTHING, onerror: error => console.error(error) };
 /* Where a NACK puts what it refuses. */
 const DEAD = "/queue/dead";
@@ -150,6 +150,8 @@ class Link {
   #socket; #timer; #on; #openedAt; #count = 0; #asked = new Map(); #told;
   /* Whether nothing was heard since the last look, and whether an answer was due then. */
   #isQuiet = true; #wasDue = true;
+  /* What is probed: it ends this if nothing comes for so long. */
+  #probe = null;
   /* `on` is called with what happens: failed, opened, heard, refused, over. */
   constructor(url, options, on) {
     const asked = [url, options.headers, options.protocols];
@@ -203,7 +205,7 @@ class Link {
   end(detail) {
     if (this.isOver) return;
     Object.assign(this, { isOver: true, session: null });
-    clearTimeout(this.#timer);
+    for (const it of [this.#timer, this.#probe?.timer]) clearTimeout(it);
     if (this.#socket) Object.assign(this.#socket, { onopen: NOTHING, onmessage: NOTHING, onclose: NOTHING }).close();
     const posts = [...this.#asked.values()];
     this.#asked.clear();
@@ -212,6 +214,7 @@ class Link {
 
   #hear(data) {
     this.#isQuiet = false;
+    if (this.#probe) this.#awaitProbe();
     let frame;
     try { frame = read(data); } catch { return this.end({ reason: "what came is no STOMP" }); }
     const { command, headers } = frame;
@@ -245,18 +248,30 @@ class Link {
   #watch(period) { this.#timer = after(period, () => this.#look(period)); }
   #look(period) {
     if (this.#isQuiet && this.#wasDue) return this.end({ reason: `no answer within ${period} ms` });
-    const isDue = () => !this.session || [...this.#asked.values()].some(it => !it.isTold);
-    if (this.#isQuiet && !isDue()) this.post(PROBE);
+    if (this.#isQuiet && !this.#isDue()) this.post(PROBE);
     this.#isQuiet = true;
-    this.#wasDue = isDue();
+    this.#wasDue = this.#isDue();
     this.#watch(period);
+  }
+  #isDue() { return !this.session || [...this.#asked.values()].some(it => !it.isTold); }
+  /* Asks now, as after a sleep. An answer that is due may wait for the broker's disk, and so may that to this. */
+  probe({ probeTimeout, answerTimeout }) {
+    if (this.#probe) return;
+    this.#probe = { limit: this.#isDue() ? answerTimeout : probeTimeout };
+    this.post({ ...PROBE, resolve: () => { clearTimeout(this.#probe.timer); this.#probe = null; } });
+    this.#awaitProbe();
+  }
+  #awaitProbe() {
+    const { timer, limit } = this.#probe;
+    clearTimeout(timer);
+    this.#probe.timer = after(limit, () => this.end({ reason: `no answer within ${limit} ms` }));
   }
 }
 
 class Client {
   #url; #options; #link; #timer; #pauses; #count = 0; #isWanted = true;
   /* Whether its page was left or is frozen, and what ends the listening for that. */
-  #isAway = false; #page = new AbortController();
+  #isAway = false; #page = new AbortController(); #clock;
   /* Why the session was refused, whether by what is not asked again, or not soon, and when the first was so last. */
   #refusal; #isSettled; #rests; #settledAt = -Infinity;
   /* The pauses of asking for durable names that are in use, with the timer of one that lasts. */
@@ -273,6 +288,7 @@ class Client {
     if (!isFunction(this.#options.WebSocket)) throw unsent(NO_WEBSOCKET);
     connectFrame(this.#options.clientId, {});
     this.#watchPage();
+    this.#watchClock(Date.now());
     this.#start();
   }
 
@@ -360,6 +376,25 @@ class Client {
     on(globalThis, "pageshow", () => this.#return());
     on(globalThis.document, "freeze", () => this.#leave());
     on(globalThis.document, "resume", () => this.#return());
+    on(globalThis, "online", () => this.#wake());
+    on(globalThis.document, "visibilitychange", () => { if (document.visibilityState == "visible") this.#wake(); });
+  }
+  /* A clock that jumped belongs to a computer that slept. */
+  #watchClock(last) {
+    const { probeTimeout } = this.#options;
+    this.#clock = after(probeTimeout, () => {
+      const now = Date.now();
+      this.#watchClock(now);
+      if (Math.abs(now - last - probeTimeout) > probeTimeout) this.#wake();
+    });
+  }
+  /* The network may be another now: a connection is probed, and a lost one is renewed without waiting. */
+  #wake() {
+    if (!this.#isWanted || this.#isAway) return;
+    if (this.session) return this.#link.probe(this.#options);
+    if (this.state != "lost") return;
+    clearTimeout(this.#timer);
+    this.#start();
   }
   #leave() {
     if (this.#isAway || !this.#isWanted) return;
@@ -548,7 +583,7 @@ class Client {
     return this.#pauses.next();
   }
   #isClosed(detail) {
-    for (const it of [this.#timer, this.#nameTimer]) clearTimeout(it);
+    for (const it of [this.#timer, this.#nameTimer, this.#clock]) clearTimeout(it);
     this.#page.abort();
     for (const it of this.#full.values()) clearTimeout(it.timer);
     this.#full.clear();
