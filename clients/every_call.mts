@@ -23,7 +23,7 @@ function hold<T extends object>(what: string, value: T, kinds: Kinds<T>): void {
 
 const [, , url, package_of_ws] = process.argv, states: State[] = [];
 const options: Required<Omit<ConnectOptions, "WebSocket">> = {
-  clientId: "kiosk", headers: async () => ({ token: "t", none: null }), protocols: ["token.t"], shortestPause: 100, longestPause: 500, answerTimeout: 5_000, waitTimeout: Infinity, nameTimeout: 1_000, closeTimeout: 1_000, mostWaiting: 100,
+  clientId: "kiosk", headers: async () => ({ token: "t", none: null }), protocols: ["token.t"], shortestPause: 100, longestPause: 500, answerTimeout: 5_000, probeTimeout: 1_000, waitTimeout: Infinity, nameTimeout: 1_000, closeTimeout: 1_000, mostWaiting: 100,
   onstate: (state: State, { code, pause, reason }: StateDetail) => { states.push(state); const all: [number | undefined, number | undefined, string | null | undefined] = [code, pause, reason]; void all; },
   onfull: (full: readonly string[], pause?: number) => { void full.length; void pause; },
   onerror: (error: unknown, subscription?: Subscription) => console.log(`${subscription?.id}: ${error}`),

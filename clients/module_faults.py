@@ -345,6 +345,30 @@ def nothing_breaks(engine, checks):
         checks.same("an acknowledgement is of one connection", run("await soon(() => jobs.length); return outcome(two.transaction(tx => tx.ack(jobs[0])))"), "unsent")
 
 
+def an_id_is_used_again(engine, checks):
+    """a subscription with the id of one that was ended has its own messages alone"""
+    run = engine.value
+    with opened(engine, "clientId: 'kiosk'") as (fake, link):
+        for mode, first in (("auto", ["of the first"]), ("client", [])):
+            begin = f"(place, name) => {{ globalThis[name] = []; return it.subscribe(place, ({{ body }}) => globalThis[name].push(body), {{ id: 'same', ack: '{mode}', durable: place == '/topic/a' ? 'd' : undefined }}); }}"
+            run(f"globalThis.begin = {begin}; globalThis.one = begin('/topic/a', 'first')")
+            link.accept_next()
+            run("globalThis.ended = outcome(one.end()); globalThis.two = begin('/topic/b', 'second')")
+            end, begins = link.take_all(2)
+            settled = [("ack", "1")] if mode == "client" else []
+            link.message("same", "of the first", settled)
+            link.accept(end)
+            # A command's messages come before its receipt.
+            link.message("same", "of the second", settled, 2)
+            link.accept(begins)
+            checks.same(f"each hears its own in the mode {mode}", run("return [await ended, await outcome(two.ready), await soon(() => second.length), first, second]"), ["resolved", "resolved", True, first, ["of the second"]])
+            run("globalThis.given = outcome(one.giveUp())")
+            frame = link.accept_next()
+            checks.same("the name of the first is given up without the id that is the other's", (sorted(frame.headers), run("return given")), (["activemq.subscriptionName", "receipt"], "resolved"))
+            run("outcome(two.end())")
+            link.accept_next()
+
+
 def offered(link):
     """The path and the subprotocols of its request, and the further headers of its CONNECT."""
     path, protocols = link.request.split()[1].decode(), re.search(rb"(?im)^sec-websocket-protocol: *(.*?)\r?$", link.request)[1].decode()
@@ -390,4 +414,4 @@ def asked_anew(engine, checks):
         checks.same("nor one that a function answers", run("return it.errors.map(([error]) => error.kind)"), ["unsent"])
 
 
-TRIALS = [promises_left_alone, refusals, what_a_refusal_ends, what_is_left_at_a_close, what_is_over_stays_so, a_refusal_by_its_receipt, waits_end, frames_are_right, nothing_breaks, asked_anew]
+TRIALS = [promises_left_alone, refusals, what_a_refusal_ends, what_is_left_at_a_close, what_is_over_stays_so, a_refusal_by_its_receipt, waits_end, frames_are_right, nothing_breaks, an_id_is_used_again, asked_anew]

@@ -12,20 +12,19 @@ from lib.stomp_client import Client
 PROTOCOL = (scenario.TOP / "docs" / "PROTOCOL.md").read_text(encoding="utf-8")
 
 
-def stated(pattern):
-    """The numbers that the protocol states in a line of this form."""
-    found = re.search(pattern.replace("#", r"([\d,]+)"), PROTOCOL)
-    assert found, f"docs/PROTOCOL.md has no {pattern}"
-    return [int(it.replace(",", "")) for it in found.groups()]
+def stated(what):
+    """The number that the protocol's table has for this."""
+    found = re.search(rf"^\| {re.escape(what)} \| ([\d,]+)", PROTOCOL, re.M)
+    assert found, f"docs/PROTOCOL.md has no limit of {what}"
+    return int(found[1].replace(",", ""))
 
 
-HEADERS, HEAD, BODY = stated(r"Headers of a frame: #; bytes of command and headers: #; of a body: # \(E2\)")
-(SUBSCRIPTIONS,) = stated(r"Subscriptions of a session: #;")
-MEMBERS, MEMBERS_BYTES = stated(r"Members of a transaction: #; bytes of their operations: # \(E17\)")
+HEADERS, HEAD, BODY = (stated(it) for it in ("headers", "bytes of command and headers", "bytes of the body"))
+SUBSCRIPTIONS, MEMBERS, MEMBERS_BYTES = (stated(it) for it in ("subscriptions", "members of a transaction", "bytes of their operations"))
 # The operation of an ACK: a byte, and the number of the delivery in eight.
 ACK_BYTES = 9
-SHORTEST, LONGEST = stated(r"`/topic/` or `/queue/` and # to # ASCII letters")
-(HELD_BYTES,) = stated(r"Held messages: [\d,]+; their bytes: # \(E12\)")
+SHORTEST, LONGEST = 1, stated("characters of a destination after `/topic/` or `/queue/`")
+HELD_BYTES = stated("their bytes")
 
 
 def refused(code):
@@ -94,6 +93,8 @@ def of_frames(engine, limits):
     odd = (HEAD - size) % 2
     limits.taken("one with escapes", send(headers=f"{{ x: {of_repeated(':', (HEAD - size) // 2)} + {of_repeated('x', odd)} }}"))
     limits.refused("one with a byte more", "E2", send(headers=f"{{ x: {of_repeated(':', (HEAD - size) // 2)} + {of_repeated('x', odd + 1)} }}"))
+    limits.taken("one of letters of two bytes", send(headers=f"{{ x: {of_repeated('ö', (HEAD - size) // 2)} + {of_repeated('x', odd)} }}"))
+    limits.refused("one with a byte more", "E2", send(headers=f"{{ x: {of_repeated('ö', (HEAD - size) // 2)} + {of_repeated('x', odd + 1)} }}"))
     limits.refused("a header without a name", "E1", send(headers="{ '': 'x' }"))
 
 
@@ -120,7 +121,8 @@ def of_transactions(engine, limits):
     limits.run("globalThis.acking = limited.subscribe('/queue/acked', it => { globalThis.acked = it; }, { ack: 'client-individual' })")
     limits.run("globalThis.acked = null; await limited.send('/queue/acked', 'x'); await soon(() => acked)")
     with_ack = lambda count: heavy(count).replace("{ ", "{ tx.ack(acked); ", 1)
-    limits.both("one with an acknowledgement, whose last body fills it,", "E17", with_ack, rest - ACK_BYTES)
+    limits.refused("one with an acknowledgement, whose last body is too large,", "E17", with_ack(rest - ACK_BYTES + 1))
+    limits.taken("one whose last body fills it", with_ack(rest - ACK_BYTES))
     limits.run("await acking.end()")
     _, size = head_of(engine, "it.transaction(tx => tx.send('/topic/none', 'x', { x: '' }))")
     limits.run(f"globalThis.URL_ = 'ws://127.0.0.1:{limits.relay.port}/'")
@@ -148,6 +150,48 @@ def of_subscriptions(limits):
     limits.taken("one in the place of one that ended", f"(last.end(), {subscribe('/topic/none')}.ready)")
 
 
+def of_forms(limits):
+    """Arguments of a wrong form are not sent, and the error names the right one."""
+    subscribe = lambda *words: f"limited.subscribe({', '.join(words)}).ready"
+    shows = [
+        ("a subscription without a function", subscribe("'/topic/none'"), "unsent", "message =>"),
+        ("one with its options in that place", subscribe("'/topic/none'", "{ ack: 'client' }"), "unsent", "message =>"),
+        ("one whose header is an object", subscribe("'/topic/none'", "() => {}", "{ headers: { key: {} } }"), "unsent", '{ key: "text" }'),
+        ("a header that is an object", "limited.send('/topic/none', 'x', { key: {} })", "unsent", '{ key: "text" }'),
+        ("one that is a list", "limited.send('/topic/none', 'x', { key: ['a'] })", "unsent", '{ key: "text" }'),
+        ("one that is a function", "limited.send('/topic/none', 'x', { key: () => 'a' })", "unsent", '{ key: "text" }'),
+        ("a text for all headers", "limited.send('/topic/none', 'x', 'text')", "unsent", '{ key: "text" }'),
+        ("null for them", "limited.send('/topic/none', 'x', null)", "unsent", '{ key: "text" }'),
+        ("an object as a body", "limited.send('/topic/none', { a: 1 })", "unsent", "JSON.stringify"),
+        ("a queue without its slash", "limited.send('queue/a', 'x')", "refused", '"/queue/a"'),
+        ("one that is subscribed to", subscribe("'queue/a'", "() => {}"), "refused", '"/queue/a"'),
+        ("another destination", "limited.send('nowhere', 'x')", "refused", "/topic/ or /queue/"),
+    ]
+    for what, ask, kind, form in shows:
+        before = limits.relay.asked
+        seen = limits.run(f"return {ask}.then(() => ['taken', ''], error => [error.kind, error.message])")
+        limits.checks.check(f"{what} is not sent, and the right form is named", seen[0] == kind and form in seen[1] and limits.relay.asked == before, seen)
+    limits.taken("headers of texts and numbers", "limited.send('/topic/none', 'x', { a: 'x', b: 1, c: true, d: null, e: undefined })")
+    limits.taken("a subscription whose id is a number", "(globalThis.heardByNumber = 0, globalThis.numbered = limited.subscribe('/topic/number', () => heardByNumber++, { id: 7 })).ready")
+    limits.checks.check("and hears", limits.run("await limited.send('/topic/number', 'x'); await soon(() => heardByNumber == 1, 2); await numbered.end(); return heardByNumber == 1"))
+
+
+def of_acknowledgements(limits):
+    """A message is acknowledged once."""
+    for mode, other in (("client-individual", "taken"), ("client", refused("E11"))):
+        limits.run(f"globalThis.twice = []; globalThis.hand = limited.subscribe('/queue/twice', it => twice.push(it), {{ ack: '{mode}' }}); await hand.ready")
+        limits.run("for (let count = 0; count < 4; count++) limited.send('/queue/twice', count); await soon(() => twice.length == 4)")
+        limits.taken(f"an acknowledgement in the mode {mode}", "twice[1].ack()")
+        for act in ("ack", "nack"):
+            limits.refused(f"{act} of one that is acknowledged", "E11", f"twice[1].{act}()")
+        limits.checks.same(f"an earlier message is acknowledged, unless that was done with it: {mode}", limits.run("return how(twice[0].ack())"), other)
+        limits.refused("a transaction that does so twice", "E11", "limited.transaction(tx => { tx.ack(twice[3]); tx.nack(twice[3]); })")
+        limits.taken("one that does so once", "limited.transaction(tx => { tx.ack(twice[2]); tx.nack(twice[3]); })")
+        limits.refused("an acknowledgement after that", "E11", "twice[2].ack()")
+        limits.run("await hand.end(); globalThis.gone = 0; const dead = limited.subscribe('/queue/dead', () => gone++); await soon(() => gone); await dead.end()")
+    limits.checks.same("and the session went on", limits.run("return limited.session == session"), True)
+
+
 def of_what_is_told(limits):
     before = limits.relay.asked
     seen = limits.run(f"limited.errors.length = 0; const told = limited.tell('/topic/none', 'x'.repeat({BODY + 1})); await soon(() => limited.errors.length); return [told, limited.errors.map(([error]) => [error.kind, error.code])]")
@@ -163,6 +207,8 @@ def at_the_limits(engine, broker, checks):
         of_frames(engine, limits)
         of_destinations(limits)
         of_transactions(engine, limits)
+        of_forms(limits)
+        of_acknowledgements(limits)
         of_subscriptions(limits)
         of_what_is_told(limits)
         checks.same("the session was one", run("return [limited.session == session, limited.states.map(([state]) => state)]"), [True, ["connecting", "open"]])

@@ -94,6 +94,51 @@ def acknowledged_in_time(engine, checks):
         checks.check("one that acknowledges by itself has no such time", told[0] == "unsent" and "client-individual" in told[1], told)
 
 
+# What wakes a client: an event of the page, or a clock that jumped.
+JUMP = "const clock = Date.now; Date.now = () => clock() + 3600000; globalThis.setBack = () => { Date.now = clock; }"
+EVENTS = {"the network is back": "dispatchEvent(new Event('online'))", "the page is looked at": "document.dispatchEvent(new Event('visibilitychange'))"}
+# The times at which an idle connection is probed anyway are longer than a trial.
+IDLE = "answerTimeout: 600000, probeTimeout: 1000"
+
+
+def wakes_of(engine):
+    return {"the clock jumped": JUMP, **(EVENTS if engine.name == "Chromium" else {})}
+
+
+def it_wakes(engine, checks):
+    """a client that wakes probes its connection at once, and renews a lost one"""
+    run = engine.value
+    for what, wake in wakes_of(engine).items():
+        for answers in (True, False):
+            with opened(engine, IDLE) as (fake, link):
+                run(f"globalThis.setBack = () => {{}}; {wake}")
+                checks.same(f"{what}: it is probed", [frame.command for frame in link.take_all(2)], ["BEGIN", "ABORT"])
+                if answers:
+                    link.say("RECEIPT", [("receipt-id", link.head.decode().partition("receipt:")[2].partition("\n")[0])])
+                    checks.same("one that answers stays", run("await soon(() => false, 1.5); setBack(); return it.states.map(([state]) => state)"), ["connecting", "open"])
+                else:
+                    checks.check("one that doesn't is lost in time", run("return soon(() => it.states.some(([state, , reason]) => state == 'lost' && /within 1000 ms/.test(reason)), 10)"))
+                    fake.take()
+                    run("setBack(); await soon(() => it.session)")
+        with opened(engine, f"{IDLE}, shortestPause: 600000, longestPause: 600000") as (fake, link):
+            link.drop()
+            run(f"await soon(() => it.state == 'lost'); globalThis.setBack = () => {{}}; {wake}")
+            fake.take()
+            checks.check(f"{what}: a lost one is renewed without a pause", run("setBack(); return soon(() => it.session)"))
+    with opened(engine, IDLE) as (fake, link):
+        run("it.subscribe('/topic/room', () => {}, { id: 's' })")
+        link.accept_next()
+        run(f"globalThis.slow = outcome(it.send('/topic/room', 'x')); {JUMP}")
+        send = link.take()
+        link.take_all(2)
+        run("await soon(() => false, 1.5); setBack()")
+        link.accept(send)
+        checks.same("one that owes an answer has the time for it", run("return [await slow, it.state]"), ["resolved", "open"])
+    with opened(engine, f"{IDLE}, answerTimeout: Infinity, probeTimeout: Infinity") as (fake, link):
+        run(f"{JUMP}; await soon(() => false, 0.5); setBack(); it.send('/topic/room', 'x')")
+        checks.same("a probe that is turned off is none", link.accept_next().command, "SEND")
+
+
 def jobs_are_free(engine, broker, checks):
     """what a page that was left had in hand, and its durable name, are free at once"""
     run = engine.value
@@ -128,7 +173,7 @@ def a_hung_worker(engine, broker, checks):
     run("await it.close()")
 
 
-FAKE = [acknowledged_in_time]
+FAKE = [acknowledged_in_time, it_wakes]
 FAKE_OF_PAGES = [a_page_is_away]
 REAL = [a_hung_worker]
 REAL_OF_PAGES = [jobs_are_free]

@@ -45,6 +45,8 @@ export interface ConnectOptions {
   /** How long the broker may be silent while it connects or owes an answer (15,000); at most twice that. After such a silence an idle connection is
    *  probed, and lost without an answer. */
   answerTimeout?: number;
+  /** How long an idle connection may be silent once it is probed since the computer or the page woke (3,000). */
+  probeTimeout?: number;
   /** How long something waits for a connection, or for room, before it is `unsent` (60,000), counted from its call. */
   waitTimeout?: number;
   /** How long a durable name that is in use (E14) is asked for again before `ready` rejects (90,000): the broker may hold a dead session for so long. */
@@ -77,7 +79,8 @@ export interface Message {
   readonly body: string | Uint8Array;
   /** The body's bytes, whatever they are. */
   readonly bytes: Uint8Array;
-  /** Resolves at the receipt. `unsent` if its session or subscription is over (then it comes again, or is another's), or is `auto`. */
+  /** Resolves at the receipt. `unsent` if its session or subscription is over (then it comes again, or is another's), or is `auto`; `refused` with E11, and
+   *  not sent, if it was acknowledged or refused before, in the mode `client` also with a later one. */
   ack(): Promise<void>;
   /** Refuses it: it goes to `/queue/dead`. */
   nack(): Promise<void>;
@@ -129,7 +132,7 @@ export interface Client {
   /** Sends without a receipt, for messages that are worthless later. Without a connection, if 1 MiB waits to be sent, or if the broker would refuse it,
    *  it does nothing. Returns whether it sent. */
   tell(destination: string, body?: Body, headers?: Headers): boolean;
-  /** Throws if a subscription has this id. There are at most 16. */
+  /** Throws if a subscription has this id. There are at most 16. `ready` rejects at once if an argument is wrong, and `onerror` gets that too. */
   subscribe(destination: string, heard: (message: Message) => unknown, options?: SubscribeOptions): Subscription;
   /** Carries out all that `work` puts into the transaction, or nothing. Resolves at the receipt of its COMMIT. */
   transaction(work: (tx: Transaction) => unknown): Promise<void>;

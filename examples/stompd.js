@@ -9,12 +9,12 @@ const { StompdError, checked, connectFrame, encoder, given, numbered, operationS
 
 const NOTHING = () => {};
 /* What each option and call means stands in stompd.d.mts. */
-const TIMES = { shortestPause: 500, longestPause: 8_000, answerTimeout: 15_000, waitTimeout: 60_000, nameTimeout: 90_000, closeTimeout: 5_000 };
+const TIMES = { shortestPause: 500, longestPause: 8_000, answerTimeout: 15_000, probeTimeout: 3_000, waitTimeout: 60_000, nameTimeout: 90_000, closeTimeout: 5_000 };
 const DEFAULTS = { ...TIMES, mostWaiting: 10_000, headers: {}, protocols: [], onstate: NOTHING, onfull: NOTHING, onerror: error => console.error(error) };
 /* Where a NACK puts what it refuses. */
 const DEAD = "/queue/dead";
 const NO_WEBSOCKET = "there is no WebSocket: use Node 22, start Node 20 with --experimental-websocket, or give connect that of the package ws";
-const NAMELESS = "E13 durable subscription without a clientId";
+const NAMELESS = "E13 durable subscription without a clientId", TWICE = "E11 unknown acknowledgement id: the message was acknowledged or refused before";
 /* Bytes that may wait in a socket before what is only told is left out. */
 const MOST_BUFFERED = 1 << 20;
 /* Further limits of the broker (docs/PROTOCOL.md, "Limits"). */
@@ -56,8 +56,11 @@ class Message {
     if (this.headers.ack === undefined) throw unsent("a message of an auto subscription is not acknowledged");
     if (!client.isOpen(this.#link)) throw unsent("the session that this message came in is over");
     if (this.#subscription.isEnded) throw unsent("the subscription that this message came for has ended");
+    if (!this.#subscription.settledBy(this).length) throw refused(TWICE);
     return [command, { id: this.headers.ack }, "", this];
   }
+  /* The messages that its acknowledgement would settle. */
+  settled() { return this.#subscription.settledBy(this); }
   settle() { this.#subscription.settle(this); }
 }
 
@@ -72,14 +75,15 @@ class Subscription {
   }
   /* Has a message until it is acknowledged, or for `ackWithin`. */
   hold(message, isLate) { this.#held.set(message, after(this.ackWithin, isLate)); }
-  /* An acknowledgement in the mode `client` is one of earlier messages too. */
+  /* Which messages an acknowledgement of this one settles: in the mode `client` earlier ones too, and none if it was settled before. */
+  settledBy(message) {
+    const held = [...this.#held.keys()], place = held.indexOf(message);
+    return held.slice(this.headers.ack == "client" ? 0 : Math.max(place, 0), place + 1);
+  }
   settle(message) {
-    if (!this.#held.has(message)) return;
-    for (const [it, timer] of this.#held) {
-      if (it !== message && this.headers.ack != "client") continue;
-      clearTimeout(timer);
+    for (const it of this.settledBy(message)) {
+      clearTimeout(this.#held.get(it));
       this.#held.delete(it);
-      if (it === message) return;
     }
   }
   /* What it held comes again, or is another's. */
@@ -111,7 +115,7 @@ class Subscription {
 
 /* What a transaction is made of, where it sends to, and whether it acknowledges. */
 class Transaction {
-  #size = 0;
+  #size = 0; #settled = new Set();
   constructor(client) { Object.assign(this, { client, makers: [], destinations: [], makesRoom: false }); }
   send(destination, body, headers = {}) {
     const frame = sendFrame(destination, body, headers, { transaction: NUMBER });
@@ -120,6 +124,9 @@ class Transaction {
   ack(message) { this.#settle("ACK", message); }
   nack(message) { this.#settle("NACK", message, DEAD); }
   #settle(command, message, destination) {
+    message.frame(command, this.client);
+    if (this.#settled.has(message)) throw refused(TWICE);
+    message.settled().forEach(it => this.#settled.add(it));
     this.#add(9, () => message.frame(command, this.client), destination);
     this.makesRoom = true;
   }
@@ -143,6 +150,8 @@ class Link {
   #socket; #timer; #on; #openedAt; #count = 0; #asked = new Map(); #told;
   /* Whether nothing was heard since the last look, and whether an answer was due then. */
   #isQuiet = true; #wasDue = true;
+  /* What is probed: it ends this if nothing comes for so long. */
+  #probe = null;
   /* `on` is called with what happens: failed, opened, heard, refused, over. */
   constructor(url, options, on) {
     const asked = [url, options.headers, options.protocols];
@@ -196,7 +205,7 @@ class Link {
   end(detail) {
     if (this.isOver) return;
     Object.assign(this, { isOver: true, session: null });
-    clearTimeout(this.#timer);
+    for (const it of [this.#timer, this.#probe?.timer]) clearTimeout(it);
     if (this.#socket) Object.assign(this.#socket, { onopen: NOTHING, onmessage: NOTHING, onclose: NOTHING }).close();
     const posts = [...this.#asked.values()];
     this.#asked.clear();
@@ -205,6 +214,7 @@ class Link {
 
   #hear(data) {
     this.#isQuiet = false;
+    if (this.#probe) this.#awaitProbe();
     let frame;
     try { frame = read(data); } catch { return this.end({ reason: "what came is no STOMP" }); }
     const { command, headers } = frame;
@@ -238,18 +248,30 @@ class Link {
   #watch(period) { this.#timer = after(period, () => this.#look(period)); }
   #look(period) {
     if (this.#isQuiet && this.#wasDue) return this.end({ reason: `no answer within ${period} ms` });
-    const isDue = () => !this.session || [...this.#asked.values()].some(it => !it.isTold);
-    if (this.#isQuiet && !isDue()) this.post(PROBE);
+    if (this.#isQuiet && !this.#isDue()) this.post(PROBE);
     this.#isQuiet = true;
-    this.#wasDue = isDue();
+    this.#wasDue = this.#isDue();
     this.#watch(period);
+  }
+  #isDue() { return !this.session || [...this.#asked.values()].some(it => !it.isTold); }
+  /* Asks now, as after a sleep. An answer that is due may wait for the broker's disk, and so may that to this. */
+  probe({ probeTimeout, answerTimeout }) {
+    if (this.#probe) return;
+    this.#probe = { limit: this.#isDue() ? answerTimeout : probeTimeout };
+    this.post({ ...PROBE, resolve: () => { clearTimeout(this.#probe.timer); this.#probe = null; } });
+    this.#awaitProbe();
+  }
+  #awaitProbe() {
+    const { timer, limit } = this.#probe;
+    clearTimeout(timer);
+    this.#probe.timer = after(limit, () => this.end({ reason: `no answer within ${limit} ms` }));
   }
 }
 
 class Client {
   #url; #options; #link; #timer; #pauses; #count = 0; #isWanted = true;
   /* Whether its page was left or is frozen, and what ends the listening for that. */
-  #isAway = false; #page = new AbortController();
+  #isAway = false; #page = new AbortController(); #clock;
   /* Why the session was refused, whether by what is not asked again, or not soon, and when the first was so last. */
   #refusal; #isSettled; #rests; #settledAt = -Infinity;
   /* The pauses of asking for durable names that are in use, with the timer of one that lasts. */
@@ -266,6 +288,7 @@ class Client {
     if (!isFunction(this.#options.WebSocket)) throw unsent(NO_WEBSOCKET);
     connectFrame(this.#options.clientId, {});
     this.#watchPage();
+    this.#watchClock(Date.now());
     this.#start();
   }
 
@@ -289,12 +312,12 @@ class Client {
       return false;
     }
   }
-  subscribe(destination, heard, { ack = "auto", ackWithin, durable, id = `subscription ${++this.#count}`, headers = {} } = {}) {
+  subscribe(destination, heard, { ack = "auto", ackWithin, durable, id: wanted = `subscription ${++this.#count}`, headers = {} } = {}) {
+    const id = String(wanted), name = durable === undefined ? {} : { "activemq.subscriptionName": durable };
     if (this.#subscriptions.has(id)) throw unsent(`there is a subscription ${id}`);
-    const name = durable === undefined ? {} : { "activemq.subscriptionName": durable };
-    const subscription = new Subscription(this, id, { ...given(headers), destination: String(destination), ack, ...name }, heard, ackWithin);
+    const subscription = new Subscription(this, id, { destination: String(destination), ack, ...name }, heard, ackWithin);
     this.#subscriptions.set(id, subscription);
-    if (this.#isWanted) this.#ask(subscription); else this.drop(subscription);
+    if (this.#isWanted) this.#ask(subscription, headers); else this.drop(subscription);
     return subscription;
   }
   /* Nothing is sent before `work` is done, so what it throws leaves nothing. */
@@ -353,6 +376,25 @@ class Client {
     on(globalThis, "pageshow", () => this.#return());
     on(globalThis.document, "freeze", () => this.#leave());
     on(globalThis.document, "resume", () => this.#return());
+    on(globalThis, "online", () => this.#wake());
+    on(globalThis.document, "visibilitychange", () => { if (document.visibilityState == "visible") this.#wake(); });
+  }
+  /* A clock that jumped belongs to a computer that slept. */
+  #watchClock(last) {
+    const { probeTimeout } = this.#options;
+    this.#clock = after(probeTimeout, () => {
+      const now = Date.now();
+      this.#watchClock(now);
+      if (Math.abs(now - last - probeTimeout) > probeTimeout) this.#wake();
+    });
+  }
+  /* The network may be another now: a connection is probed, and a lost one is renewed without waiting. */
+  #wake() {
+    if (!this.#isWanted || this.#isAway) return;
+    if (this.session) return this.#link.probe(this.#options);
+    if (this.state != "lost") return;
+    clearTimeout(this.#timer);
+    this.#start();
   }
   #leave() {
     if (this.#isAway || !this.#isWanted) return;
@@ -442,9 +484,11 @@ class Client {
   }
   #post(post) { try { this.#link.post(post); } catch (error) { post.reject(error); } }
   /* Opens a new subscription, if the broker can take it and there is a session. */
-  #ask(subscription) {
-    const { id, headers, name } = subscription;
+  #ask(subscription, further) {
+    const { id, name } = subscription;
     try {
+      if (!isFunction(subscription.heard)) throw unsent('subscribe takes a function, as subscribe("/topic/room", message => console.log(message.body))');
+      const headers = subscription.headers = { ...given(further), ...subscription.headers };
       checked(["SUBSCRIBE", { ...headers, id }], { receipt: NUMBER });
       if (!MODES.includes(headers.ack)) throw refused(`E20 bad header value: ack is ${MODES.join(", ")}`);
       if (subscription.ackWithin !== undefined && headers.ack == "auto") throw unsent("ackWithin is for ack: \"client\" or \"client-individual\"");
@@ -539,7 +583,7 @@ class Client {
     return this.#pauses.next();
   }
   #isClosed(detail) {
-    for (const it of [this.#timer, this.#nameTimer]) clearTimeout(it);
+    for (const it of [this.#timer, this.#nameTimer, this.#clock]) clearTimeout(it);
     this.#page.abort();
     for (const it of this.#full.values()) clearTimeout(it.timer);
     this.#full.clear();

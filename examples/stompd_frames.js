@@ -29,12 +29,18 @@ function bodyOf(body) {
   if (body === undefined || body === null) return "";
   if (body instanceof ArrayBuffer) return new Uint8Array(body.slice(0));
   if (ArrayBuffer.isView(body)) return new Uint8Array(body.buffer, body.byteOffset, body.byteLength).slice();
-  if (["object", "function", "symbol"].includes(typeof body)) throw unsent(`a body is a text or bytes, and no ${typeof body}`);
+  if (["object", "function", "symbol"].includes(typeof body)) throw unsent(`a body is a text or bytes, and no ${typeof body}: use JSON.stringify`);
   return String(body);
 }
 
 /* Headers of the caller, of which those without a value are left out. */
-const given = headers => Object.fromEntries(Object.entries(headers).filter(([name, value]) => value != null && !OWN_HEADERS.includes(name)));
+function given(headers) {
+  if (typeof headers != "object" || headers === null || Array.isArray(headers)) throw unsent('headers are an object, as { key: "text" }');
+  const all = Object.entries(headers).filter(([name, value]) => value != null && !OWN_HEADERS.includes(name));
+  const odd = all.find(([, value]) => ["object", "function", "symbol"].includes(typeof value));
+  if (odd) throw unsent(`the header ${odd[0]} is a text, and no ${typeof odd[1]}, as { ${odd[0]}: "text" }`);
+  return Object.fromEntries(all);
+}
 
 /* A SEND, if the broker can take it. `added` are as long as the headers that it gets once it is sent. */
 function sendFrame(destination, body, headers, added) {
@@ -51,7 +57,9 @@ function checked(frame, added) {
   // A letter has at most three bytes for each of its places in the text.
   if (3 * head.length > MOST_HEAD && sizeOf(head) > MOST_HEAD) throw refused(`E2 frame too large: ${sizeOf(head)} bytes of command and headers, and ${MOST_HEAD} are the most`);
   if (command == "CONNECT" || DESTINATION.test(all.destination)) return frame;
-  throw refused("E8 bad destination: it is /topic/ or /queue/, and 1 to 200 letters, digits, points, dashes, underscores and slashes");
+  const name = JSON.stringify(all.destination.slice(0, 250)), slashed = `/${all.destination}`;
+  if (DESTINATION.test(slashed)) throw refused(`E8 bad destination: ${name} has to begin with a slash, as "${slashed}"`);
+  throw refused(`E8 bad destination: ${name} is not /topic/ or /queue/, and 1 to 200 letters, digits, points, dashes, underscores and slashes`);
 }
 
 /* How many bytes a SEND takes as a member of a transaction (docs/JOURNAL.md, "The record of a command"). */
