@@ -1,7 +1,7 @@
 -- How one who listens goes on from connection to connection.
 use Rattle.std.specs.Prelude.{◌-◌, ◌||◌, ◌&&◌, ℕ, Bool, false, nat_lt, not}
 use Rattle.client_core.specs.Texts.{is_before_message, is_gone, is_of_session}
-use Rattle.client_core.specs.declared.course.Course.{Course}
+use Rattle.client_core.specs.declared.plan.Course.{Course}
 use Rattle.client_core.specs.declared.fault.ClientFault.{ClientFault}
 use Rattle.client_core.specs.declared.fault.Step.{Step}
 use Rattle.client_core.specs.declared.plan.Plan.{Plan}

@@ -1,15 +1,17 @@
-//! Conversations with the server at an address.
+//! Conversations with the server at an address, and how it is reached.
 
 ghost use Rattle.std.specs.Prelude.{◌≡◌, ◌⊎◌, IfErr, None};
 ghost use Rattle.client_core.specs.Talks.{BreaksOff, HasReason, IsOfPeer};
+ghost use Rattle.client_core.specs.declared.fault.Step.TheVariants.{Connection, Handshake};
 
-use crate::reaching::connect;
-use crate::web_peer::WebPeer;
-use client_core::{Address, ClientFault, Outgoing, converse, forget_once, send_once};
+use crate::web_peer::{STEP_SECONDS, Timed, WebPeer, cause_by, cause_of};
+use client_core::{Address, Cause, ClientFault, Outgoing, Step, converse, forget_once, send_once};
+use http::Request;
 use std::alloc::Global;
-use std::net::{Net, TcpStream};
+use std::net::{Ipv4Addr, Net, SocketAddr, SocketAddrV4, TcpStream, ToSocketAddrs};
 use std::random::RandomSource;
 use std::time::{Clock, Duration};
+use tungstenite::{ClientHandshake, HandshakeError, RandomKeys, WebSocketConfig, client};
 
 // The virtual host that is named. The broker knows none.
 pub(crate) const HOST: &str = "127.0.0.1";
@@ -100,5 +102,174 @@ where
             forgotten
         }
         Err(fault) => Err(fault),
+    }
+}
+
+// How many bytes a message may have that is heard. One of this broker has fewer.
+const MESSAGE_BYTES: usize = 131_072;
+
+/// The peer at that address, after the handshake. At a port of this machine it asks for that path.
+pub fn connect<R>(
+    rt: &R,
+    alloc: Global,
+    address: Address<'_>,
+    path: &str,
+) -> Result<WebPeer<R>, ClientFault>
+where
+    R: Net<Stream = TcpStream> + Clock + RandomSource + Clone + Drop,
+    ensures { IfErr result (λ fault. ((fault.step ≡ Connection) ⊎ (fault.step ≡ Handshake)) × IsOfPeer fault.cause) }
+{
+    let Some(request) = request_of(alloc, address, path) else {
+        return Err(unconnected(Cause::NoHost));
+    };
+    match socket_to(rt, address, &request) {
+        Ok(socket) => match shake(rt, alloc, request, socket) {
+            Ok(peer) => Ok(peer),
+            Err(cause) => Err(ClientFault {
+                step: Step::Handshake,
+                cause,
+            }),
+        },
+        Err(cause) => {
+            drop(request);
+            Err(unconnected(cause))
+        }
+    }
+}
+
+fn unconnected(cause: Cause) -> ClientFault
+    ensures { (result.step ≡ Connection) × (result.cause ≡ cause) }
+{
+    ClientFault {
+        step: Step::Connection,
+        cause,
+    }
+}
+
+// The request of the handshake, which offers the subprotocol of STOMP 1.2. `None` if the URL is none, or memory is refused.
+fn request_of(alloc: Global, address: Address<'_>, path: &str) -> Option<Request<()>> {
+    match address {
+        Address::Port(port) => {
+            let place = format!(in alloc; "ws://127.0.0.1:{port}{path}").ok()?;
+            let request = request_to(alloc, place.as_str());
+            drop(place);
+            request
+        }
+        Address::Url(url) => request_to(alloc, url),
+    }
+}
+
+fn request_to(alloc: Global, url: &str) -> Option<Request<()>> {
+    Request::builder(alloc)
+        .uri(url)
+        .header("Sec-WebSocket-Protocol", "v12.stomp")
+        .body(())
+        .ok()
+}
+
+// A connection to that address, with the time of the next step.
+fn socket_to<R>(rt: &R, address: Address<'_>, request: &Request<()>) -> Result<Timed<R>, Cause>
+where
+    R: Net<Stream = TcpStream> + Clock + Clone + Drop,
+    ensures { IfErr result IsOfPeer }
+{
+    match address {
+        Address::Port(port) => {
+            let place = SocketAddr::V4(SocketAddrV4::new(Ipv4Addr::LOCALHOST, port));
+            timed_to(rt, &place)
+        }
+        Address::Url(_) => {
+            let uri = request.uri();
+            match uri.host() {
+                Some(host) => socket_at(rt, host, uri.port_u16().unwrap_or(80)),
+                None => Err(Cause::NoHost),
+            }
+        }
+    }
+}
+
+// A connection to the first address of a host that takes one. An address of IPv6 stands in brackets.
+fn socket_at<R>(rt: &R, host: &str, port: u16) -> Result<Timed<R>, Cause>
+where
+    R: Net<Stream = TcpStream> + Clock + Clone + Drop,
+    ensures { IfErr result IsOfPeer }
+{
+    let bare = host
+        .strip_prefix("[")
+        .and_then(|rest| rest.strip_suffix("]"))
+        .unwrap_or(host);
+    let Ok(places) = (bare, port).to_socket_addrs(rt) else {
+        return Err(Cause::NoHost);
+    };
+    let mut cause = Cause::NoHost;
+    for place in places {
+        match timed_to(rt, &place) {
+            Ok(socket) => return Ok(socket),
+            Err(other) => cause = other,
+        }
+    }
+    Err(cause)
+}
+
+fn timed_to<R>(rt: &R, place: &SocketAddr) -> Result<Timed<R>, Cause>
+where
+    R: Net<Stream = TcpStream> + Clock + Clone + Drop,
+    ensures { IfErr result IsOfPeer }
+{
+    let limit = Duration::from_secs(STEP_SECONDS);
+    let socket = match TcpStream::connect_timeout(rt, place, limit) {
+        Ok(socket) => socket,
+        Err(error) => return Err(cause_by(error.kind())),
+    };
+    // A frame goes out at once, though the one before is not acknowledged yet. If the system refuses that, it is only slower.
+    drop(socket.set_nodelay(true));
+    let Ok(clock) = rt.clone() else {
+        drop(socket);
+        return Err(Cause::Memory);
+    };
+    match Timed::new(clock, socket) {
+        Ok(timed) => Ok(timed),
+        Err(error) => Err(cause_by(error.kind())),
+    }
+}
+
+// The handshake.
+fn shake<R>(
+    rt: &R,
+    alloc: Global,
+    request: Request<()>,
+    socket: Timed<R>,
+) -> Result<WebPeer<R>, Cause>
+where
+    R: Clock + RandomSource + Clone + Drop,
+    ensures { IfErr result IsOfPeer }
+{
+    let Some(source) = rt.clone().ok() else {
+        return Err(Cause::Memory);
+    };
+    match client(alloc, source, request, socket) {
+        Ok((socket, response)) => {
+            drop(response);
+            let mut socket = socket;
+            socket.set_config(WebSocketConfig::default().max_message_size(Some(MESSAGE_BYTES)));
+            Ok(WebPeer { socket, alloc })
+        }
+        Err(fault) => {
+            let cause = refusal_of(&fault);
+            drop(fault);
+            Err(cause)
+        }
+    }
+}
+
+// Why there was no handshake.
+fn refusal_of<R: Clock + RandomSource + Drop>(
+    fault: &HandshakeError<ClientHandshake<Timed<R>, RandomKeys<R>>>,
+) -> Cause
+    ensures { IsOfPeer result }
+{
+    match fault {
+        HandshakeError::Interrupted(_) => Cause::Late,
+        HandshakeError::Failure(error) => cause_of(error),
     }
 }

@@ -1,20 +1,21 @@
 //! Listening over one connection after another.
 
-ghost use Rattle.std.specs.Prelude.{OnOk};
+ghost use Rattle.std.specs.Prelude.{◌≡◌, ◌≤◌, ◌-◌, ◌↔◌, IfErr, IfSome, None, OnOk, min};
 ghost use Rattle.std.specs.Io.KnownBytes.{Appends};
 ghost use Rattle.client_socket.specs.Inputs.{again_line};
+ghost use Rattle.client_core.specs.Talks.{IsOfPeer};
+ghost use Rattle.std.specs.Duration.{as_nanos};
+ghost use Rattle.client_socket.specs.Waits.{patience_from};
 
-use crate::calls::HOST;
-use crate::listener::Shown;
-use crate::patience::Patience;
-use crate::reaching::connect;
-use client_core::{Address, Cause, ClientFault, Course, Plan, Step};
+use crate::calls::{HOST, connect};
+use crate::web_peer::{PATIENCE_SECONDS, WebPeer};
+use client_core::{Address, Cause, ClientFault, Course, Listener, Peer, Plan, Step};
 use std::alloc::Global;
-use std::io;
 use std::io::Write;
 use std::net::{Net, TcpStream};
 use std::random::RandomSource;
-use std::time::{Clock, Duration};
+use std::time::{Clock, Duration, Instant};
+use std::{io, thread};
 
 // How many seconds it pauses before it connects again.
 const PAUSE_SECONDS: u64 = 1;
@@ -103,5 +104,144 @@ fn unheard(cause: Cause) -> ClientFault {
     ClientFault {
         step: Step::Message,
         cause,
+    }
+}
+
+/// A peer, where its messages are shown, how many were, and how long none may come.
+#[derive(Drop)]
+pub struct Shown<'a, 'b, R, W> {
+    pub clock: &'a R,
+    pub peer: &'a mut WebPeer<R>,
+    pub writer: &'b mut W,
+    pub patience: &'b mut Patience,
+    pub count: u64,
+}
+
+impl<R: Clock + RandomSource + Drop, W: Write> Peer for Shown<'_, '_, R, W> {
+    fn say(&mut self, frame: &[u8]) -> Result<(), Cause> {
+        self.peer.say(frame)
+    }
+
+    fn hear(&mut self) -> Result<Vec<u8>, Cause> {
+        self.peer.hear()
+    }
+
+    fn renew(&mut self) {
+        self.peer.renew();
+    }
+
+    fn close(&mut self) -> Result<(), Cause> {
+        self.peer.close()
+    }
+}
+
+impl<R: Clock + RandomSource + Drop, W: Write> Listener for Shown<'_, '_, R, W> {
+    fn wait(&mut self) -> Result<Vec<u8>, Cause> {
+        wait_for(self.clock, self.patience, self.peer)
+    }
+
+    fn show(&mut self, text: &[u8]) -> Result<(), Cause> {
+        if self.writer.write_all(text).is_err() || self.writer.flush().is_err() {
+            return Err(Cause::Output);
+        }
+        self.count = self.count.saturating_add(1);
+        self.patience.renew(self.clock);
+        Ok(())
+    }
+}
+
+/// The next bytes of what the peer says, for which it may take its time, as far as patience goes.
+pub fn wait_for<R: Clock + RandomSource + Drop>(
+    clock: &R,
+    patience: &Patience,
+    peer: &mut WebPeer<R>,
+) -> Result<Vec<u8>, Cause>
+    ensures cause { IfErr result IsOfPeer }
+{
+    let most = Duration::from_secs(PATIENCE_SECONDS);
+    let limit = patience.part_of(clock, most)?;
+    peer.begin_for(limit)?;
+    match peer.hear() {
+        Err(Cause::Late) if limit < most => Err(Cause::Quiet),
+        Err(Cause::Late) => Err(Cause::Silent),
+        heard => heard,
+    }
+}
+
+/// Since when no message has come, and for how long it may be so.
+#[derive(Drop)]
+pub struct Patience {
+    since: Instant,
+    limit: Option<Duration>,
+}
+
+impl Patience {
+    /// It begins now, and lasts for so many seconds, or without end.
+    pub fn new<C: Clock>(clock: &C, seconds: Option<u64>) -> Result<Patience, Cause>
+        ensures { IfErr result IsOfPeer }
+    {
+        match Instant::now(clock) {
+            Ok(since) => Ok(Patience {
+                since,
+                limit: seconds.map(Duration::from_secs),
+            }),
+            Err(_) => Err(Cause::System),
+        }
+    }
+
+    /// A message has come: it begins anew. If the system does not tell the time, it goes on.
+    pub fn renew<C: Clock>(&mut self, clock: &C)
+        ensures { self.new.limit ≡ self.old.limit }
+    {
+        let now = match Instant::now(clock) {
+            Ok(now) => Some(now),
+            Err(_) => None,
+        };
+        self.begin_at(now);
+    }
+
+    // It begins at that time, if there is one, and lasts as long as before.
+    fn begin_at(&mut self, now: Option<Instant>)
+        ensures { self.new ≡ patience_from now self.old }
+    {
+        if let Some(now) = now {
+            self.since = now;
+        }
+    }
+
+    /// So long, or what is left if that is less; `Quiet` if nothing is.
+    pub fn part_of<C: Clock>(&self, clock: &C, most: Duration) -> Result<Duration, Cause>
+        ensures { IfErr result IsOfPeer }
+    {
+        let Some(limit) = self.limit else {
+            return Ok(most);
+        };
+        let Ok(passed) = self.since.elapsed(clock) else {
+            return Err(Cause::System);
+        };
+        match left_of(limit, passed, most) {
+            Some(left) => Ok(left),
+            None => Err(Cause::Quiet),
+        }
+    }
+
+    /// Waits for so long, if that is left, else for what is left.
+    pub fn pause<C: Clock>(&self, clock: &C, most: Duration) -> Result<(), Cause>
+        ensures { IfErr result IsOfPeer }
+    {
+        thread::sleep(clock, self.part_of(clock, most)?);
+        Ok(())
+    }
+}
+
+// What is left of a limit once so long has passed, or `most` if that is less; nothing once the limit is reached.
+fn left_of(limit: Duration, passed: Duration, most: Duration) -> Option<Duration>
+    ensures none { result ≡ None ↔ as_nanos limit ≤ as_nanos passed }
+    ensures left { IfSome result (λ left. as_nanos left ≡ min (as_nanos limit - as_nanos passed) (as_nanos most)) }
+{
+    match limit.checked_sub(passed) {
+        Some(left) if left.is_zero() => None,
+        Some(left) => Some(left.min(most)),
+        None => None,
     }
 }

@@ -1,12 +1,11 @@
 //! Moving messages from one place to another, which may be at another server.
 
-ghost use Rattle.std.specs.Prelude.{◌≡◌, ℕ, IfSome, OnOk, true};
-ghost use Rattle.client_core.specs.declared.doubt.Doubt.TheVariants.{Nothing};
+ghost use Rattle.std.specs.Prelude.{◌≡◌, IfSome, OnOk, ℕ, true};
+ghost use Rattle.client_core.specs.declared.fault.Doubt.TheVariants.{Nothing};
 
 use crate::calls::{HOST, open};
 use crate::lines::is_stale;
-use crate::listener::wait_for;
-use crate::patience::Patience;
+use crate::listening::{Patience, wait_for};
 use crate::web_peer::WebPeer;
 use client_core::{
     Address, Cause, ClientFault, Doubt, Errand, Mover, Peer, Route, Saying, Stage, Step, doubt_of,
