@@ -90,6 +90,7 @@ SCRIPTS = [
     Script("tests/program/move.py", light="", waits=True),
     Script("tests/program/handshakes.py", light="", waits=True),
     Script("tests/program/client.py", light="", waits=True),
+    Script("tests/program/client_goes_on.py", light="", waits=True),
     Script("tests/program/kinds.py", light="", waits=True),
     Script("tests/program/pauses.py", light="", waits=True),
     Script("tests/program/full_journal.py", light="", waits=True),

@@ -1,5 +1,5 @@
 """Which version a program is: its own number, and the commit of the checkout. A note on what a program was built from stands behind its own bytes, where
-the system looks for nothing. `--version` prints it (command_line/src/version.rt). So the program that is proved needs no text that changes with each
+the system looks for nothing. `--version` prints it (command_line/src/program.rt). So the program that is proved needs no text that changes with each
 commit.
 """
 

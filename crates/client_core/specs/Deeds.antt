@@ -7,7 +7,7 @@ use Rattle.frame_core.specs.Written.{written}
 use Rattle.script_text.specs.PercentTexts.{encoded}
 use Rattle.client_core.specs.Requests.{ack_frame}
 use Rattle.client_core.specs.Talks.{Said, Shown, Spoken}
-use Rattle.client_core.specs.declared.deeds.Deed.{Deed}
+use Rattle.client_core.specs.declared.listening.Deed.{Deed}
 use Rattle.client_core.specs.declared.plan.Plan.{Plan}
 use Rattle.std.specs.Global.{Global}
 use Rattle.std.specs.Prelude.{Vec}

@@ -1,7 +1,7 @@
 -- What is not known of a message that was to be moved.
 use Rattle.std.specs.Prelude.{Bool, List, [], ℕ, codes, cond}
-use Rattle.client_core.specs.declared.doubt.Doubt.{Doubt}
-use Rattle.client_core.specs.declared.doubt.Doubt.TheVariants.{Nothing, Stays, Uncounted, Twice}
+use Rattle.client_core.specs.declared.fault.Doubt.{Doubt}
+use Rattle.client_core.specs.declared.fault.Doubt.TheVariants.{Nothing, Stays, Uncounted, Twice}
 use Rattle.client_core.specs.declared.fault.Cause.{Cause}
 use Rattle.client_core.specs.declared.fault.Cause.TheVariants.{Error}
 use Rattle.client_core.specs.declared.moving.Stage.{Stage}

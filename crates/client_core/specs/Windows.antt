@@ -1,10 +1,10 @@
 -- Which lines of a stream are under way.
 use Rattle.std.specs.Prelude.{◌≡◌, ◌≤◌, ◌<◌, ◌+◌, ◌⊎◌, ◌==◌, List, [], ◌∷◌, ◌++◌, ℕ, Bool, cond, filter, nat_lt, not}
 use Rattle.std.specs.List.{list_any}
-use Rattle.client_core.specs.declared.window.Input.{Input}
-use Rattle.client_core.specs.declared.window.Input.TheVariants.{AtHand, Awaited, Ended}
-use Rattle.client_core.specs.declared.window.Turn.{Turn}
-use Rattle.client_core.specs.declared.window.Turn.TheVariants.{Send, Hear, End}
+use Rattle.client_core.specs.declared.lines.Input.{Input}
+use Rattle.client_core.specs.declared.lines.Input.TheVariants.{AtHand, Awaited, Ended}
+use Rattle.client_core.specs.declared.lines.Turn.{Turn}
+use Rattle.client_core.specs.declared.lines.Turn.TheVariants.{Send, Hear, End}
 
 -- So many lines were sent, numbered from 1 on as they are sent. Of these the RECEIPTs have not come.
 pub record Lines : Type 0 where

@@ -1,9 +1,18 @@
-//! What a client asks of a connection.
+//! What a client asks of a connection, and where that leads.
 
-ghost use Rattle.std.specs.Prelude.{◌≡◌, ◌∷◌, [], List, Option, None, IfErr, IfOk, OnOk};
+ghost use Rattle.std.specs.Prelude.{◌≡◌, ◌∷◌, [], IfErr, IfOk, List, None, OnOk, Option};
 ghost use Rattle.client_core.specs.Talks.{Adds, Heard, IsOfPeer, Said, Shown, Spoken};
 
 use crate::fault::Cause;
+
+/// Where a server is.
+#[derive(Clone, Copy)]
+pub enum Address<'a> {
+    /// At this port of this machine.
+    Port(u16),
+    /// At this URL, `ws://HOST:PORT/PATH`.
+    Url(&'a str),
+}
 
 /// A connection that carries one STOMP stream each way. A step begins when something is sent, and a peer may end it as `Late`.
 ///

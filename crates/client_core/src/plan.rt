@@ -1,7 +1,13 @@
-//! What a client is to send, and to listen to.
+//! What a client is to send, listen to and move, and how it goes on from connection to connection.
 
 ghost use Rattle.std.specs.Prelude.{◌≡◌};
 ghost use Rattle.client_core.specs.Requests.{is_own, mode_of};
+ghost use Rattle.client_core.specs.Courses.{course_after, course_of, goes_on, is_among};
+
+use crate::fault::{ClientFault, Step};
+use frame_core::Text;
+use std::alloc::{AllocError, Global};
+use std::marker::Model;
 
 /// A message that is to be sent.
 #[derive(Clone, Copy)]
@@ -80,4 +86,111 @@ impl Plan<'_> {
             "client-individual"
         }
     }
+}
+
+/// How far one who listens is, over all its connections.
+#[derive(Clone, Copy)]
+pub struct Course {
+    /// How many messages are to come.
+    pub left: u64,
+    /// Whether it had a session.
+    pub has_listened: bool,
+    /// Whether it ends once its connection does.
+    pub is_once: bool,
+}
+
+impl Course {
+    /// Before the first connection.
+    pub fn new(plan: &Plan<'_>) -> Course
+        ensures { result ≡ course_of plan.now }
+    {
+        Course {
+            left: plan.count,
+            has_listened: false,
+            is_once: plan.is_once,
+        }
+    }
+
+    /// After a connection that has shown `shown` messages, and whose conversation went wrong at this step.
+    pub fn after(self, shown: u64, step: Step) -> Course
+        ensures { result ≡ course_after shown step self }
+    {
+        Course {
+            left: self.left.saturating_sub(shown),
+            has_listened: self.has_listened || step.is_of_session(),
+            is_once: self.is_once,
+        }
+    }
+
+    /// Whether it connects again after this fault: it had a session, the server is gone, and messages are to come.
+    pub fn goes_on(&self, fault: &ClientFault) -> bool
+        ensures { result ≡ goes_on fault.now self.now }
+    {
+        !self.is_once
+            && self.has_listened
+            && self.left > 0
+            && fault.step.is_before_message()
+            && fault.is_of_gone_server()
+    }
+}
+
+// How many messages of a subscription may be unacknowledged (docs/PROTOCOL.md, "Limits").
+const MOST_UNACKNOWLEDGED: usize = 16;
+
+/// The `message-id`s of the messages that were printed last. After a connection is lost no others come again, since a server hands out no
+/// more before some are acknowledged.
+#[derive(Drop)]
+pub struct Printed {
+    last: Vec<Text>,
+}
+
+impl Model for Printed {
+    ghost use Rattle.std.specs.Prelude.{List, ℕ};
+
+    ghost Value = { List (List ℕ) };
+
+    ghost view = { λ a. a.last.items };
+}
+
+impl Printed {
+    ghost use Rattle.std.specs.Prelude.{◌≡◌, [], IfOk, OnErr, OnOk, not};
+    ghost use Rattle.client_core.specs.Courses.{is_among, printed_after};
+
+    /// None was printed. No memory is taken.
+    pub fn new(alloc: Global) -> Printed
+        ensures { result ≡ [] }
+    {
+        Printed {
+            last: Vec::new(alloc),
+        }
+    }
+
+    /// Notes that a message is printed, and answers whether it counts: it was not among the last ones. If memory is refused, nothing
+    /// changes.
+    pub fn note(&mut self, id: Text) -> Result<bool, AllocError>
+        ensures counts { IfOk result (λ counts. counts ≡ not (is_among id self.old)) }
+        ensures noted { OnOk result (self.new ≡ printed_after id self.old) }
+        ensures same { OnErr result (self.new ≡ self.old) }
+    {
+        if is_among(self.last.as_slice(), id.as_str()) {
+            drop(id);
+            return Ok(false);
+        }
+        self.last.push(id)?;
+        if self.last.len() > MOST_UNACKNOWLEDGED {
+            drop(self.last.remove(0));
+        }
+        Ok(true)
+    }
+}
+
+fn is_among(ids: &[Text], id: &str) -> bool
+    ensures { result ≡ is_among id.now ids.now }
+{
+    for one in ids {
+        if one.as_str() == id {
+            return true;
+        }
+    }
+    false
 }

@@ -4,7 +4,7 @@ use Rattle.std.specs.Duration.{as_nanos}
 use Rattle.std.specs.declared.time.Duration.{Duration}
 use Rattle.std.specs.declared.time.Instant.{Instant}
 use Rattle.client_socket.specs.declared.lines.TheConstants.{IDLE_SECONDS}
-use Rattle.client_socket.specs.declared.patience.Patience.{Patience}
+use Rattle.client_socket.specs.declared.listening.Patience.{Patience}
 
 -- patience that begins at that time, or went on if there is none
 abbrev pub patience_from : Option Instant → Patience → Patience

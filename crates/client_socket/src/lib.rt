@@ -3,14 +3,9 @@
 #![tactic(auto)]
 
 mod calls;
-mod causes;
 mod lines;
-mod listener;
 mod listening;
 mod moving;
-mod patience;
-mod reaching;
-mod timed;
 mod web_peer;
 
 pub use calls::{forget, ping, send};

@@ -1,7 +1,7 @@
 -- What texts don't mean.
 use Rattle.std.proofs.Common.{◌≡◌, ◌∙◌, ◌<◌, ◌≤◌, ◌^◌, List, [], ◌∷◌, ℕ, None, Option, Some, ap, arith, false, length, subst, sym}
-use Rattle.client_core.specs.declared.address.Address.{Address}
-use Rattle.client_core.specs.declared.address.Address.TheVariants.{Port, Url}
+use Rattle.client_core.specs.declared.peer.Address.{Address}
+use Rattle.client_core.specs.declared.peer.Address.TheVariants.{Port, Url}
 use Rattle.command_line.specs.Addresses.{IsAddress, is_url}
 use Rattle.command_line.specs.CommandLines.{AskForMemory, AskForNew}
 use Rattle.command_line.specs.Numbers.{IsNumber}

@@ -3,7 +3,7 @@ use Rattle.std.proofs.Common.{◌≡◌, ◌≢◌, ◌∙◌, ◌<◌, ◌≤�
 use Rattle.command_line.specs.CommandLines.{AreAddress, AreFileAndNumber, AreFileAndSize, AreFilesAndSize, AskFor, AskForNothing, AskNothingWith, AskWith, Words, given_by}
 use Rattle.command_line.specs.Addresses.{IsAddress}
 use Rattle.command_line.specs.Sizes.{IsSize}
-use Rattle.client_core.specs.declared.address.Address.{Address}
+use Rattle.client_core.specs.declared.peer.Address.{Address}
 use Rattle.command_line.specs.declared.parsing.Subcommand.{Subcommand}
 use Rattle.command_line.specs.declared.parsing.Subcommand.TheVariants.{Script, Version, Help, Ping, Format, Show, Held, Sessions, Copy, Serve}
 

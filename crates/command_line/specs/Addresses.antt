@@ -1,8 +1,8 @@
 -- Where a server is, as words say it.
 use Rattle.std.specs.Prelude.{◌≡◌, ◌<◌, ◌^◌, List, [], ◌∷◌, ℕ, Bool, ◌==◌, ◌&&◌, ◌||◌, codes, drop, if◌then◌else◌, length, nat_eq, nat_lt, not, true}
 use Rattle.std.specs.List.{list_all, starts_with}
-use Rattle.client_core.specs.declared.address.Address.{Address}
-use Rattle.client_core.specs.declared.address.Address.TheVariants.{Port, Url}
+use Rattle.client_core.specs.declared.peer.Address.{Address}
+use Rattle.client_core.specs.declared.peer.Address.TheVariants.{Port, Url}
 use Rattle.command_line.specs.Numbers.{IsNumber}
 use Rattle.command_line.specs.Origins.{is_host_byte}
 

@@ -6,9 +6,9 @@ use Rattle.std.specs.Fmt.{decimal}
 use Rattle.client_core.specs.Doubts.{doubt_text}
 use Rattle.client_core.specs.Requests.{is_own, is_unnamed}
 use Rattle.client_core.specs.Texts.{client_text, is_unknown}
-use Rattle.client_core.specs.declared.address.Address.{Address}
+use Rattle.client_core.specs.declared.peer.Address.{Address}
 use Rattle.client_core.specs.declared.fault.ClientFault.{ClientFault}
-use Rattle.client_core.specs.declared.doubt.Doubt.{Doubt}
+use Rattle.client_core.specs.declared.fault.Doubt.{Doubt}
 use Rattle.client_core.specs.declared.plan.Errand.{Errand}
 use Rattle.client_core.specs.declared.plan.Plan.{Plan}
 use Rattle.command_line.specs.Addresses.{IsAddress}

@@ -1,16 +1,16 @@
 -- What the words of a command line ask for.
 use Rattle.std.specs.Prelude.{◌≡◌, ◌<◌, ◌≤◌, ◌^◌, List, [], ◌∷◌, ◌++◌, ◌||◌, ℕ, Bool, None, Option, Some, true, false, bytes_eq, codes, cond, drop, map, nat_eq}
 use Rattle.std.specs.List.{list_all, starts_with}
-use Rattle.client_core.specs.declared.address.Address.{Address}
+use Rattle.client_core.specs.declared.peer.Address.{Address}
 use Rattle.command_line.specs.Addresses.{IsAddress}
 use Rattle.command_line.specs.Numbers.{IsNumber}
 use Rattle.command_line.specs.Origins.{is_origin}
 use Rattle.command_line.specs.Sizes.{IsSize}
 use Rattle.command_line.specs.declared.parsing.Subcommand.{Subcommand}
 use Rattle.command_line.specs.declared.parsing.Subcommand.TheVariants.{Script, Version, Help, Ping, Format, Show, Held, Sessions, Copy, Serve}
-use Rattle.command_line.specs.declared.given.Given.{Given}
-use Rattle.command_line.specs.declared.given.Place.{Place}
-use Rattle.command_line.specs.declared.given.Place.TheVariants.{Free, Origin, Threads, Memory, Fresh, Behind}
+use Rattle.command_line.specs.declared.parsing.Given.{Given}
+use Rattle.command_line.specs.declared.parsing.Place.{Place}
+use Rattle.command_line.specs.declared.parsing.Place.TheVariants.{Free, Origin, Threads, Memory, Fresh, Behind}
 
 -- the words are the program's name and this one
 abbrev pub AskForAlone : List ℕ → List (List ℕ) → Type 0

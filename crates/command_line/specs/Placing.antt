@@ -1,8 +1,8 @@
 -- What is done about a file that stands where one is to be made.
 use Rattle.std.specs.Prelude.{◌==◌, List, ℕ, Bool, true, false, ◌++◌, codes, cond}
 use Rattle.std.specs.List.{list_all}
-use Rattle.command_line.specs.declared.placing.Course.{Course}
-use Rattle.command_line.specs.declared.placing.Course.TheVariants.{Clear, Wait, Keep}
+use Rattle.command_line.specs.declared.making.Course.{Course}
+use Rattle.command_line.specs.declared.making.Course.TheVariants.{Clear, Wait, Keep}
 
 -- a file is made under this name
 abbrev pub draft_name : List ℕ → List ℕ

@@ -5,12 +5,11 @@ ghost use Rattle.std.specs.Io.KnownBytes.{Appends};
 ghost use Rattle.broker_core.specs.States.{empty_state};
 ghost use Rattle.recover_core.specs.Standing.{Stands};
 ghost use Rattle.command_line.specs.CommandLines.{AsksForScript};
-ghost use Rattle.command_line.specs.Failures.{EndsByFault, FailsBy, Finishes, RunsToEnd, ShowsAs, ShowsHeldAs, ShowsSessionsAs, StopsBy, IsBeforehand, IsOfFile, IsOfScript, IsRefusal, Tells, WritesText, status_of, version_line};
+ghost use Rattle.command_line.specs.Failures.{EndsByFault, FailsBy, Finishes, IsBeforehand, IsOfFile, IsOfScript, IsRefusal, IsTold, RunsToEnd, ShowsAs, ShowsHeldAs, ShowsSessionsAs, StopsBy, Tells, WritesText, file_text, line_of, server_text, status_of, unserved_text, version_line};
+ghost use Rattle.command_line.specs.Versions.{IsNoteOf, WritesVersion};
 
 use crate::making::{copy_journal, make_journal};
-use crate::misreading::{Misread, failure_of};
-use crate::parsing::{Refused, Subcommand, subcommand_of};
-use crate::telling::end_by;
+use crate::parsing::{Misread, Refused, Subcommand, failure_of, subcommand_of};
 use crate::usage::matches_of;
 use crate::viewing::FileView;
 use crate::words::WordKind;
@@ -19,7 +18,7 @@ use clap::error::ErrorKind;
 use client_core::{Cause, ClientFault, Step};
 use disk_core::{MemDisk, OpenError};
 use engine_core::{ScriptFault, run_script};
-use event_log::ServeFault;
+use event_log::{ServeFault, Unopened};
 use journal_files::{
     CopyFault, ShowFault, show, show_held, show_held_object, show_object, show_sessions,
     show_sessions_object,
@@ -440,4 +439,127 @@ pub fn refusal<'a, S: AsStr>(words: &'a [S], error: clap::Error) -> Failure<'a>
 
 fn has_port_option<S: AsStr>(words: &[S]) -> bool {
     words.iter().any(|word| word.as_str() == "--port" || word.as_str().starts_with("--port="))
+}
+
+/// Tells a failure, and how the program ends by it. The text about the command line, or one line with the fault, is written to
+/// `errors`.
+pub fn end_by<E: Write>(failure: &Failure<'_>, errors: &mut E) -> Ended
+    ensures status { result.status ≡ status_of failure.now }
+    ensures told { OnOk result.told (IsTold failure.now (E.contents errors.old) (E.contents errors.new)) }
+{
+    let told = tell(failure, errors);
+    Ended {
+        status: failure.status(),
+        told,
+    }
+}
+
+// Tells the user. The error is the writer's.
+fn tell<E: Write>(failure: &Failure<'_>, errors: &mut E) -> io::Result<()>
+    ensures { OnOk result (IsTold failure.now (E.contents errors.old) (E.contents errors.new)) }
+{
+    match failure {
+        Failure::CommandLine(error) => write!(errors, "{error}"),
+        Failure::Word(kind, word) => writeln!(errors, "stompd: '{word}': {}", kind.text()),
+        Failure::Script(fault) => writeln!(errors, "stompd: {fault}"),
+        Failure::Format(fault) => writeln!(errors, "stompd: {fault}"),
+        Failure::File(file, fault) => tell_file(file, fault, errors),
+        Failure::Server(file, port, fault) => tell_server(file, *port, fault, errors),
+        Failure::Client(fault) => writeln!(errors, "stompd: {fault}"),
+        Failure::Input(fault) => writeln!(errors, "stompd: {}", fault.text()),
+        Failure::Output => writeln!(errors, "stompd: input or output failed"),
+    }
+}
+
+// Tells why a journal file was not made, or not shown.
+fn tell_file<E: Write>(file: &str, fault: &FileFault, errors: &mut E) -> io::Result<()>
+    ensures { OnOk result (Appends (E.contents errors.old) (E.contents errors.new) (line_of (file_text file.now fault.now))) }
+{
+    match fault {
+        FileFault::Open(error) => writeln!(
+            errors,
+            "stompd: cannot open: {file}: {}",
+            Unopened::of(error).text()
+        ),
+        FileFault::NoFolder => writeln!(
+            errors,
+            "stompd: cannot open: {file}: there is no such folder"
+        ),
+        FileFault::NoSpace => writeln!(errors, "stompd: no space left for the file"),
+        FileFault::BeingMade => writeln!(
+            errors,
+            "stompd: cannot open: {file}.new: it is locked, since another stompd makes the file"
+        ),
+        FileFault::Foreign => writeln!(
+            errors,
+            "stompd: cannot open: {file}.new: it is there, and no unfinished journal; rename or remove it"
+        ),
+        FileFault::NoLinks => writeln!(
+            errors,
+            "stompd: cannot open: {file}: there are no hard links here; make it elsewhere, and move it"
+        ),
+        FileFault::Format(fault) => writeln!(errors, "stompd: {fault}"),
+        FileFault::Show(fault) => writeln!(errors, "stompd: {fault}"),
+        FileFault::Copy(fault) => writeln!(errors, "stompd: {fault}"),
+    }
+}
+
+// Tells why a server was not started, or has ended.
+fn tell_server<E: Write>(
+    file: &str,
+    port: u16,
+    fault: &ServeFault,
+    errors: &mut E,
+) -> io::Result<()>
+    ensures { OnOk result (Appends (E.contents errors.old) (E.contents errors.new) (line_of (server_text file.now port fault.now))) }
+{
+    match fault {
+        ServeFault::File(error) => tell_unserved(file, Unopened::of(error), errors),
+        ServeFault::Port(why) => writeln!(
+            errors,
+            "stompd: cannot open: port {port}: {}",
+            why.text()
+        ),
+        _ => writeln!(errors, "stompd: {fault}"),
+    }
+}
+
+// Tells why there is no journal to serve. If its file is missing, the command is named that makes one.
+fn tell_unserved<E: Write>(file: &str, why: Unopened, errors: &mut E) -> io::Result<()>
+    ensures { OnOk result (Appends (E.contents errors.old) (E.contents errors.new) (line_of (unserved_text file.now why))) }
+{
+    match why {
+        Unopened::Missing => writeln!(
+            errors,
+            "stompd: cannot open: {file}: there is no such file; --new BYTES makes one"
+        ),
+        why => writeln!(errors, "stompd: cannot open: {file}: {}", why.text()),
+    }
+}
+
+/// How many bytes stand behind the program's own, if it has a note.
+pub const NOTE_BYTES: i64 = 64;
+
+/// What a note begins with.
+const MARK: &[u8] = b"stompd-built:";
+
+/// Writes the program's number, and the note on what it was built from, if these last bytes of the program have one.
+pub fn write_version<W: Write>(last: &[u8], writer: &mut W) -> io::Result<()>
+    ensures { OnOk result (WritesVersion last.now (W.contents writer.old) (W.contents writer.new)) }
+{
+    writer.write_all(b"stompd 0.2.0")?;
+    writer.write_all(note_of(last))?;
+    writer.write_all(b"\n")
+}
+
+// The note that these bytes have, without the blanks behind it; nothing if they have none.
+fn note_of(last: &[u8]) -> &[u8]
+    ensures { IsNoteOf last.now result.now }
+{
+    if last.starts_with(MARK) {
+        let (_, note) = last.split_at(MARK.len());
+        note.trim_ascii_end()
+    } else {
+        &last[..0]
+    }
 }

@@ -26,10 +26,10 @@ enum Row<'a> {
     Header,
     Durable,
     Origin,
+    // It is found before clap looks; here the help names it.
+    Version,
+    Help,
 }
-
-// It is found before clap looks; here the help names it.
-const VERSION: Row<'static> = Row::Flag("version", "Prints the version");
 
 // What several commands have.
 const FILE: Row<'static> = Row::Argument("FILE", "The journal's file");
@@ -89,10 +89,22 @@ fn arg_of<'a>(alloc: Global, row: Row<'a>) -> Arg<'a> {
                 "Serves pages of this origin, as http://localhost:8000, and of no other that is not named too",
             )
             .action(ArgAction::Append),
+        Row::Version => Arg::new(alloc, "version")
+            .short('V')
+            .long("version")
+            .help("Prints the version")
+            .action(ArgAction::SetTrue),
+        Row::Help => Arg::new(alloc, "help")
+            .short('h')
+            .long("help")
+            .help(
+                "Prints this to standard error, with status 2; stompd help prints it to standard output, with 0",
+            )
+            .action(ArgAction::Help),
     }
 }
 
-// The command with these arguments and options.
+// The command with these arguments and options, and its help.
 fn with_rows<'a>(
     alloc: Global,
     command: Command<'a>,
@@ -102,7 +114,9 @@ fn with_rows<'a>(
     for row in rows {
         command = command.arg(arg_of(alloc, *row))?;
     }
-    Ok(command)
+    command
+        .disable_help_flag(true)
+        .arg(arg_of(alloc, Row::Help))
 }
 
 // Adds a command with this name, help, arguments and options.
@@ -123,9 +137,8 @@ fn program_command<'a>(alloc: Global) -> Result<Command<'a>, AllocError> {
     add_all(alloc, &mut commands)?;
     let command = Command::new(alloc, "stompd")
         .about("A STOMP 1.2 broker over WebSocket, whose receipts say what is on disk")
-        .subcommand_required(true)
-        .arg(arg_of(alloc, VERSION))?;
-    command.subcommands(commands)
+        .subcommand_required(true);
+    with_rows(alloc, command, &[Row::Version])?.subcommands(commands)
 }
 
 fn add_all<'a>(alloc: Global, commands: &mut Vec<Command<'a>>) -> Result<(), AllocError> {

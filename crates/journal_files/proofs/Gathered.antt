@@ -2,7 +2,7 @@
 use Rattle.std.proofs.Common.{◌≡◌, ◌∙◌, ◌++◌, List, [], ℕ, OnOk, Option, Result, Ok, Err, ap, append_assoc, map, refl, subst}
 use Rattle.std.specs.List.Sorted.{IsPermutation}
 use Rattle.broker_state.specs.States.{State}
-use Rattle.journal_files.specs.declared.lots.Lot.{Lot}
+use Rattle.journal_files.specs.declared.held.Lot.{Lot}
 use Rattle.journal_files.specs.Held.{AreLotsOf, AreMostFirst, ShowsHeld, ShowsHeldOf, gone_from, held_in, names_waiting, queues_waiting, waits_of}
 
 module _ {A E : Type 0} where

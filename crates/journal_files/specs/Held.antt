@@ -12,7 +12,7 @@ use Rattle.broker_state.specs.States.{State, bytes, held_bytes, held_messages}
 use Rattle.broker_state.specs.Operations.{restarted}
 use Rattle.broker_state.specs.Waiting.{line_at}
 use Rattle.recover_core.specs.Standing.{Stands}
-use Rattle.journal_files.specs.declared.lots.Lot.{Lot}
+use Rattle.journal_files.specs.declared.held.Lot.{Lot}
 
 -- What waits in one place: how many messages, how many bytes, and what the place is called.
 pub record Waits : Type 0 where
@@ -55,8 +55,8 @@ pub record AreLotsOf (s : State) (lots : List Lot) : Type 0 where
   pub first : AreMostFirst lots
 
 -- one line of a lot
-abbrev pub line_of : Lot → List ℕ
-line_of lot = decimal lot.messages ++ (codes " " ++ (decimal lot.bytes ++ (codes " " ++ (string_bytes lot.place ++ codes "\n"))))
+abbrev pub lot_line : Lot → List ℕ
+lot_line lot = decimal lot.messages ++ (codes " " ++ (decimal lot.bytes ++ (codes " " ++ (string_bytes lot.place ++ codes "\n"))))
 
 -- the totals with their limits
 abbrev pub totals_text : ℕ → ℕ → List ℕ
@@ -68,7 +68,7 @@ topics_text messages held = decimal messages ++ (codes " " ++ (decimal held ++ c
 
 -- what is held, what of it goes with the sessions, and what waits in each place
 abbrev pub held_text : Held → Held → List Lot → List ℕ
-held_text held gone lots = totals_text held.messages held.bytes ++ (flat_map line_of lots ++ topics_text gone.messages gone.bytes)
+held_text held gone lots = totals_text held.messages held.bytes ++ (flat_map lot_line lots ++ topics_text gone.messages gone.bytes)
 
 -- what a state holds
 abbrev pub held_in : State → Held

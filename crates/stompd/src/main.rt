@@ -138,11 +138,11 @@ fn run_other(rt: &HostRuntime, words: &[String]) -> u8 {
     }
 }
 
-/// Whether the words ask for the program's version.
+/// Whether the words ask for the program's version, by `--version` or `-V`.
 fn asks_for_version(alloc: Global, words: &[String]) -> bool {
-    match subcommand_of(alloc, words) {
-        Ok(Subcommand::Version) => true,
-        _ => false,
+    match words {
+        [_, word] if word.as_str() == "-V" => true,
+        _ => matches!(subcommand_of(alloc, words), Ok(Subcommand::Version)),
     }
 }
 

@@ -1,8 +1,8 @@
 use Rattle.std.proofs.Common.{take}
 use Rattle.std.specs.Io.KnownBytes.{Appends}
 use Rattle.std.specs.List.{flat_map}
-use Rattle.journal_files.specs.Held.{line_of}
+use Rattle.journal_files.specs.Held.{lot_line}
 use Rattle.journal_files.proofs.held.write_lots.Given as goal
 
 abbrev pub invariant-loop-lot : goal.invariant-loop-lot
-invariant-loop-lot g l = Appends (g.W.Write.contents l.fn.writer) (g.W.Write.contents l.writer) (flat_map line_of (take l.lot-index l.lots))
+invariant-loop-lot g l = Appends (g.W.Write.contents l.fn.writer) (g.W.Write.contents l.writer) (flat_map lot_line (take l.lot-index l.lots))

@@ -1,5 +1,0 @@
-use Rattle.client_core.specs.Talks.{IsOfPeer}
-use Rattle.client_socket.proofs.reaching.socket_at.Given as goal
-
-abbrev pub invariant-loop-place : goal.invariant-loop-place
-invariant-loop-place g l = IsOfPeer l.cause
