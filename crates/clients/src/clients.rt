@@ -6,7 +6,7 @@ ghost use Rattle.clients.specs.declared.wakers.TheConstants.{CLIENTS};
 ghost use Rattle.clients.specs.declared.timers.TheConstants.{NEVER};
 ghost use Rattle.clients.specs.Schedules.{begun, is_greeted, is_seated, ComesDue, IsWaitedFor, LooksBy, OthersStay, Parts, client_at, has_more, heard_greeting, is_short, moment_of, parts_now, state_at, waited_by, woken_short};
 ghost use Rattle.clients.specs.Deadlines.{fresh};
-ghost use Rattle.clients.specs.Timers.{IsDue, IsNotDue, looked_through};
+ghost use Rattle.clients.specs.Timers.{IsDue as IsTimerDue, IsNotDue, looked_through};
 ghost use Rattle.clients.specs.Outlooks.{awaits_mark, is_ready, longest_wait};
 
 use crate::deadlines::{Deadlines, Due, Opening};
@@ -225,7 +225,7 @@ impl Clients {
 
     /// A client whose moment to be looked at has come. It has none until `come_due` sets one.
     pub fn take_due(&mut self, now: u64) -> Option<usize>
-        ensures due { IfSome result (λ client. IsDue now client self.old.timers.all × (self.new ≡ record self.old { timers = record self.old.timers { all = slice_set self.old.timers.all client NEVER } })) }
+        ensures due { IfSome result (λ client. IsTimerDue now client self.old.timers.all × (self.new ≡ record self.old { timers = record self.old.timers { all = slice_set self.old.timers.all client NEVER } })) }
         ensures none { IsNone result → IsNotDue now self.old.timers.all × (self.new ≡ record self.old { timers = looked_through now self.old.timers }) }
     {
         self.timers.take_due(now)
