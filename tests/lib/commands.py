@@ -17,10 +17,14 @@ def told(text):
 UNWRITTEN = told("input or output failed")
 
 
+def words_of(program, words):
+    return [program, *(it if isinstance(it, bytes) else str(it) for it in words)]
+
+
 def run(program, *words, given=b"", sink=None, **how):
     """The status, what was printed as bytes, and what was told. With a sink it prints into that file."""
     with open(sink, "wb") if sink else contextlib.nullcontext(subprocess.PIPE) as output:
-        done = subprocess.run([program, *map(str, words)], input=given, stdout=output, stderr=subprocess.PIPE, timeout=120, **how)
+        done = subprocess.run(words_of(program, words), input=given, stdout=output, stderr=subprocess.PIPE, timeout=120, **how)
     return done.returncode, done.stdout or b"", done.stderr.decode()
 
 
@@ -33,7 +37,7 @@ def run_for_text(program, *words, **how):
 @contextlib.contextmanager
 def started(program, *words, stdin=subprocess.DEVNULL, **how):
     """The program, running; it is killed at the end."""
-    process = subprocess.Popen([program, *map(str, words)], stdin=stdin, stdout=subprocess.PIPE, stderr=subprocess.PIPE, **how)
+    process = subprocess.Popen(words_of(program, words), stdin=stdin, stdout=subprocess.PIPE, stderr=subprocess.PIPE, **how)
     try:
         yield process
     finally:

@@ -5,13 +5,13 @@ output and standard error with what docs/CLI.md says.
     python3 tests/program/statuses.py [PROGRAM]
 """
 
+import contextlib
 import errno
 import fcntl
 import json
 import os
 import pathlib
 import resource
-import select
 import socket
 import struct
 import subprocess
@@ -20,15 +20,12 @@ import tempfile
 import time
 
 from lib.old_journal import area, journal, open_operation, record, send_operation, subscribe_operation
-from lib.scenario import BriefChecks, free_port, program_of
+from lib.commands import FULL, UNWRITTEN, run_for_text, told
+from lib.scenario import BriefChecks, Broker, free_port, program_of
 
 # What may be written: just this text, some text that is not ours to say, or nothing. Of None nothing is looked at.
 SOME = object()
 NOTHING = ""
-
-
-def told(text):
-    return f"stompd: {text}\n"
 
 
 def unopened(name, why):
@@ -69,21 +66,26 @@ LIMITED = 3_000_000
 
 
 class Checks(BriefChecks):
-    def run(self, words, status, output, errors, given=b"", sink=subprocess.PIPE, **how):
+    def run(self, words, status, output, errors, given=b"", **how):
         """Runs the program, in a folder or under limits if these are given, and compares its status and its two outputs."""
-        done = subprocess.run([self.program, *words], input=given, stdout=sink, stderr=subprocess.PIPE, timeout=60, **how)
-        wrote, said = (text.decode(errors="replace") if text else "" for text in (done.stdout, done.stderr))
+        ended, wrote, said = run_for_text(self.program, *words, given=given, **how)
         fits = all(bool(seen) if wanted is SOME else wanted is None or seen == wanted for seen, wanted in ((wrote, output), (said, errors)))
-        self.check(f"{words} at {given[-40:]}", fits and done.returncode == status, (done.returncode, wrote, said))
+        self.check(f"{words} at {given[-40:]}", fits and ended == status, (ended, wrote, said))
+
+    @contextlib.contextmanager
+    def serving(self, journal, port, *more):
+        server = Broker(self.program, journal, port=int(port), more=more)
+        try:
+            yield server
+        finally:
+            server.kill()
 
 
 def scripts(checks):
     """What a script prints is compared by tests/scripts.py."""
     checks.run(["script"], 0, NOTHING, NOTHING)
     checks.run(["script"], 1, NOTHING, told("line 1 not understood"), b"0 " + b"%0A" * 400_000 + b"\n")
-    with open("/dev/full", "wb") as full:
-        checks.run(["script"], 1, NOTHING, told("input or output failed"), b"0 CONNECT%0Aaccept-version:1.2%0A%0A%00\nflush\n", full)
-        checks.run(["--version"], 1, NOTHING, told("input or output failed"), sink=full)
+    checks.run(["script"], 1, NOTHING, UNWRITTEN, b"0 CONNECT%0Aaccept-version:1.2%0A%0A%00\nflush\n", sink=FULL)
 
 
 def word(length):
@@ -93,19 +95,19 @@ def word(length):
 
 def formats(checks, folder):
     file, other = str(folder / "journal"), str(folder / "other")
-    checks.run(["format", file, str(SMALLEST)], 0, NOTHING, NOTHING)
+    checks.run(["format", file, SMALLEST], 0, NOTHING, NOTHING)
     made = pathlib.Path(file).read_bytes()
     front = b"STOMPJ02" + struct.pack(">Q", 4_096) + bytes(16) + word(32) + bytes(33)
     checks.check("the bytes of an empty journal", made == front + bytes(SMALLEST - len(front)), made[:80])
     checks.check("only its owner may read a journal", os.stat(file).st_mode & 0o777 == 0o600, oct(os.stat(file).st_mode))
     # After -- no word is an option, and a port or size may have leading zeros.
-    for again in ([file, str(SMALLEST)], ["--", file, str(SMALLEST)], [file, "--", str(SMALLEST)], [file, str(SMALLEST), "--"], [file, "18446744073709551615"]):
+    for again in ([file, SMALLEST], ["--", file, SMALLEST], [file, "--", SMALLEST], [file, SMALLEST, "--"], [file, "18446744073709551615"]):
         checks.run(["format", *again], 1, NOTHING, unopened(file, "it is there already"))
-    for few in (str(SMALLEST - 1), "31", "0"):
+    for few in (SMALLEST - 1, "31", "0"):
         checks.run(["format", other, few], 1, NOTHING, told("J8 disk too small"))
         checks.run(["format", file, few], 1, NOTHING, told("J8 disk too small"))
     deep = str(folder / "none" / "journal")
-    checks.run(["format", deep, str(SMALLEST)], 1, NOTHING, unopened(deep, "there is no such folder"))
+    checks.run(["format", deep, SMALLEST], 1, NOTHING, unopened(deep, "there is no such folder"))
     for number in ("8224x", "+8224", "0x2020", "8 224", "", "18446744073709551616", "99999999999999999999", "K", "kb", "MiB", "8 K", "8K ", "8X", "1T", "16777216T", "1KK", "1MMB", "1MBB", "1Mi", "1B", "1iB", "K1", "1K1", "+9K", "9\u212a",
                    "17179869184G", "17179869184gib", "17592186044416MB", "18014398509481984KiB"):
         checks.run(["format", other, number], 2, NOTHING, bad(number, SIZES))
@@ -124,11 +126,11 @@ def formats(checks, folder):
     zeros, odd = str(folder / "zeros"), str(folder / "odd")
     checks.run(["format", zeros, f"000{SMALLEST}"], 0, NOTHING, NOTHING)
     checks.check("leading zeros count for nothing", pathlib.Path(zeros).read_bytes() == made)
-    checks.run(["format", odd, str(SMALLEST + 1)], 0, NOTHING, NOTHING)
+    checks.run(["format", odd, SMALLEST + 1], 0, NOTHING, NOTHING)
     sparse, after = str(folder / "sparse"), str(folder / "--sparse")
-    checks.run(["format", "--sparse", sparse, str(SMALLEST)], 0, NOTHING, NOTHING)
+    checks.run(["format", "--sparse", sparse, SMALLEST], 0, NOTHING, NOTHING)
     checks.check("a sparse journal has the same bytes", pathlib.Path(sparse).read_bytes() == made)
-    checks.run(["format", "--", after, str(SMALLEST)], 0, NOTHING, NOTHING)
+    checks.run(["format", "--", after, SMALLEST], 0, NOTHING, NOTHING)
     checks.check("after -- a word is a file", pathlib.Path(after).read_bytes() == made)
     checks.check("a byte over is there, and no area has it", pathlib.Path(odd).read_bytes() == made + b"\0")
     for size in (100_000, 100_001):
@@ -161,7 +163,7 @@ def unfinished(checks, folder):
             checks.run(words, 1, NOTHING, is_locked)
         draft.unlink()
     draft.write_bytes(bytes(8) + b"x")
-    checks.run(["format", str(made), str(SMALLEST)], 0, NOTHING, NOTHING)
+    checks.run(["format", str(made), SMALLEST], 0, NOTHING, NOTHING)
     checks.check("what a killed run left is made anew", not draft.exists() and made.read_bytes() == (folder / "zeros").read_bytes())
 
 
@@ -171,14 +173,14 @@ def state(folder):
 
 def places(checks, folder):
     """A bare name is one of the current folder; a file has all of its room, if it isn't sparse; and the system's limit on files is kept."""
-    checks.run(["format", "bare", str(LIMITED)], 0, NOTHING, NOTHING, cwd=folder)
+    checks.run(["format", "bare", LIMITED], 0, NOTHING, NOTHING, cwd=folder)
     checks.same("a bare name is made in the current folder", (folder / "bare").stat().st_size, LIMITED)
     checks.check("with all of its room", (folder / "bare").stat().st_blocks * 512 >= LIMITED)
-    checks.run(["format", "bare", str(LIMITED)], 1, NOTHING, unopened("bare", "it is there already"), cwd=folder)
+    checks.run(["format", "bare", LIMITED], 1, NOTHING, unopened("bare", "it is there already"), cwd=folder)
     # The one that counts, under the one that it may be raised to.
     limit = lambda: resource.setrlimit(resource.RLIMIT_FSIZE, (LIMITED, resource.getrlimit(resource.RLIMIT_FSIZE)[1]))
-    checks.run(["format", "most", str(LIMITED)], 0, NOTHING, NOTHING, cwd=folder, preexec_fn=limit)
-    checks.run(["format", "more", str(LIMITED + 1)], 1, NOTHING, unopened("more", "no file may be so large here"), cwd=folder, preexec_fn=limit)
+    checks.run(["format", "most", LIMITED], 0, NOTHING, NOTHING, cwd=folder, preexec_fn=limit)
+    checks.run(["format", "more", LIMITED + 1], 1, NOTHING, unopened("more", "no file may be so large here"), cwd=folder, preexec_fn=limit)
     checks.same("what was refused has left nothing", sorted(it.name for it in folder.glob("mo*")), ["most"])
 
 
@@ -217,17 +219,16 @@ def shows(checks, folder):
         checks.run(["show", *further], 0, shown, NOTHING)
     checks.run(["show", "--", "--no-such-file"], 1, NOTHING, missing("--no-such-file"))
     for command, wanted in OBJECTS.items():
-        done = subprocess.run([checks.program, command, "--json", str(folder / "journal")], stdin=subprocess.DEVNULL, capture_output=True, text=True, timeout=60)
-        checks.check(f"{command} --json prints one line", (done.returncode, done.stderr, done.stdout.count("\n"), done.stdout[-1:]) == (0, NOTHING, 1, "\n"), done)
-        checks.check(f"{command} --json prints an object", json.loads(done.stdout) == wanted, done.stdout)
-        checks.run([command, str(folder / "journal"), "--json"], 0, done.stdout, NOTHING)
+        status, printed, said = run_for_text(checks.program, command, "--json", folder / "journal")
+        checks.same(f"{command} --json prints one line", (status, said, printed.count("\n"), printed[-1:]), (0, NOTHING, 1, "\n"))
+        checks.same(f"{command} --json prints an object", json.loads(printed), wanted)
+        checks.run([command, str(folder / "journal"), "--json"], 0, printed, NOTHING)
     checks.run(["show", "--", "--json"], 1, NOTHING, missing("--json"))
     # Nobody writes the FIFO: who opened it for reading would wait.
     specials = (str(folder / "fifo"), os.devnull)
     os.mkfifo(specials[0])
     for command in (["show"], ["held"], *([it, "--json"] for it in OBJECTS)):
-        with open("/dev/full", "wb") as full:
-            checks.run([*command, str(folder / "journal")], 1, NOTHING, told("input or output failed"), sink=full)
+        checks.run([*command, str(folder / "journal")], 1, NOTHING, UNWRITTEN, sink=FULL)
         checks.run([*command, str(folder / "missing")], 1, NOTHING, missing(folder / "missing"))
         checks.run([*command, str(folder)], 1, NOTHING, unopened(folder, "it is a directory"))
         for special in specials:
@@ -251,10 +252,10 @@ def too_full(checks, folder):
     operations = [open_operation(None), *138 * [send_operation("/queue/q", [], "x")]]
     path.write_bytes(journal(4_096, area([b"".join(record(0, it) for it in operations)]), b""))
     for further in ([], ["--json"]):
-        done = subprocess.run([checks.program, "serve", path, str(free_port()), *further], stdin=subprocess.DEVNULL, capture_output=True, text=True, timeout=60)
+        status, printed, said = run_for_text(checks.program, "serve", path, free_port(), *further)
         # A slow machine may say how long it takes.
-        lines = [it for it in done.stderr.splitlines() if "opening" not in it]
-        checks.same(f"no start fits into it {further}: status, output and lines", (done.returncode, done.stdout, len(lines)), (1, NOTHING, 2))
+        lines = [it for it in said.splitlines() if "opening" not in it]
+        checks.same(f"no start fits into it {further}: status, output and lines", (status, printed, len(lines)), (1, NOTHING, 2))
         if further:
             checks.same("that is told as an object, and then the fault", [json.loads(it)["kind"] for it in lines], ["too_full", "fault"])
         else:
@@ -301,9 +302,9 @@ def serves(checks, folder):
         for new in (["--new", size], [f"--new={size}"]):
             checks.run(["serve", str(folder / "journal"), port, *new], 2, NOTHING, bad(size, SIZES))
             checks.run(["serve", none, port, *new], 2, NOTHING, bad(size, SIZES))
-    checks.run(["serve", none, port, "--new", str(SMALLEST - 1)], 1, NOTHING, told("J8 disk too small"))
+    checks.run(["serve", none, port, "--new", SMALLEST - 1], 1, NOTHING, told("J8 disk too small"))
     deep = str(folder / "none" / "journal")
-    checks.run(["serve", deep, port, "--new", str(SMALLEST)], 1, NOTHING, unopened(deep, "there is no such folder"))
+    checks.run(["serve", deep, port, "--new", SMALLEST], 1, NOTHING, unopened(deep, "there is no such folder"))
     checks.check("refused sizes make no file", not os.path.exists(none) and not os.path.exists(none + ".new"))
     new_journals(checks, folder, port)
     for origin in ("https://chat.example/", "https://chat.example/room", "chat.example", "http://Chat.example", "http://", "://x", "http//x", ""):
@@ -314,32 +315,21 @@ def serves(checks, folder):
     for number in ("0", "16777215", "18446744073709551616", "15M", "15mib", "16T", "16MM", "m", "+16777216", ""):
         for memory in (["--memory", number], [f"--memory={number}"]):
             checks.run(["serve", str(folder / "journal"), port, *memory], 2, NOTHING, bad(number, MEMORY))
-    serving = subprocess.Popen([checks.program, "serve", str(folder / "journal"), port, "--memory", "16mb"], stdout=subprocess.PIPE, stderr=subprocess.PIPE)
-    try:
-        ready, _, _ = select.select([serving.stdout], [], [], 20)
-        line = serving.stdout.readline().decode() if ready else ""
-        checks.check("serve says where it listens", line == f"listening {port}\n", line)
+    journal = str(folder / "journal")
+    with checks.serving(journal, port, "--memory", "16mb") as serving:
         with socket.create_connection(("127.0.0.1", int(port)), timeout=5):
             pass
-        checks.check("a connection that says nothing ends no server", serving.poll() is None)
+        checks.check("a connection that says nothing ends no server", serving.is_running())
         # All of 127.0.0.0/8 is this machine: a server that listens at every address of it is reached at another one too.
         with socket.socket() as elsewhere:
             checks.check("it listens at 127.0.0.1 alone", elsewhere.connect_ex(("127.0.0.2", int(port))) == errno.ECONNREFUSED)
-        locked = unopened(folder / "journal", "another server has its lock")
-        checks.run(["serve", str(folder / "journal"), str(free_port())], 1, NOTHING, locked)
+        checks.run(["serve", journal, free_port()], 1, NOTHING, unopened(journal, "another server has its lock"))
         # A reader of the journal alone asks for no lock.
-        checks.run(["held", str(folder / "journal")], 0, EMPTY, NOTHING)
-        checks.run(["show", str(folder / "journal")], 0, SOME, NOTHING)
-    finally:
-        serving.kill()
-        serving.wait()
-    again = subprocess.Popen([checks.program, "serve", str(folder / "journal"), port], stdout=subprocess.PIPE, stderr=subprocess.PIPE)
-    try:
-        ready, _, _ = select.select([again.stdout], [], [], 20)
-        checks.check("the lock goes with its server", bool(ready) and again.stdout.readline().decode() == f"listening {port}\n")
-    finally:
-        again.kill()
-        again.wait()
+        checks.run(["held", journal], 0, EMPTY, NOTHING)
+        checks.run(["show", journal], 0, SOME, NOTHING)
+    # The lock goes with its server.
+    with checks.serving(journal, port):
+        pass
 
 
 def new_journals(checks, folder, port):
@@ -347,19 +337,13 @@ def new_journals(checks, folder, port):
     made, zeros = folder / "new journal", folder / "zeros"
     before = zeros.read_bytes()
     for path, size in ((made, "9kib"), (made, "10K"), (zeros, "10K")):
-        serving = subprocess.Popen([checks.program, "serve", str(path), port, "--new", size], stdout=subprocess.PIPE, stderr=subprocess.PIPE)
-        try:
-            ready, _, _ = select.select([serving.stdout], [], [], 20)
-            line = serving.stdout.readline().decode() if ready else ""
-            checks.check(f"serve {path.name} --new {size} says where it listens", line == f"listening {port}\n", line)
-        finally:
-            serving.kill()
-            serving.wait()
+        with checks.serving(path, port, "--new", size):
+            pass
         checks.run(["held", str(path)], 0, EMPTY, NOTHING)
     checks.check("it has the bytes that were asked for first", made.stat().st_size == 9 * 1_024, made.stat().st_size)
     checks.check("and all of its room", made.stat().st_blocks * 512 >= 9 * 1_024, made.stat().st_blocks)
     copy = folder / "a copy"
-    checks.run(["copy", str(made), str(copy), str(LIMITED)], 0, NOTHING, NOTHING)
+    checks.run(["copy", str(made), str(copy), LIMITED], 0, NOTHING, NOTHING)
     checks.check("so has a copy", copy.stat().st_blocks * 512 >= LIMITED, copy.stat().st_blocks)
     checks.check("only its owner may read it", made.stat().st_mode & 0o777 == 0o600, oct(made.stat().st_mode))
     checks.check("a journal that is there keeps its size", zeros.stat().st_size == SMALLEST)
@@ -383,7 +367,7 @@ def words(checks, folder):
     last = pathlib.Path(checks.program).read_bytes()[-64:]
     note = last.removeprefix(b"stompd-built:").decode().rstrip() if last.startswith(b"stompd-built:") else ""
     checks.run(["--version"], 0, f"{VERSION}{note}\n", NOTHING)
-    checks.run(["--version"], 1, NOTHING, told("input or output failed"), sink=open("/dev/full", "wb"))
+    checks.run(["--version"], 1, NOTHING, UNWRITTEN, sink=FULL)
     for bad in (["--version", "show", file], ["held"], ["held", file, "x"], ["format", "--sparse", file]):
         checks.run(bad, 2, NOTHING, None)
     twice = ["serve", file, "80", "--threads", "2", "--threads=3"]
@@ -408,7 +392,7 @@ def words(checks, folder):
             subprocess.run([checks.program, *bad], stdin=given, stdout=subprocess.DEVNULL, stderr=subprocess.DEVNULL, timeout=60)
             read = os.lseek(given.fileno(), 0, os.SEEK_CUR)
         checks.check(f"{bad} read nothing", read == 0, read)
-    for bad in ([b"\xff"], ["script", b"\xff"], ["show", b"\xff"], ["format", b"\xff", str(SMALLEST)], ["serve", b"\xff", "80"]):
+    for bad in ([b"\xff"], ["script", b"\xff"], ["show", b"\xff"], ["format", b"\xff", SMALLEST], ["serve", b"\xff", "80"]):
         checks.run(bad, 2, NOTHING, NOTHING)
 
 
