@@ -314,5 +314,5 @@ def small_journal(program, checks):
 
 if __name__ == "__main__":
     scenario.take_descriptors()
-    PARTS, WAITING = (refused_requests, full, no_descriptors, most_memory, left_out, small_journal), (given_up, half_asked, pinged, waits_for_room)
-    sys.exit(scenario.try_parts(__doc__, PARTS, WAITING))
+    SHORT = (refused_requests, full, no_descriptors, most_memory, left_out, small_journal)
+    sys.exit(scenario.try_parts(__doc__, SHORT, (given_up, half_asked, pinged, waits_for_room)))
