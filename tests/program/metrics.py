@@ -4,12 +4,14 @@
     python3 tests/program/metrics.py
 
 The `doing: ` line is that of docs/RUNNING.md ("What it logs"), with a number for each letter, its object has the members of docs/CLI.md ("Objects of the
-log"), and what is held has the form of "Objects" there; no program is run.
+log"), and what is held has the form of "Objects" there; no program is run. The alerts of deploy/alerts.yml name only metrics that are written; with
+promtool (Debian: prometheus) each is tried with values at which it has to come and with values at which it may not.
 """
 
 import json
 import pathlib
 import re
+import shutil
 import subprocess
 import sys
 import tempfile
@@ -115,6 +117,54 @@ def is_recent(name):
     return name.partition("{")[0] in ("stompd_errors_recent", "stompd_faults_recent", "stompd_journal_area_bytes", "stompd_journal_nearly_full")
 
 
+# By the limits of docs/PROTOCOL.md: metrics, and the alerts of a server that has them for ten minutes. It reported just now, unless its age is given.
+ALERTS = (
+    ({"stompd_up": 1, "stompd_held_messages": 3_276, "stompd_held_bytes": 13_421_772, 'stompd_errors_recent{code="E12"}': 0, 'stompd_errors_recent{code="E5"}': 9, "stompd_journal_nearly_full": 0,
+      'stompd_faults_recent{code="J3"}': 0, "stompd_figures_age_seconds": 60}, []),
+    ({"stompd_up": 0}, ["StompdDown"]),
+    ({}, ["StompdSilent"]),
+    ({"stompd_up": 1, "stompd_figures_age_seconds": 181}, ["StompdSilent"]),
+    ({"stompd_up": 1, 'node_textfile_mtime_seconds{file="/var/lib/prometheus/node-exporter/stompd.prom"}': 0}, ["StompdSilent"]),
+    ({"stompd_up": 1, 'node_textfile_mtime_seconds{file="/var/lib/prometheus/node-exporter/apt.prom"}': 0}, []),
+    ({"stompd_up": 1, "stompd_held_messages": 3_277, "stompd_held_bytes": 0}, ["StompdNearlyFull"]),
+    ({"stompd_up": 1, "stompd_held_messages": 300, "stompd_held_bytes": 13_421_773}, ["StompdNearlyFull"]),
+    ({"stompd_up": 1, "stompd_held_messages": 4_096, "stompd_held_bytes": 0}, ["StompdFull", "StompdNearlyFull"]),
+    ({"stompd_up": 1, "stompd_held_messages": 300, "stompd_held_bytes": 16_777_216 - 73_728}, ["StompdFull", "StompdNearlyFull"]),
+    ({"stompd_up": 1, 'stompd_errors_recent{code="E12"}': 1}, ["StompdRefusesSends"]),
+    ({"stompd_up": 1, "stompd_journal_nearly_full": 1}, ["StompdJournalNearlyFull"]),
+    ({"stompd_up": 1, 'stompd_faults_recent{code="J4"}': 1}, ["StompdJournalFault"]),
+)
+
+
+def alerts(checks, written):
+    """the rules of deploy/alerts.yml, after which metrics they ask and when they come"""
+    rules = TOP / "deploy" / "alerts.yml"
+    text = rules.read_text(encoding="utf-8")
+    names = re.findall(r"- alert: (\w+)", text)
+    checks.same("each alert is tried", sorted(names), sorted({it for _, come in ALERTS for it in come}))
+    asked = set(re.findall(r"\bstompd_\w+", " ".join(re.findall(r"expr: (.*)", text))))
+    checks.same("they ask for metrics that are written", sorted(asked - {it.partition("{")[0] for it in written}), [])
+    if shutil.which("promtool") is None:
+        checks.tell("promtool is not here, so the alerts were not tried (Debian: apt-get install prometheus)")
+        return
+    with tempfile.TemporaryDirectory() as name:
+        bare = pathlib.Path(name) / "rules.yml"
+        # Whether they come is looked at here, not their texts and labels.
+        bare.write_text(re.sub(r"(?m)^ +(labels|annotations): .*\n", "", text), encoding="utf-8")
+        checked = subprocess.run(["promtool", "check", "rules", rules], capture_output=True, text=True)
+        checks.check("promtool takes them", checked.returncode == 0, checked.stdout + checked.stderr)
+        for metrics, come in ALERTS:
+            series = [{"series": it, "values": f"{value}x10"} for it, value in metrics.items()]
+            # An alert has the labels of the metric that it comes from, if that has some.
+            labels = dict(re.findall(r'(\w+)="([^"]*)"', "".join(metrics)))
+            wanted = [{"eval_time": "10m", "alertname": it, "exp_alerts": [{"exp_labels": labels}] if it in come else []} for it in names]
+            file = pathlib.Path(name) / "tests.yml"
+            # JSON is YAML.
+            file.write_text(json.dumps({"rule_files": [str(bare)], "tests": [{"interval": "1m", "input_series": series, "alert_rule_test": wanted}]}), encoding="utf-8")
+            done = subprocess.run(["promtool", "test", "rules", file], capture_output=True, text=True)
+            checks.check(f"{metrics} has {come or 'no alert'}", done.returncode == 0, done.stdout + done.stderr)
+
+
 HELD = {
     "messages": 7, "messages_limit": 4096, "bytes": 70, "bytes_limit": 16777216,
     "queues": [{"destination": "/queue/a b", "messages": 4, "bytes": 40}],
@@ -143,6 +193,7 @@ def main():
     served = metrics_of(STARTED, line)
     objects(checks, dict(served))
     recent(checks)
+    alerts(checks, [*metrics_of(STARTED, line), *metrics_of(STARTED, line, wants=is_recent)])
     checks.same("one that serves is up, and all its figures are there", (served.pop("stompd_up", None), served.pop("stompd_figures_age_seconds", None), sorted(served.values())),
                 (1, AGE, list(range(1, count + 1))))
     checks.same("one that has told nothing is up, with no figures", metrics_of(STARTED), {"stompd_up": 1})
