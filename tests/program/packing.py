@@ -113,6 +113,8 @@ def try_package(package, program, root, checks):
     checks.check("the recipes are there", (root / "usr/share/doc/stompd/deploy/nginx.conf").exists())
     with tempfile.TemporaryDirectory(prefix="stompd-service-") as room:
         try_first_starts(root, pathlib.Path(room), checks)
+    with tempfile.TemporaryDirectory(prefix="stompd-watchdog-") as room:
+        try_watchdog(root, pathlib.Path(room), checks)
     journal = folder / "rooms.journal"
     serve_installed(root, journal, checks)
     checks.check("an upgrade says that it restarts nothing", "systemctl restart stompd" in dpkg(root, "-i", package))
@@ -141,6 +143,27 @@ def try_metrics(root, checks):
     written = (root / METRICS).read_text() if (root / METRICS).exists() else ""
     checks.check("the metrics are in the exporter's folder", done.returncode == 0 and "\nstompd_up 1\n" in written, (done.stderr, written))
     checks.check("a timer starts it", "\n[Timer]\n" in (root / "lib/systemd/system/stompd-metrics.timer").read_text())
+
+
+# What pings of a server end with one after the other (docs/CLI.md, "Pings"), and whether the server is restarted then.
+PINGS = (("0", False), ("3", False), ("1 0", False), ("1 3", False), ("1 1", True), ("127", False), ("2", False), ("137", False), ("1 127", False))
+
+
+def try_watchdog(root, folder, checks):
+    """The command of stompd-ping.service, with pings that end so. Only a server that is dead, which is status 1, is restarted, and not if somebody stops it meanwhile."""
+    service = (root / "lib/systemd/system/stompd-ping.service").read_text()
+    (line,) = re.findall(r"^ExecStart=/bin/sh -c '(.*)'$", service, re.M)
+    for name, text in (("stompd", 'read -r status rest < statuses; echo "$rest" > statuses; exit "$status"'), ("systemctl", 'echo "$*" >> asked'), ("sleep", ":")):
+        (folder / name).write_text(f"#!/bin/sh\n{text}\n")
+        (folder / name).chmod(0o755)
+    line = line.replace("$$", "$").replace("/usr/lib/stompd/stompd", f"{folder}/stompd")
+    for statuses, restarts in PINGS:
+        (folder / "statuses").write_text(statuses)
+        (folder / "asked").write_text("")
+        done = subprocess.run(["/bin/sh", "-c", line], cwd=folder, env={**os.environ, "PATH": f"{folder}:{os.environ['PATH']}"})
+        asked = (folder / "asked").read_text()
+        checks.same(f"pings that end with {statuses}: the watchdog ends well, and restarts {'the server' if restarts else 'nothing'}", (done.returncode, asked), (0, "try-restart stompd\n" if restarts else ""))
+        checks.same("after all these pings", (folder / "statuses").read_text().strip(), "")
 
 
 def try_first_starts(root, folder, checks):
