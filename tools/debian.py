@@ -18,6 +18,8 @@ Architecture: amd64
 Maintainer: {maintainer}
 Installed-Size: {kilobytes}
 Depends: libc6 (>= {libc}), systemd | systemd-standalone-sysusers
+Recommends: python3
+Suggests: prometheus-node-exporter
 Section: net
 Priority: optional
 Description: message broker for rooms in the browser
@@ -39,10 +41,12 @@ fi
 """
 PRERM = """#!/bin/sh
 set -e
-if [ "$1" = remove ] && [ -z "$DPKG_ROOT" ] && [ -d /run/systemd/system ]; then systemctl disable --now stompd-ping.timer stompd; fi
+if [ "$1" = remove ] && [ -z "$DPKG_ROOT" ] && [ -d /run/systemd/system ]; then systemctl disable --now stompd-ping.timer stompd-metrics.timer stompd; fi
 """
 POSTRM = """#!/bin/sh
 set -e
+# Metrics that nobody writes any more would stay as they were.
+if [ "$1" = remove ]; then rm -f "$DPKG_ROOT/var/lib/prometheus/node-exporter/stompd.prom"; fi
 if [ "$1" = purge ] && [ -e "$DPKG_ROOT/var/lib/stompd" ]; then
     echo 'stompd: what is in /var/lib/stompd is kept, the journal and its messages; rm -r /var/lib/stompd removes it'
 fi
@@ -62,13 +66,21 @@ License: none was given. All rights are reserved by the authors.
 """
 
 
-UNITS = ("stompd.service", "stompd-ping.service", "stompd-ping.timer")
+# Read by stompd.service.
+DEFAULT = """# After a change: systemctl restart stompd
+# The origin of the pages that are served.
+#ORIGIN=https://chat.example
+# More options of `stompd serve`, as --origin https://www.chat.example --threads 2 --json
+#STOMPD_OPTIONS=
+"""
+
+UNITS = ("stompd.service", "stompd-ping.service", "stompd-ping.timer", "stompd-metrics.service", "stompd-metrics.timer")
 
 
 def unit(name):
     """A file of deploy/ for systemd, with the package's paths, and without what it says of an archive."""
     text = (TOP / "deploy" / name).read_text(encoding="utf-8")
-    return text[text.index("[Unit]") :].replace("/opt/stompd/", "/usr/lib/stompd/")
+    return text[text.index("[Unit]") :].replace("/opt/stompd/deploy/", "/usr/lib/stompd/").replace("/opt/stompd/", "/usr/lib/stompd/")
 
 
 def changelog(version, maintainer, moment):
@@ -83,6 +95,8 @@ def files_of(program, serve, page, of_it, told, version, maintainer, moment):
     name, data, mode = of_it
     yield f"usr/lib/stompd/{name}", data, mode
     yield "usr/share/man/man1/stompd.1.gz", gzip.compress(page, mtime=0), 0o644
+    yield "usr/lib/stompd/metrics.py", (TOP / "deploy" / "metrics.py").read_bytes(), 0o755
+    yield "etc/default/stompd", DEFAULT.encode(), 0o644
     for name in UNITS:
         yield f"lib/systemd/system/{name}", unit(name).encode(), 0o644
     yield "usr/lib/sysusers.d/stompd.conf", b'u stompd - "stompd, a message broker" /var/lib/stompd\n', 0o644
@@ -125,7 +139,7 @@ def package_of(program, serve, page, of_it, told, oldest_libc, maintainer, momen
         kilobytes = sum(len(data) for _, data, _ in files) // 1024 + 1
         control = CONTROL.format(version=version, maintainer=maintainer, kilobytes=kilobytes, libc=".".join(map(str, oldest_libc)))
         sums = "".join(f"{hashlib.md5(data).hexdigest()}  {name}\n" for name, data, _ in sorted(files))
-        for name, text, mode in [("control", control, 0o644), ("md5sums", sums, 0o644), ("postinst", POSTINST, 0o755), ("prerm", PRERM, 0o755), ("postrm", POSTRM, 0o755)]:
+        for name, text, mode in [("control", control, 0o644), ("conffiles", "/etc/default/stompd\n", 0o644), ("md5sums", sums, 0o644), ("postinst", POSTINST, 0o755), ("prerm", PRERM, 0o755), ("postrm", POSTRM, 0o755)]:
             write(tree / "DEBIAN" / name, text.encode(), mode)
         tree.chmod(0o755)
         (tree / "DEBIAN").chmod(0o755)

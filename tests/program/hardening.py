@@ -159,13 +159,16 @@ def try_service(unit, restricted, opt, folder, port, checks):
     """Runs the unit's commands, in a folder of their own, with a small journal and at another port."""
     here = lambda line: line.replace("/opt/stompd/", f"{opt}/").replace("/var/lib/stompd", str(folder)).replace("512M", "8M").replace("8080", str(port))
     shell = lambda name: ["/bin/sh", "-c", re.fullmatch(r"/bin/sh -c '(.*)'", here(unit.one(name)))[1]]
-    origin = unit.one("Environment").removeprefix("ORIGIN=")
-    for turn in ("first", "second"):
+    # A file may replace what the unit sets. systemd splits what stands without braces.
+    variables = dict(it.split("=", 1) for it in unit.one("Environment").split())
+    for turn, more in (("first", ""), ("second", "--threads 2 --json")):
+        variables["STOMPD_OPTIONS"] = more
+        words = [word for it in here(unit.one("ExecStart")).split() for word in (variables[it[1:]].split() if it[0] == "$" and it[1] != "{" else [re.sub(r"\$\{(\w+)\}", lambda name: variables[name[1]], it)])]
         before = restricted.run(shell("ExecStartPre"))
         checks.same(f"the {turn} start is prepared", before, (0, ""))
         if before != (0, ""):
             return
-        with restricted.start(here(unit.one("ExecStart")).replace("${ORIGIN}", origin).split(), stderr=subprocess.PIPE, stdout=subprocess.DEVNULL) as server:
+        with restricted.start(words, stderr=subprocess.PIPE, stdout=subprocess.DEVNULL) as server:
             try:
                 status, said = restricted.run(shell("ExecStartPost"), env={**os.environ, "MAINPID": str(server.pid)})
                 checks.check(f"the {turn} start is answered", status == 0 and said.startswith("receipt after "), said)
@@ -176,8 +179,9 @@ def try_service(unit, restricted, opt, folder, port, checks):
                 server.send_signal(signal.SIGTERM)
                 _, log = server.communicate(timeout=20)
         checks.same("it ends as the unit expects", server.returncode, int(unit.one("SuccessExitStatus")))
-        checks.check("in good order, with no failure", "ending: asked to" in log.decode() and "J3" not in log.decode(), log.decode())
-        checks.check("with all its clients counted", "16384 clients allowed" in log.decode(), log.decode())
+        ending, allowed = ('"kind":"ending"', '"clients":16384') if more else ("ending: asked to", "16384 clients allowed")
+        checks.check("in good order, with no failure", ending in log.decode() and "J3" not in log.decode(), log.decode())
+        checks.check("with all its clients counted", allowed in log.decode(), log.decode())
     journal = folder / "rooms.journal"
     checks.same("nobody else may read what it made", [it.stat().st_mode & 0o077 for it in folder.iterdir()], [0] * 2)
     held = subprocess.run([opt / "stompd", "held", journal], capture_output=True, text=True, check=True).stdout

@@ -32,6 +32,8 @@ RESTRICTIONS = (
     *("ProtectProc=invisible", "LockPersonality=yes", "RestrictNamespaces=yes", "RestrictRealtime=yes", "RestrictSUIDSGID=yes"),
     *(f"Protect{it}=yes" for it in ("Clock", "ControlGroups", "Hostname", "KernelLogs", "KernelModules", "KernelTunables")),
 )
+# Where Debian's prometheus-node-exporter reads.
+METRICS = "var/lib/prometheus/node-exporter/stompd.prom"
 VERSION = re.compile(r"stompd \d+\.\d+\.\d+\+git[0-9a-f]{12}(-changed)?, given, and not known to be proved\n")
 # Scripts run outside of the folder, with its path in DPKG_ROOT, since there is no shell in it.
 DPKG = ["dpkg", "--force-script-chrootless", "--force-depends"]
@@ -48,8 +50,11 @@ def try_archive(archive, program, folder, checks):
         opened.extractall(folder, filter="data")
     (base,) = folder.iterdir()
     names = {str(it.relative_to(base)) for it in base.rglob("*") if it.is_file()}
-    linked = set(LINK.findall((base / "README.md").read_text(encoding="utf-8")))
+    linked = set(LINK.findall((TOP / "README.md").read_text(encoding="utf-8")))
     checks.check("the archive has all that README.md links", linked and all((base / it).exists() for it in linked), sorted(linked - names))
+    links = [(name, it) for name in names if name.endswith(".md") for it in LINK.findall((base / name).read_text(encoding="utf-8"))]
+    checks.same("no link of its documents leads to a file that is not there", sorted(it for it in links if not (base / it[0]).parent.joinpath(it[1]).exists()), [])
+    checks.check("and there are many", len(links) > 100, len(links))
     there = {f"{part}/{it.name}" for part in ("deploy", "examples") for it in (TOP / part).iterdir() if it.is_file()}
     checks.check("and the recipes and examples", there <= names, sorted(there - names))
     sums = {name: sum_ for sum_, name in (line.split("  ") for line in (base / "SHA256SUMS").read_text().splitlines())}
@@ -98,22 +103,67 @@ def try_package(package, program, root, checks):
     checks.check("as that user", "\nUser=stompd\n" in unit)
     checks.same("which may do only what it needs", [it for it in RESTRICTIONS if f"\n{it}\n" not in unit], [])
     checks.same("nothing is enabled", [str(it) for it in root.rglob("*.wants/*")], [])
+    try_metrics(root, checks)
+    default = root / "etc/default/stompd"
+    checks.same("its options are in a file that an upgrade keeps", [it for it in ("#ORIGIN=", "#STOMPD_OPTIONS=") if f"\n{it}" not in default.read_text()], [])
+    checks.check("which the service reads", "\nEnvironmentFile=-/etc/default/stompd\n" in unit and re.search(r"^ExecStart=.* \$STOMPD_OPTIONS$", unit, re.M), unit)
+    default.write_text("STOMPD_OPTIONS=--json\n")
     page = root / "usr/share/man/man1/stompd.1.gz"
     checks.check("the manual page is there", page.exists() and gzip.decompress(page.read_bytes()).startswith(b".TH stompd 1 "))
     checks.check("the recipes are there", (root / "usr/share/doc/stompd/deploy/nginx.conf").exists())
     with tempfile.TemporaryDirectory(prefix="stompd-service-") as room:
         try_first_starts(root, pathlib.Path(room), checks)
+    with tempfile.TemporaryDirectory(prefix="stompd-watchdog-") as room:
+        try_watchdog(root, pathlib.Path(room), checks)
     journal = folder / "rooms.journal"
     serve_installed(root, journal, checks)
     checks.check("an upgrade says that it restarts nothing", "systemctl restart stompd" in dpkg(root, "-i", package))
     checks.check("and keeps the journal", journal.exists())
+    checks.same("and the options", default.read_text(), "STOMPD_OPTIONS=--json\n")
     dpkg(root, "--remove", "stompd")
     checks.check("removed, the program is gone", not (root / "usr/lib/stompd/stompd").exists())
     checks.check("and the journal is there", journal.exists())
+    checks.check("and no metrics are left that nobody would write any more", not (root / METRICS).exists())
     told = dpkg(root, "--purge", "stompd")
     checks.check("a purge says that it keeps it", "/var/lib/stompd is kept" in told, told)
     held = subprocess.run([program, "held", journal], capture_output=True, text=True).stdout
     checks.check("and does", held.startswith("messages 1 "), held)
+
+
+def try_metrics(root, checks):
+    """The command of the timer's service, with the log of a server that has started: it needs what is installed, and writes into the exporter's folder."""
+    service = (root / "lib/systemd/system/stompd-metrics.service").read_text()
+    (line,) = re.findall(r"^ExecStart=/bin/sh -c '(.*)'$", service, re.M)
+    (root / METRICS).parent.mkdir(parents=True)
+    for said in ("journalctl -u stompd -o cat --since -1d", "/usr/lib/stompd/", f"/{METRICS}"):
+        checks.check(f"the command has {said}", said in line, line)
+    started = "stompd: 2026-11-30T12:00:00Z started: journal of version 2, areas of 1000 bytes, 0 messages held, 9500 clients allowed, 99 bytes of memory for them"
+    line = line.replace("journalctl -u stompd -o cat --since -1d", f"echo '{started}'").replace("/usr/lib/stompd/", f"{root}/usr/lib/stompd/").replace(f"/{METRICS}", f"{root}/{METRICS}")
+    done = subprocess.run(["/bin/sh", "-c", line], stderr=subprocess.PIPE, text=True)
+    written = (root / METRICS).read_text() if (root / METRICS).exists() else ""
+    checks.check("the metrics are in the exporter's folder", done.returncode == 0 and "\nstompd_up 1\n" in written, (done.stderr, written))
+    checks.check("a timer starts it", "\n[Timer]\n" in (root / "lib/systemd/system/stompd-metrics.timer").read_text())
+
+
+# What pings of a server end with one after the other (docs/CLI.md, "Pings"), and whether the server is restarted then.
+PINGS = (("0", False), ("3", False), ("1 0", False), ("1 3", False), ("1 1", True), ("127", False), ("2", False), ("137", False), ("1 127", False))
+
+
+def try_watchdog(root, folder, checks):
+    """The command of stompd-ping.service, with pings that end so. Only a server that is dead, which is status 1, is restarted, and not if somebody stops it meanwhile."""
+    service = (root / "lib/systemd/system/stompd-ping.service").read_text()
+    (line,) = re.findall(r"^ExecStart=/bin/sh -c '(.*)'$", service, re.M)
+    for name, text in (("stompd", 'read -r status rest < statuses; echo "$rest" > statuses; exit "$status"'), ("systemctl", 'echo "$*" >> asked'), ("sleep", ":")):
+        (folder / name).write_text(f"#!/bin/sh\n{text}\n")
+        (folder / name).chmod(0o755)
+    line = line.replace("$$", "$").replace("/usr/lib/stompd/stompd", f"{folder}/stompd")
+    for statuses, restarts in PINGS:
+        (folder / "statuses").write_text(statuses)
+        (folder / "asked").write_text("")
+        done = subprocess.run(["/bin/sh", "-c", line], cwd=folder, env={**os.environ, "PATH": f"{folder}:{os.environ['PATH']}"})
+        asked = (folder / "asked").read_text()
+        checks.same(f"pings that end with {statuses}: the watchdog ends well, and restarts {'the server' if restarts else 'nothing'}", (done.returncode, asked), (0, "try-restart stompd\n" if restarts else ""))
+        checks.same("after all these pings", (folder / "statuses").read_text().strip(), "")
 
 
 def try_first_starts(root, folder, checks):
