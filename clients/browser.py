@@ -21,6 +21,7 @@ import time
 import urllib.parse
 
 from chromium import BROWSERS, DOWN, ENTER, TAB, UP, Browser
+from fake_broker import Relay
 from lib import scenario
 from lib.stomp_client import Client
 
@@ -33,6 +34,8 @@ STOMP_JS = "lib/rabbitmq_server-*/plugins/rabbitmq_web_stomp_examples-*/priv/sto
 DEAD = "/queue/dead"
 # How many messages a subscription that acknowledges has at most.
 IN_HAND = 16
+# How many messages a broker holds at most.
+HELD = 4_096
 
 
 class QuietHandler(http.server.SimpleHTTPRequestHandler):
@@ -288,6 +291,34 @@ def an_error_is_shown(broker, checks, anna, ben):
     checks.check("and the page comes back", anna.is_in("open"), anna.state())
 
 
+def a_line_is_refused(broker, checks, anna, ben):
+    filler = Client(broker.port, timeout=60).connect()
+    filler.publish_all("/queue/filled", HELD * ["x"])
+    for part, field, text in (("chat", "words", "a line without room"), ("jobs", "job", "a job without room")):
+        anna.write(field, text)
+        checks.check("a full broker refuses it", anna.rows_come(text, ["sent", "refused"], part), anna.states_of(text, part))
+        checks.same("it stands in its field again", anna.value(f"document.getElementById('{field}').value"), text)
+        checks.check("the page says that the broker is full", anna.comes(says("The broker is full")), anna.value(SAID))
+    # The first is sent from its field, and another one from its row.
+    anna.value("say('from its row')")
+    checks.check("one whose field has another text is refused too", anna.comes("document.querySelector('#chat [aria-label=\"Send again: from its row\"]') != null"), anna.states_of("from its row"))
+    filler.subscribe("f", "/queue/filled")
+    filler.disconnect()
+    anna.value("document.getElementById('words').focus()")
+    anna.press(ENTER)
+    checks.check("once there is room it is sent from its field", anna.comes("chat.list.lastChild.textContent.startsWith('anna: a line without room') && chat.list.lastChild.textContent.includes('receipted')"), anna.states_of("a line without room"))
+    checks.same("which is empty then", anna.value("document.getElementById('words').value"), "")
+    checks.check("or from its row", anna.act("chat", "Send again: from its row") and anna.comes("chat.list.lastChild.textContent.includes('receipted')"), anna.states_of("from its row"))
+    checks.same("the other hears each once", [ben.states_of(text) for text in ("a line without room", "from its row")], [[["received"]], [["received"]]])
+
+
+def it_is_easy_to_use(broker, checks, anna, ben):
+    names = anna.value("[...document.querySelectorAll('#chat li')].map(row => row.textContent)")
+    checks.check("a name and a text are read apart", names and all(": " in it for it in names), names)
+    sizes = anna.value("[...document.querySelectorAll('input[type=checkbox]')].map(it => { const { width, height } = it.getBoundingClientRect(); return Math.min(width, height); })")
+    checks.check("boxes have 24 pixels", sizes and min(sizes) >= 24, sizes)
+
+
 def its_origin_is_not_served(broker, checks, anna, ben):
     broker.kill()
     broker.more = ("--origin", "https://chat.example")
@@ -324,6 +355,8 @@ STEPS = [
     a_job_is_handed_out_again,
     a_keyboard_is_enough,
     an_error_is_shown,
+    a_line_is_refused,
+    it_is_easy_to_use,
     its_origin_is_not_served,
     a_page_leaves,
 ]
@@ -378,6 +411,14 @@ def lines_with_stomp_js(broker, checks, browser, library):
     page.value(f"((client) => {{ {works} }})(stomp); 0")
     page.comes("heard.length == 3")
     checks.same("a worker's line for stomp.js acknowledges", page.value("heard[2]"), "it is on disk: done")
+    with Relay(broker.port) as relay:
+        lost = lines.replace(f":{broker.port}", f":{relay.port}").replace("\n});", "\n}, () => heard.push('lost'));", 1)
+        # The lines' pauses are longer than a trial.
+        alive = lines_below("docs/CLIENTS.md", "With stomp.js", 2).replace("15_000", "300").replace("5_000", "3_000")
+        page.value(f"heard.length = 0; (() => {{ {lost}; {alive}; globalThis.alive = alive; }})(); 0")
+        checks.check("the lines for a dead network leave a living one alone", page.comes("heard.length >= 1") and not page.comes("heard.includes('lost')", 4), page.value("heard"))
+        relay.cut()
+        checks.check("and end a dead one", page.comes("heard.includes('lost')", 20), page.value("clearInterval(alive); heard"))
     checks.same("no exception was thrown", page.exceptions, [])
 
 
