@@ -128,7 +128,7 @@ SCRIPTS = [
     Script("tests/program/holders.py", light=""),
     Script("tests/program/long_names.py", light=""),
     Script("tests/attack/soak.py", "--minutes 1", alone="it measures how soon a client is served"),
-    Script("tests/program/waits.py", "--minutes 10", light="--minutes 1", alone="it measures the longest wait"),
+    Script("tests/program/waits.py", "--minutes 10", light="--minutes 0.5", alone="it measures the longest wait"),
     Script("tests/program/readiness.py"),
     Script("tests/program/unproved.py"),
     Script("tests/program/packing.py"),
