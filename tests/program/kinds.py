@@ -213,8 +213,8 @@ def given_up(program, checks):
     """clients that don't answer a close, open no session, or take nothing: none before its time, and each soon after; and one that only answers pings"""
     with serving(program) as server:
         quiet, slow = Quiet(server.port), Slow(server.port)
-        for (form, _, least, _), first in zip(SLOW, slow.first):
-            time.sleep(max(0, first + least - EARLY - time.monotonic()))
+        for moment, form in sorted((first + least - EARLY, form) for (form, _, least, _), first in zip(SLOW, slow.first)):
+            time.sleep(max(0, moment - time.monotonic()))
             checks.same(f"{form}: none before its time", server.count(form), 0)
         for (form, count, _, most), last in zip(SLOW, slow.last):
             checks.same(f"{form}: told, and how many", server.await_count(form, count, max(0, last + most + LATE - time.monotonic())), count)
