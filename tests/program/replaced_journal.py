@@ -43,19 +43,6 @@ CUT, OVERWRITTEN = "the file was cut", "the file was overwritten"
 SIDE_BY_SIDE = 6
 
 
-class Found:
-    """What was checked of one server, until it is told."""
-
-    def __init__(self):
-        self.all = []
-
-    def check(self, what, holds, seen=None):
-        self.all.append((what, holds, seen))
-
-    def same(self, what, seen, expected):
-        self.check(what, seen == expected, f"{seen!r} and not {expected!r}")
-
-
 class Server:
     """A server over a new journal with some messages, at rest or with a client that goes on sending."""
 
@@ -332,16 +319,12 @@ def main():
         top = pathlib.Path(name).resolve()
 
         def run(number):
-            folder, found = top / f"{number}", Found()
-            folder.mkdir()
+            (top / f"{number}").mkdir()
             task, *more = tasks[number]
-            task(program, folder, found, *more)
-            return found.all
+            task(program, top / f"{number}", checks, *more)
 
         with concurrent.futures.ThreadPoolExecutor(SIDE_BY_SIDE) as pool:
-            for made in pool.map(run, range(len(tasks))):
-                for check in made:
-                    checks.check(*check)
+            list(pool.map(run, range(len(tasks))))
     return checks.status()
 
 
