@@ -43,9 +43,9 @@ class QuietHandler(http.server.SimpleHTTPRequestHandler):
         pass
 
 
-def static_server():
-    """A server of the examples, by plain HTTP."""
-    handler = functools.partial(QuietHandler, directory=PAGE.parent)
+def serving_files(folder=PAGE.parent):
+    """A server of a folder, by plain HTTP."""
+    handler = functools.partial(QuietHandler, directory=folder)
     server = http.server.ThreadingHTTPServer(("127.0.0.1", 0), handler)
     threading.Thread(target=server.serve_forever, daemon=True).start()
     return server
@@ -490,7 +490,7 @@ def main():
     checks = scenario.Checks()
     pictures = None if words.picture else pathlib.Path(tempfile.mkdtemp(prefix="rooms-"))
     with scenario.serving(words.program) as broker, tempfile.TemporaryDirectory(ignore_cleanup_errors=True) as folder:
-        browser, server = Browser(words.browser, folder), static_server()
+        browser, server = Browser(words.browser, folder), serving_files()
         try:
             if words.picture:
                 draw_a_room(broker, checks, browser, words.picture)

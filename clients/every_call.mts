@@ -7,8 +7,8 @@ declare const process: { argv: string[]; exitCode: number };
 declare const console: { log(text: string): void };
 
 /* What typeof answers of each member: tsc asks that none is missing here and none too many, Node that each is there. */
-type Kinds<T> = { [Name in keyof Required<T>]: "string" | "object" | "function" | "boolean" };
-const CLIENT: Kinds<Client> = { state: "string", session: "string", full: "object", send: "function", tell: "function", subscribe: "function", transaction: "function", close: "function" };
+type Kinds<T> = { [Name in keyof Required<T>]: "string" | "object" | "function" | "boolean" | "number" };
+const CLIENT: Kinds<Client> = { state: "string", session: "string", full: "object", underWay: "number", send: "function", sendWithRetry: "function", drain: "function", tell: "function", subscribe: "function", transaction: "function", close: "function" };
 const SUBSCRIPTION: Kinds<Subscription> = { id: "string", isContested: "boolean", ready: "object", end: "function", giveUp: "function" };
 const MESSAGE: Kinds<Message> = { headers: "object", body: "string", bytes: "object", ack: "function", nack: "function" };
 const TRANSACTION: Kinds<Transaction> = { send: "function", ack: "function", nack: "function" };
@@ -41,11 +41,16 @@ await jobs.ready;
 hold("client", client, CLIENT);
 hold("subscription", jobs, SUBSCRIPTION);
 hold("message", message, MESSAGE);
-const key: string | undefined = message.headers["key"], text: string | Uint8Array = message.body, bytes: Uint8Array = message.bytes;
+const key: string | undefined = message.headers["key"], text: string = message.body, bytes: Uint8Array = message.bytes;
 if (key != "1" || text != "text" || bytes.length != 4) throw new Error(`${key} ${text} ${bytes}`);
 await message.ack();
 await jobs.end();
 
+const raw: Uint8Array = await new Promise(resolve => { client.subscribe("/topic/raw", ({ body }) => resolve(body), { body: "bytes", id: "raw" }); void client.sendWithRetry("/topic/raw", "raw"); });
+if (raw.length != 3) throw new Error(`${raw}`);
+await client.drain();
+if (client.underWay != 0) throw new Error(`${client.underWay}`);
+await client.drain(1);
 const [another, again] = await first("/queue/jobs", { ack: "client" });
 await another.nack();
 await again.end();
@@ -93,8 +98,12 @@ export function refused(): void {
   client.tell("/topic/a").then(() => {});
   // @ts-expect-error: a session can't be set
   client.session = "7";
-  // @ts-expect-error: a body may be bytes
-  message.body.toUpperCase();
+  // @ts-expect-error: bodies are text unless bytes are asked for
+  client.subscribe("/topic/a", message => message.body.fill(0));
+  // @ts-expect-error: then they are no text
+  client.subscribe("/topic/a", message => message.body.toUpperCase(), { body: "bytes" });
+  // @ts-expect-error: there is no third
+  client.subscribe("/topic/a", () => {}, { body: "json" });
   // @ts-expect-error: nor can a body
   message.body = "x";
   // @ts-expect-error: an acknowledgement in a transaction has no promise

@@ -161,7 +161,7 @@ def what_promises_say(engine, broker, checks):
     checks.check("and does not come back", run("await one.send('/topic/room', 'on'); const many = one.states.length; await soon(() => false, 1.5); return one.state == 'open' && one.states.length == many"))
     checks.same("one without a receipt is heard", run("const told = one.tell('/topic/room', 'told'); return [told, await soon(() => heard.at(-1).body == 'told')]"), [True, True])
     run("one.send('/topic/room', new Uint8Array([104, 0, 255]))")
-    checks.same("bytes come as such", run("await soon(() => heard.at(-1).bytes.length == 3); return [...heard.at(-1).body]"), [104, 0, 255])
+    checks.same("bytes come as such", run("await soon(() => heard.at(-1).bytes.length == 3); return [[...heard.at(-1).bytes], heard.at(-1).body]"), [[104, 0, 255], "h\0\ufffd"])
     checks.same("while it connects nothing is told", run("const early = open(), told = early.tell('/topic/room', 'x'); await early.close(); return [told, early.state]"), [False, "closed"])
     checks.same("after the end a SEND is unsent", run("const other = open(); await other.close(); return [other.state, await outcome(other.send('/topic/room', 'x'))]"), ["closed", "unsent"])
 

@@ -286,8 +286,16 @@ def frames_are_right(engine, checks):
         link.say_bytes("MESSAGE", [("subscription", "s"), ("message-id", "1.0"), ("constructor", "c"), ("__proto__", "p"), ("toString", "t")], b"\n\n\xff\x00")
         link.say_bytes("MESSAGE", [("subscription", "s"), ("message-id", "2.0")], "\ufefföx".encode())
         link.message("s", "öx", number=3)
-        told = run("await soon(() => heard.length == 3); return heard.map(it => [typeof it.body == 'string' ? it.body : [...it.body], [...it.bytes]])")
-        checks.same("bytes come as such, and text as text", told, [[[10, 10, 255, 0]] * 2, ["\ufefföx", [239, 187, 191, 195, 182, 120]], ["öx", [195, 182, 120]]])
+        told = run("await soon(() => heard.length == 3); return heard.map(it => [it.body, [...it.bytes]])")
+        expected = [["\n\n\ufffd\0", [10, 10, 255, 0]], ["\ufefföx", [239, 187, 191, 195, 182, 120]], ["öx", [195, 182, 120]]]
+        checks.same("bodies come as text, and their bytes as they are", told, expected)
+        run("globalThis.raw = []; it.subscribe('/topic/raw', it => raw.push(it), { id: 'r', body: 'bytes' })")
+        link.accept_next()
+        link.say_bytes("MESSAGE", [("subscription", "r"), ("message-id", "1.0")], b"\n\n\xff\x00")
+        link.message("r", "öx", number=2)
+        told = run("await soon(() => raw.length == 2); return raw.map(it => [it.body instanceof Uint8Array, [...it.body], [...it.bytes]])")
+        checks.same("or as bytes, if these are asked for", told, [[True, *2 * [[10, 10, 255, 0]]], [True, *2 * [[195, 182, 120]]]])
+        checks.same("and as nothing else", run("return outcome(it.subscribe('/topic/raw', () => {}, { body: 'json' }).ready)"), "unsent")
         odd = "a\r\n:\\b"
         run("globalThis.spelled = outcome(it.send('/topic/room', 'x', { 'k\\r\\n:\\\\': 'a\\r\\n:\\\\b' }))")
         frame = link.accept_next()
@@ -302,7 +310,7 @@ def frames_are_right(engine, checks):
         link.drop()
         run("await done; await soon(() => !it.session); const text = new Uint8Array([97, 98]); it.send('/topic/room', text); it.send('/topic/room', text.buffer); text[0] = 0")
         link = fake.take()
-        checks.same("bytes that wait stay what they were", [link.accept_next().body for _ in range(3)], [b"", b"ab", b"ab"])
+        checks.same("bytes that wait stay what they were", [link.accept_next().body for _ in range(4)], [b"", b"", b"ab", b"ab"])
     words = run("try { open({ WebSocket: undefined }); } catch (error) { return error.message; }")
     checks.check("a Node without WebSocket is told what to do", "--experimental-websocket" in (words or ""), words)
 

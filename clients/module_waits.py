@@ -132,6 +132,43 @@ def a_bulk_without_room(engine, broker, checks):
     filler.disconnect()
 
 
+def it_is_sent_in_the_end(engine, checks):
+    """what is sent with retry is sent again as long as it certainly is not there, and a sender may wait for answers"""
+    run = engine.value
+    with opened(engine, "shortestPause: 100, waitTimeout: 300, mostWaiting: 3") as (fake, link):
+        run("globalThis.end = how(it.sendWithRetry('/topic/full', 'x'))")
+        link.refuse(NO_ROOM, link.take())
+        link = fake.take()
+        checks.same("it is sent again after E12", (link.accept_next().body, run("return end")), (b"x", "taken"))
+        link.drop()
+        run("await soon(() => it.state == 'lost'); globalThis.end = how(it.sendWithRetry('/topic/room', 'y')); globalThis.once = how(it.send('/topic/room', 'z'))")
+        silent = fake.take_silent()
+        checks.same("one that is sent once is unsent in time", run("return once"), ["unsent", None, False])
+        link = silent.shake_hands().open("9")
+        checks.same("the other goes on waiting", (link.accept_next().body, run("return end")), (b"y", "taken"))
+        run("globalThis.lost = how(it.sendWithRetry('/topic/room', 'doubt'))")
+        link.take()
+        link.drop()
+        checks.same("what is unknown is not sent again", run("return lost"), ["unknown", None, False])
+        link = fake.take()
+        for what, wrong in (("a body that is an object", "'/topic/room', {}"), ("a bad destination", "'nowhere', 'x'")):
+            checks.check(f"{what} ends it", run(f"return outcome(it.sendWithRetry({wrong}))") in ("unsent", "refused"))
+        run("globalThis.ends = [1, 2, 3, 4, 5].map(number => how(it.sendWithRetry('/topic/room', number)))")
+        run("globalThis.waited = 'waits'; it.drain(1).then(() => { waited = 'went on'; })")
+        frames = link.take_all(3)
+        checks.same("only as many are under way as may be", run("return [it.underWay, waited]"), [3, "waits"])
+        for frame in frames:
+            link.accept(frame)
+        for _ in range(2):
+            link.accept_next()
+        checks.same("and then the others", run("return Promise.all(ends)"), ["taken"] * 5)
+        checks.same("who waits for few goes on", run("await it.drain(0); return [it.underWay, waited]"), [0, "went on"])
+        run("globalThis.end = how(it.sendWithRetry('/topic/room', 'last')); globalThis.closed = it.close()")
+        link.take_all(2)
+        link.close(1000)
+        checks.same("and ends with its client", run("await closed; return [await end, await how(it.sendWithRetry('/topic/room', 'x'))]"), [["unknown", None, False], ["unsent", None, False]])
+
+
 def a_name_in_use(engine, checks):
     """a durable name that a lost session still holds is asked for again, while all else goes on"""
     run = engine.value
@@ -199,5 +236,5 @@ def a_name_of_a_dead_session(engine, broker, checks):
         run("await paper.giveUp(); await alive.close()")
 
 
-FAKE = [no_room, much_has_no_room, waits_are_counted, a_name_in_use]
+FAKE = [no_room, much_has_no_room, waits_are_counted, it_is_sent_in_the_end, a_name_in_use]
 REAL = [a_bulk_without_room, a_name_of_a_dead_session]

@@ -72,12 +72,13 @@ export type Headers = Record<string, string | number | boolean | null | undefine
 /** At most 65,536 bytes. Bytes are sent as such. Numbers are written as text; null and undefined are an empty body. */
 export type Body = string | number | boolean | bigint | ArrayBuffer | ArrayBufferView | null | undefined;
 
-export interface Message {
+/** Its body is text, or bytes if the subscription asked for these. */
+export interface Message<B extends string | Uint8Array = string> {
   /** They have no prototype, so a header may have any name. */
   readonly headers: Readonly<Record<string, string>>;
-  /** Text, or bytes if they are not UTF-8. */
-  readonly body: string | Uint8Array;
-  /** The body's bytes, whatever they are. */
+  /** In a text, bytes that are not UTF-8 are U+FFFD. */
+  readonly body: B;
+  /** The body's bytes as they came. */
   readonly bytes: Uint8Array;
   /** Resolves at the receipt. `unsent` if its session or subscription is over (then it comes again, or is another's), or is `auto`; `refused` with E11, and
    *  not sent, if it was acknowledged or refused before, in the mode `client` also with a later one. */
@@ -88,6 +89,8 @@ export interface Message {
 
 export interface SubscribeOptions {
   ack?: "auto" | "client" | "client-individual";
+  /** Bodies come as text, unless `subscribe` is given `body: "bytes"`. */
+  body?: "text";
   /** Milliseconds from a message's arrival to its acknowledgement. After these the client closes its connection, so that the broker gives all that is
    *  unacknowledged to others, and connects again. Not for `auto`. It goes by the page's own timers. */
   ackWithin?: number;
@@ -114,8 +117,8 @@ export interface Subscription {
 /** At most 64 members of 262,144 bytes together. Each call throws if the broker would refuse the member; uncaught, that rejects the transaction. */
 export interface Transaction {
   send(destination: string, body?: Body, headers?: Headers): void;
-  ack(message: Message): void;
-  nack(message: Message): void;
+  ack(message: Message<string | Uint8Array>): void;
+  nack(message: Message<string | Uint8Array>): void;
 }
 
 /** None of its promises becomes an unhandled rejection. */
@@ -129,11 +132,18 @@ export interface Client {
   /** Resolves at the receipt: the message is in the journal. Without a connection it waits for one. It is never carried out twice: it is sent again
    *  only if the broker refused something before it, and so dropped it. */
   send(destination: string, body?: Body, headers?: Headers): Promise<void>;
+  /** As `send`, and again whenever it is certain not to be in the journal and may be later: it was `unsent`, or had no room (E12). Ends with the client. */
+  sendWithRetry(destination: string, body?: Body, headers?: Headers): Promise<void>;
+  /** How many sends, transactions and other calls have no answer yet. */
+  readonly underWay: number;
+  /** Resolves once at most so many are under way (100). */
+  drain(most?: number): Promise<void>;
   /** Sends without a receipt, for messages that are worthless later. Without a connection, if 1 MiB waits to be sent, or if the broker would refuse it,
    *  it does nothing. Returns whether it sent. */
   tell(destination: string, body?: Body, headers?: Headers): boolean;
   /** Throws if a subscription has this id. There are at most 16. `ready` rejects at once if an argument is wrong, and `onerror` gets that too. */
   subscribe(destination: string, heard: (message: Message) => unknown, options?: SubscribeOptions): Subscription;
+  subscribe(destination: string, heard: (message: Message<Uint8Array>) => unknown, options: Omit<SubscribeOptions, "body"> & { body: "bytes" }): Subscription;
   /** Carries out all that `work` puts into the transaction, or nothing. Resolves at the receipt of its COMMIT. */
   transaction(work: (tx: Transaction) => unknown): Promise<void>;
   /** Disconnects, and resolves once the connection is closed or `closeTimeout` is over. */

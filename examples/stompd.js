@@ -5,7 +5,7 @@
 "use strict";
 
 if (!globalThis.StompdFrames) throw new Error("stompd_frames.js has to be loaded before stompd.js");
-const { StompdError, checked, connectFrame, encoder, given, numbered, operationSize, read, refused, sendFrame, unsent, written } = StompdFrames;
+const { StompdError, bytesFrom, checked, connectFrame, given, numbered, operationSize, read, refused, sendFrame, textFrom, unsent, written } = StompdFrames;
 
 const NOTHING = () => {};
 /* What each option and call means stands in stompd.d.mts. */
@@ -18,7 +18,7 @@ const NAMELESS = "E13 durable subscription without a clientId", TWICE = "E11 unk
 /* Bytes that may wait in a socket before what is only told is left out. */
 const MOST_BUFFERED = 1 << 20;
 /* Further limits of the broker (docs/PROTOCOL.md, "Limits"). */
-const MOST_SUBSCRIPTIONS = 16, MOST_MEMBERS = 64, MOST_OPERATIONS = 262_144, MODES = ["auto", "client", "client-individual"];
+const MOST_SUBSCRIPTIONS = 16, MOST_MEMBERS = 64, MOST_OPERATIONS = 262_144, MODES = ["auto", "client", "client-individual"], BODIES = ["text", "bytes"];
 /* A receipt, or the name of a transaction. */
 const NUMBER = numbered(0);
 
@@ -43,12 +43,12 @@ class Pauses {
 
 /* What came for a subscription. */
 class Message {
-  #client; #link; #subscription;
+  #client; #link; #subscription; #body;
   constructor(client, link, subscription, headers, body) {
-    Object.assign(this, { headers, body });
-    [this.#client, this.#link, this.#subscription] = [client, link, subscription];
+    Object.assign(this, { headers, body: subscription.body == "bytes" ? bytesFrom(body) : textFrom(body) });
+    [this.#client, this.#link, this.#subscription, this.#body] = [client, link, subscription, body];
   }
-  get bytes() { return typeof this.body == "string" ? encoder.encode(this.body) : this.body; }
+  get bytes() { return bytesFrom(this.#body); }
   ack() { return this.#client.ask(() => [this.frame("ACK", this.#client)]); }
   nack() { return this.#client.ask(() => [this.frame("NACK", this.#client)], { destinations: [DEAD], makesRoom: true }); }
   /* An acknowledgement belongs to the connection that the message came by, and to its subscription. After these it comes again, or is another's. */
@@ -69,8 +69,8 @@ class Subscription {
   isReady = false; isEnded = false; isContested = false;
   /* The timers of messages that are not acknowledged yet. */
   #held = new Map();
-  constructor(client, id, headers, heard, ackWithin) {
-    Object.assign(this, { client, id, headers, heard, ackWithin });
+  constructor(client, id, headers, heard, { ackWithin, body }) {
+    Object.assign(this, { client, id, headers, heard, ackWithin, body });
     this.ready = leavable(new Promise((resolve, reject) => Object.assign(this, { resolve, reject })));
   }
   /* Has a message until it is acknowledged, or for `ackWithin`. */
@@ -179,7 +179,6 @@ class Link {
     socket.onerror = () => this.end({ code: 1006 });
     socket.onclose = ({ code }) => this.end({ code });
   }
-  get count() { return this.#asked.size; }
   lasted() { return this.#openedAt === undefined ? 0 : performance.now() - this.#openedAt; }
   forget(subscription) { this.ending = this.ending.filter(it => it !== subscription); }
   /* If one can't be written, none is sent. */
@@ -278,6 +277,8 @@ class Client {
   #names; #nameTimer;
   /* Where the broker had no room: the pauses of sending there, with the timer of one that lasts. If several last, all sending rests. */
   #full = new Map(); #restsWholly = false;
+  /* How many promises have no answer, and what waits for them to be fewer. */
+  #underWay = 0; #drains = [];
   #subscriptions = new Map(); #waiting = new Set(); #closing = [];
   /* connecting, open, lost, refused or closed. */
   state = "connecting";
@@ -295,12 +296,21 @@ class Client {
   /* The session that is open, or null. */
   get session() { return this.#link?.session ?? null; }
   get full() { return [...this.#full].filter(([, { timer }]) => timer).map(([destination]) => destination); }
+  get underWay() { return this.#underWay; }
   send(destination, body, headers = {}) {
+    return leavable((async () => { await this.#send(sendFrame(destination, body, headers, { receipt: NUMBER })); })());
+  }
+  sendWithRetry(destination, body, headers = {}) {
     return leavable((async () => {
       const frame = sendFrame(destination, body, headers, { receipt: NUMBER });
-      this.#hasRoom();
-      await this.ask(() => [frame], { destinations: [frame[1].destination] });
+      while (true) {
+        if (this.#underWay >= this.#options.mostWaiting) await this.drain(this.#options.mostWaiting - 1);
+        try { return await this.#send(frame); } catch (error) { if (!this.#isWanted || (error.kind != "unsent" && error.code != "E12")) throw error; }
+      }
     })());
+  }
+  async drain(most = 100) {
+    while (this.#underWay > most) await new Promise(resolve => this.#drains.push(resolve));
   }
   tell(destination, body, headers = {}) {
     try {
@@ -312,10 +322,10 @@ class Client {
       return false;
     }
   }
-  subscribe(destination, heard, { ack = "auto", ackWithin, durable, id: wanted = `subscription ${++this.#count}`, headers = {} } = {}) {
+  subscribe(destination, heard, { ack = "auto", ackWithin, body = "text", durable, id: wanted = `subscription ${++this.#count}`, headers = {} } = {}) {
     const id = String(wanted), name = durable === undefined ? {} : { "activemq.subscriptionName": durable };
     if (this.#subscriptions.has(id)) throw unsent(`there is a subscription ${id}`);
-    const subscription = new Subscription(this, id, { destination: String(destination), ack, ...name }, heard, ackWithin);
+    const subscription = new Subscription(this, id, { destination: String(destination), ack, ...name }, heard, { ackWithin, body });
     this.#subscriptions.set(id, subscription);
     if (this.#isWanted) this.#ask(subscription, headers); else this.drop(subscription);
     return subscription;
@@ -350,10 +360,16 @@ class Client {
   ask(make, { accepted = NOTHING, destinations = [], makesRoom = false } = {}) {
     return leavable(new Promise((resolve, reject) => {
       if (!this.#isWanted) throw unsent("the client is closed");
-      const isAccepted = () => { accepted(); this.#hadRoom(destinations); resolve(); };
-      const post = { make, reject, resolve: isAccepted, destinations, makesRoom, waits: true, since: performance.now() };
+      const ends = act => value => {
+        this.#underWay--;
+        act(value);
+        this.#drains.splice(0).forEach(it => it());
+      };
+      const isAccepted = ends(() => { accepted(); this.#hadRoom(destinations); resolve(); });
+      const post = { make, reject: ends(reject), resolve: isAccepted, destinations, makesRoom, waits: true, since: performance.now() };
+      this.#underWay++;
       if (this.session && !this.#isFull(post)) return this.#post(post);
-      make();                                  // what can't be sent later either is told now
+      try { make(); } catch (error) { return post.reject(error); }    // what can't be sent later either is told now
       this.#wait(post);
     }));
   }
@@ -425,9 +441,13 @@ class Client {
     this.state = state;
     this.#call(() => this.#options.onstate(state, detail));
   }
+  async #send(frame) {
+    this.#hasRoom();
+    await this.ask(() => [frame], { destinations: [frame[1].destination] });
+  }
   #hasRoom() {
     const { mostWaiting } = this.#options;
-    if (this.#waiting.size + (this.#link?.count ?? 0) >= mostWaiting) throw unsent(`${mostWaiting} others wait already`);
+    if (this.#underWay >= mostWaiting) throw unsent(`${mostWaiting} others wait already`);
   }
   #wait(post) {
     const { waitTimeout } = this.#options, isLate = () => {
@@ -490,6 +510,7 @@ class Client {
       if (!isFunction(subscription.heard)) throw unsent('subscribe takes a function, as subscribe("/topic/room", message => console.log(message.body))');
       const headers = subscription.headers = { ...given(further), ...subscription.headers };
       checked(["SUBSCRIBE", { ...headers, id }], { receipt: NUMBER });
+      if (!BODIES.includes(subscription.body)) throw unsent(`body is ${BODIES.join(" or ")}`);
       if (!MODES.includes(headers.ack)) throw refused(`E20 bad header value: ack is ${MODES.join(", ")}`);
       if (subscription.ackWithin !== undefined && headers.ack == "auto") throw unsent("ackWithin is for ack: \"client\" or \"client-individual\"");
       if (this.#subscriptions.size > MOST_SUBSCRIPTIONS) throw refused(`E18 too many subscriptions: ${MOST_SUBSCRIPTIONS} are the most`);

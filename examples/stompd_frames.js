@@ -21,6 +21,10 @@ const ESCAPES = { "\\": "\\\\", "\r": "\\r", "\n": "\\n", ":": "\\c" }, MEANINGS
 const escaped = text => String(text).replace(/[\\\r\n:]/g, letter => ESCAPES[letter]);
 const unescaped = text => text.replace(/\\(.)/g, (_, letter) => MEANINGS[letter]);
 const encoder = new TextEncoder(), decoder = new TextDecoder("utf-8", { fatal: true, ignoreBOM: true });
+/* A body as it was asked for. Bytes that are not UTF-8 have U+FFFD in a text. */
+const lossy = new TextDecoder("utf-8", { ignoreBOM: true });
+const textFrom = it => typeof it == "string" ? it : lossy.decode(it);
+const bytesFrom = it => typeof it == "string" ? encoder.encode(it) : it;
 const sizeOf = it => typeof it == "string" ? encoder.encode(it).length : it.length;
 /* Receipts and names of transactions, all as long as each other: a frame that is at a limit stays there. */
 const numbered = number => String(number).padStart(12, "0");
@@ -109,5 +113,5 @@ function read(data) {
   return { command, headers, body };
 }
 
-globalThis.StompdFrames = { StompdError, checked, connectFrame, encoder, given, numbered, operationSize, read, refused, sendFrame, unsent, written };
+globalThis.StompdFrames = { StompdError, bytesFrom, checked, connectFrame, given, numbered, operationSize, read, refused, sendFrame, textFrom, unsent, written };
 })();

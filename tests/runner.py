@@ -145,6 +145,7 @@ SCRIPTS = [
     Script("clients/independent.py"),
     Script("clients/browser.py"),
     Script("clients/module_types.py"),
+    Script("clients/module_package.py"),
     Script("clients/proxies.py"),
     Script("clients/secure_page.py"),
     Script("clients/containers.py"),
