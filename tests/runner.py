@@ -90,6 +90,7 @@ SCRIPTS = [
     Script("tests/program/version.py", light=""),
     Script("tests/program/ping.py", light="", waits=True),
     Script("tests/program/client.py", light="", waits=True),
+    Script("tests/program/client_goes_on.py", light="", waits=True),
     Script("tests/program/client_calls.py", light="", needs=("strace",)),
     Script("tests/program/move.py", light="", waits=True),
     Script("tests/program/closed_streams.py", light=""),

@@ -42,6 +42,14 @@ class Peer:
             self.socket.close()
             self.listener.close()
 
+    def take_next(self):
+        """Lets its client go, and waits for another."""
+        self.stream.close()
+        self.socket.close()
+        self.socket, _ = self.listener.accept()
+        self.socket.settimeout(30)
+        self.stream, self.buffer = self.socket.makefile("rb"), bytearray()
+
     def shake(self):
         """Accepts the handshake (RFC 6455, section 4.2.2); answers the lines of its head."""
         lines = []
@@ -125,3 +133,16 @@ def ending(peer, _):
 
 def nothing(*_):
     pass
+
+
+def one_after_another(*acts):
+    """A peer that does each of these with a client of its own."""
+
+    def act(peer):
+        for number, one in enumerate(acts):
+            if number:
+                peer.take_next()
+            with contextlib.suppress(EOFError):
+                one(peer)
+
+    return act

@@ -239,7 +239,8 @@ def durables(program, checks):
                 if first:
                     break
             checks.check("a durable listener prints", turn < 199)
-            checks.same("the name is in use", run(program, "listen", broker.port, "/topic/t", *durable), (1, b"", told("no more messages: ERROR: E14 durable subscription unknown, in use or of another topic")))
+            in_use = "no more messages: ERROR: E14 durable subscription unknown, in use or of another topic; waiting up to 90 s for another session to end"
+            checks.same("the name is in use", run(program, "listen", broker.port, "/topic/t", *durable, "--timeout", 1), (4, b"", told(in_use) + told(NONE)))
             checks.same("and is not given up", run(program, "forget", broker.port, "kiosk", "news"), (1, b"", told("no RECEIPT: ERROR: E14 durable subscription unknown, in use or of another topic")))
         for body in ("one", "two"):
             run(program, "send", broker.port, "/topic/t", body)

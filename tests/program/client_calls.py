@@ -1,6 +1,7 @@
 #!/usr/bin/env python3
 """The system calls of the program's client, by strace: each read and write of its socket has a time limit of five seconds at most, and RECEIPTs that came
-before the end of a connection count, though a write has found that end. A write of `move` that takes too long ends it.
+before the end of a connection count, though a write has found that end. A write of `move` that takes too long ends it, and a call that a signal
+interrupts is made again. `listen` waits for a network that is away.
 
     python3 tests/program/client_calls.py [PROGRAM]
 
@@ -13,7 +14,7 @@ import tempfile
 import time
 
 from lib.commands import run
-from lib.fake_peer import CONNECTED, Peer, answering, close, connected, receipted, saying
+from lib.fake_peer import CONNECTED, Peer, answering, close, connected, ending, one_after_another, receipted, saying
 from lib.scenario import try_parts
 from lib.tracing import need_strace, strace
 
@@ -24,10 +25,10 @@ LINES, WRITTEN = b"one\ntwo\nthree\n", 4
 ENDED = "sendto:error={}:delay_enter=300000:when=%d+" % (WRITTEN + 1)
 
 
-def traced(program, words, given, *faults):
+def traced(program, words, given, *faults, calls="sendto,recvfrom,setsockopt"):
     """What the program came to, and the lines of its trace."""
     with tempfile.NamedTemporaryFile("r") as trace:
-        status, _, said = run(*strace(trace.name, "sendto,recvfrom,setsockopt", *faults, has_texts=True), program, *words, given=given)
+        status, _, said = run(*strace(trace.name, calls, *faults, has_texts=True), program, *words, given=given)
         return (status, said), trace.read().splitlines()
 
 
@@ -117,6 +118,30 @@ def silence(program, checks):
         checks.same(f"and ends it with {more}", seen, wanted)
 
 
+def interrupted(program, checks):
+    """A call that a signal interrupts is made again."""
+    for call in ("sendto", "recvfrom", "poll"):
+        peer = Peer(ends_after(connected, receipted, receipted))
+        seen, trace = traced(program, ["send", str(peer.port), "/queue/a", "x"], b"", f"{call}:error=EINTR:when=1+2", calls=call)
+        peer.end()
+        count = sum("EINTR" in it for it in trace)
+        checks.check(f"{call} is made again", seen == (0, "") and count > 0, (seen, count))
+
+
+def unreached(program, checks):
+    """`listen` connects again once a network leads to the server, and the host has its address (connect(2), "Errors")."""
+    message = b"MESSAGE\nsubscription:heard\nmessage-id:1.0\ndestination:/topic/a\n\nx\0"
+    again = "stompd: no more messages: the connection has ended; connecting again\n"
+    for error in ("ENETUNREACH", "EHOSTUNREACH", "ENETDOWN", "EADDRNOTAVAIL"):
+        peer = Peer(one_after_another(answering(connected, ending), answering(connected, saying(message), receipted, lambda peer, _: close(peer))))
+        words = ["listen", str(peer.port), "/topic/a", "--count", "1"]
+        seen, trace = traced(program, words, b"", f"connect:error={error}:when=2..3", calls="connect")
+        peer.end()
+        checks.same(f"{error} passes", (seen, sum(error in it for it in trace)), ((0, again), 2))
+    seen, _ = traced(program, ["send", "1", "/queue/a", "x"], b"", "connect:error=ENETUNREACH", calls="connect")
+    checks.same("who does not wait says so", seen, (1, "stompd: no connection: no network leads there\n"))
+
+
 if __name__ == "__main__":
     need_strace()
-    sys.exit(try_parts(__doc__, (limits, receipts_before_the_end, a_write_that_waits, silence)))
+    sys.exit(try_parts(__doc__, (limits, receipts_before_the_end, a_write_that_waits, silence, interrupted, unreached)))

@@ -302,7 +302,7 @@ SUBSCRIBE = b"SUBSCRIBE\nid:heard\ndestination:/queue/a\nack:client-individual\n
 def transaction(number, delivered, body, kept=b""):
     send = b"SEND\ndestination:/queue/b\ntransaction:%d\ncontent-length:%d\n%s\n%s\0" % (number, len(body), kept, body)
     begin, commit = b"BEGIN\ntransaction:%d\n\n\0" % number, b"COMMIT\ntransaction:%d\nreceipt:%d\n\n\0" % (number, number)
-    return begin + send + b"ACK\nid:%d\ntransaction:%d\n\n\0" % (delivered, number) + commit
+    return begin + b"ACK\nid:%d\ntransaction:%d\n\n\0" % (delivered, number) + send + commit
 
 
 def frames_to(peer):

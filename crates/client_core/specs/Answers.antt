@@ -13,10 +13,10 @@ use Rattle.client_core.specs.declared.fault.Step.TheVariants.{Connected, Receipt
 use Rattle.client_core.specs.declared.probe.Probe.{Probe}
 use Rattle.client_core.specs.declared.probe.Probe.TheVariants.{Connect, Send, Disconnect}
 
--- the frame that is said (STOMP 1.2, "CONNECT or STOMP Frame", "SEND", "DISCONNECT"), up to its NUL
+-- the frames that are said (STOMP 1.2, "CONNECT or STOMP Frame", "BEGIN", "COMMIT", "DISCONNECT"), up to the last NUL
 abbrev pub said : Probe → List ℕ
 said Connect = codes "CONNECT\naccept-version:1.2\nhost:127.0.0.1\n\n" ++ 0 ∷ []
-said Send = codes "SEND\ndestination:/topic/stompd-ping\nreceipt:sent\n\nping" ++ 0 ∷ []
+said Send = codes "BEGIN\ntransaction:ping\n\n" ++ 0 ∷ codes "COMMIT\ntransaction:ping\nreceipt:sent\n\n" ++ 0 ∷ []
 said Disconnect = codes "DISCONNECT\nreceipt:left\n\n" ++ 0 ∷ []
 
 -- the step that goes wrong if no answer comes

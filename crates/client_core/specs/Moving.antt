@@ -1,11 +1,13 @@
 -- How messages are moved from one place to another.
-use Rattle.std.specs.Prelude.{◌≡◌, ◌⊎◌, ◌+◌, ◌++◌, ◌||◌, List, [], ◌∷◌, ℕ, Bool, Some, bytes_eq, codes, decimal, drop, false, filter, flat_map, length, not, true}
+use Rattle.std.specs.Prelude.{◌≡◌, ◌<◌, ◌≤◌, ◌⊎◌, ◌+◌, ◌^◌, ◌++◌, ◌==◌, ◌||◌, List, [], ◌∷◌, ℕ, Bool, None, Option, Some, ⊤, bytes_eq, codes, decimal, drop, false, filter, flat_map, length, not, true}
+use Rattle.std.specs.List.{before_first}
 use Rattle.frame_core.specs.declared.frame.Frame.{Frame}
 use Rattle.frame_core.specs.declared.frame.Verb.{Verb}
 use Rattle.frame_core.specs.declared.frame.Verb.TheVariants as verbs
 use Rattle.frame_core.specs.Writable.{first_of}
 use Rattle.frame_core.specs.Written.{written}
 use Rattle.client_core.specs.Answers.{IsReceiptOf}
+use Rattle.client_core.specs.Lines.{Means}
 use Rattle.client_core.specs.declared.moving.Route.{Route}
 use Rattle.client_core.specs.declared.moving.Saying.{Saying}
 use Rattle.client_core.specs.declared.moving.Saying.TheVariants.{Here, There}
@@ -39,12 +41,12 @@ sent_frame to more headers body = record {
 abbrev pub moved_frame : List ℕ → List ℕ × List ℕ → Frame → Frame
 moved_frame to more message = sent_frame to more message.headers message.body
 
--- the frames that move a message in one transaction: SEND to its new place, and ACK of this delivery
+-- the frames that move a message in one transaction: ACK of this delivery, whose room the message needs, and SEND to its new place
 abbrev pub transaction_frames : List ℕ → List ℕ → Frame → List ℕ → List Frame
 transaction_frames number to message delivery =
     bare_frame verbs.Begin ((codes "transaction", number) ∷ [])
-    ∷ moved_frame to (codes "transaction", number) message
     ∷ bare_frame verbs.Ack ((codes "id", delivery) ∷ (codes "transaction", number) ∷ [])
+    ∷ moved_frame to (codes "transaction", number) message
     ∷ bare_frame verbs.Commit ((codes "transaction", number) ∷ (codes "receipt", number) ∷ [])
     ∷ []
 
@@ -52,11 +54,36 @@ transaction_frames number to message delivery =
 abbrev pub settling_frame : List ℕ → List ℕ → Frame
 settling_frame number delivery = bare_frame verbs.Ack ((codes "id", delivery) ∷ (codes "receipt", number) ∷ [])
 
--- The messages that came and are not moved, in their order; how far the first of them is; and how many were moved.
+-- The messages that came and are not moved, in their order; how far the first of them is; and how many were moved. The number that a message
+-- had at most that was there when it began, if that is known; and whether one came that was not.
 pub record Moves : Type 0 where
   pub waiting : List Frame
   pub stage : Stage
   pub moved : ℕ
+  pub bound : Option ℕ
+  pub is_over : Bool
+
+-- the number that CONNECTED gives a session
+abbrev pub IsSession : ℕ → Frame → Type 0
+IsSession number frame = (text : List ℕ) × (first_of (codes "session") frame.headers ≡ Some text) × Means text number
+
+-- The number of the command by which a message came stands before the point of its `message-id` (docs/PROTOCOL.md, "The broker").
+abbrev pub IsNumbered : ℕ → Frame → Type 0
+IsNumbered number message = (id : List ℕ) × (first_of (codes "message-id") message.headers ≡ Some id) × Means (before_first (λ b. b == 46) id) number
+
+-- a message came after the command of that number, if that is known
+abbrev pub IsLater : Option ℕ → Frame → Type 0
+IsLater None message = ⊥
+IsLater (Some limit) message = (number : ℕ) × IsNumbered number message × (limit < number)
+
+-- it did not, or nobody knows, since one of both has no number
+abbrev pub IsEarly : Option ℕ → Frame → Type 0
+IsEarly None message = ⊤
+IsEarly (Some limit) message = ((number : ℕ) × IsNumbered number message × (number ≤ limit)) ⊎ ((number : ℕ) → number < 2 ^ 64 → IsNumbered number message → ⊥)
+
+-- one came that was not there when it began, and none waits
+abbrev pub IsDone : Moves → Type 0
+IsDone moves = (moves.is_over ≡ true) × (moves.waiting ≡ [])
 
 -- the number of the message that is moved next, or is under way
 abbrev pub number_of : Moves → List ℕ
@@ -98,12 +125,13 @@ is_owed _ = false
 abbrev pub IsSilent : Moves → Type 0
 IsSilent moves = (moves.waiting ≡ []) ⊎ (is_owed moves.stage ≡ true)
 
--- a message came, which waits last; or the RECEIPT of the one that was settled, which is moved
+-- a message came, which waits last if it was there when it began; or the RECEIPT of the one that was settled, which is moved
 abbrev pub HearsHere : Frame → Moves → Moves → Type 0
 HearsHere frame before after =
-    ((frame.verb ≡ verbs.Message) × (after ≡ record before { waiting = before.waiting ++ frame ∷ [] }))
+    ((frame.verb ≡ verbs.Message) × IsEarly before.bound frame × (after ≡ record before { waiting = before.waiting ++ frame ∷ [] }))
+    ⊎ ((frame.verb ≡ verbs.Message) × IsLater before.bound frame × (after ≡ record before { is_over = true }))
     ⊎ ((before.stage ≡ Settling) × IsReceiptOf (number_of before) frame × (message : Frame) × (more : List Frame) × (before.waiting ≡ message ∷ more)
-    × (after ≡ record { waiting = more; stage = Free; moved = before.moved + 1 }))
+    × (after ≡ record before { waiting = more; stage = Free; moved = before.moved + 1 }))
 
 -- the RECEIPT of the message that was sent to the other server, which has it now
 abbrev pub HearsThere : Frame → Moves → Moves → Type 0

@@ -76,7 +76,7 @@ Leads Connect talk = talk ≡ []
 Leads Send talk = (one : List (List ℕ)) × (talk ≡ turn (said Connect) one) × IsAnswered Connect one
 Leads Disconnect talk = (one : List (List ℕ)) × (two : List (List ℕ)) × (talk ≡ turn (said Connect) one ++ turn (said Send) two) × IsAnswered Connect one × IsAnswered Send two
 
--- the whole conversation of a ping: CONNECT, SEND and DISCONNECT, each said once the one before is answered, and all answered
+-- the whole conversation of a ping: CONNECT, a COMMIT and DISCONNECT, each said once the one before is answered, and all answered
 abbrev pub Converses : Option (List Spoken) → Option (List Spoken) → Type 0
 Converses before after =
     (talk : List Spoken) × (last : List (List ℕ)) × Leads Disconnect talk × Adds (talk ++ turn (said Disconnect) last) before after × IsAnswered Disconnect last

@@ -1,9 +1,10 @@
 -- What is told of a conversation that was not finished.
-use Rattle.std.specs.Prelude.{Bool, List, [], ℕ, ◌++◌, ◌==◌, ◌||◌, codes, cond, false, true}
+use Rattle.std.specs.Prelude.{Bool, List, [], ℕ, ◌++◌, ◌==◌, ◌&&◌, ◌||◌, codes, cond, false, nat_eq, nat_lt, true}
+use Rattle.std.specs.List.{starts_with}
 use Rattle.std.specs.Fmt.{decimal}
 use Rattle.frame_core.specs.Verbs.{name_of}
 use Rattle.client_core.specs.declared.fault.Cause.{Cause}
-use Rattle.client_core.specs.declared.fault.Cause.TheVariants.{Unserved, NoHost, Late, Silent, Status, NotWebSocket, Closed, Ended, Error, Other, NotStomp, Unwritable, Memory, System, Quiet}
+use Rattle.client_core.specs.declared.fault.Cause.TheVariants.{Unserved, NoHost, Unreached, Late, Silent, Status, NotWebSocket, Closed, Ended, Error, Other, NotStomp, Unwritable, Memory, System, Quiet}
 use Rattle.client_core.specs.declared.fault.Cause.TheVariants as causes
 use Rattle.client_core.specs.declared.fault.ClientFault.{ClientFault}
 use Rattle.client_core.specs.declared.fault.Step.{Step}
@@ -24,6 +25,7 @@ step_text Close = codes "no close: "
 abbrev pub cause_text : Cause → List ℕ
 cause_text Unserved = codes "nobody listens there"
 cause_text NoHost = codes "there is no such host"
+cause_text Unreached = codes "no network leads there"
 cause_text Silent = codes "nothing came for 90 s"
 cause_text Late = codes "no answer within 5 s"
 cause_text (Status status) = codes "HTTP status " ++ decimal status
@@ -54,24 +56,46 @@ is_unknown Receipt Unwritable = false
 is_unknown Receipt _ = true
 is_unknown _ _ = false
 
+-- the connection was taken, and ended before the handshake was answered
+abbrev pub is_unanswered : Step → Cause → Bool
+is_unanswered Handshake Ended = true
+is_unanswered _ _ = false
+
+-- the server is alive, as one that is full is: it has no more places for those whom it would tell that either
+abbrev pub is_crowded : Step → Cause → Bool
+is_crowded step cause = is_of_full step cause || is_unanswered step cause
+
 -- the status of a ping that was not answered: a server that is full is alive
 abbrev pub ping_status : ClientFault → ℕ
-ping_status fault = cond (is_of_full fault.step fault.cause) 3 1
+ping_status fault = cond (is_crowded fault.step fault.cause) 3 1
+
+-- the server refuses a subscription since another session has its durable name (docs/PROTOCOL.md, "Codes": E14)
+abbrev pub is_of_held : Step → Cause → Bool
+is_of_held Message (Error text) = starts_with nat_eq text (codes "E14 ")
+is_of_held Farewell (Error text) = starts_with nat_eq text (codes "E14 ")
+is_of_held _ _ = false
+
+-- that may pass: the other session's client may be gone, which a server finds within 90 seconds
+abbrev pub may_pass : ℕ → ClientFault → Bool
+may_pass waited fault = is_of_held fault.step fault.cause && nat_lt waited 90
 
 -- no message came for as long as was allowed
 abbrev pub is_quiet : Cause → Bool
 is_quiet Quiet = true
 is_quiet _ = false
 
--- the status of a conversation that was not finished: that of a ping, or its own if no message came
+-- the status of a conversation that was not finished: its own if no message came, or if the server is full
 abbrev pub call_status : ClientFault → ℕ
-call_status fault = cond (is_quiet fault.cause) 4 (ping_status fault)
+call_status fault = cond (is_quiet fault.cause) 4 (cond (is_of_full fault.step fault.cause) 3 1)
 
--- The server or the connection is gone, and may be there again: nobody listens or answers in time, the connection has ended, or it was
+-- The server or the connection is gone, and may be there again: nobody listens or answers in time, no network leads to the host or to
+-- who knows its name, the connection has ended, or it was
 -- closed since the server goes away, starts again or has no time (RFC 6455, section 7.4.1, and its registry: 1001, 1012, 1013); or what
 -- stands before the server does not reach it (RFC 9110, 15.6.3 to 15.6.5).
 abbrev pub is_gone : Cause → Bool
 is_gone Unserved = true
+is_gone NoHost = true
+is_gone Unreached = true
 is_gone Late = true
 is_gone Ended = true
 is_gone (Closed code) = code == 1001 || code == 1012 || code == 1013

@@ -7,6 +7,9 @@ use crate::moving::Stage;
 use frame_core::{Text, Verb};
 use std::fmt;
 
+// For how many seconds it is tried again to get a durable name that another session has.
+const HELD_SECONDS: u64 = 90;
+
 /// A step of a conversation. Each may take five seconds, but for a message, which may take 90.
 #[derive(Clone, Copy)]
 pub enum Step {
@@ -76,6 +79,8 @@ pub enum Cause {
     Unserved,
     /// There is no host of that name, or the URL has none.
     NoHost,
+    /// No way leads there: the network, the host or an address of this machine is away.
+    Unreached,
     /// Five seconds have passed.
     Late,
     /// Nothing has come for 90 seconds, in which a server pings.
@@ -117,6 +122,7 @@ impl fmt::Display for Cause {
         match self {
             Cause::Unserved => f.write_str("nobody listens there"),
             Cause::NoHost => f.write_str("there is no such host"),
+            Cause::Unreached => f.write_str("no network leads there"),
             Cause::Late => f.write_str("no answer within 5 s"),
             Cause::Silent => f.write_str("nothing came for 90 s"),
             Cause::Status(status) => write!(f, "HTTP status {status}"),
@@ -159,6 +165,53 @@ impl ClientFault {
 
 impl ClientFault {
     ghost use Rattle.std.specs.Prelude.{◌≡◌};
+    ghost use Rattle.client_core.specs.Texts.{is_crowded};
+
+    /// Whether the server is alive, as one that is full is: it says so, or takes the connection and ends it without an answer.
+    pub fn is_of_crowded_server(&self) -> bool
+        ensures { result ≡ is_crowded self.now.step self.now.cause }
+    {
+        self.is_of_full_server() || self.is_unanswered()
+    }
+}
+
+impl ClientFault {
+    ghost use Rattle.std.specs.Prelude.{◌≡◌};
+    ghost use Rattle.client_core.specs.Texts.{is_unanswered};
+
+    /// Whether the connection was taken, and ended before a byte of the handshake's answer.
+    pub fn is_unanswered(&self) -> bool
+        ensures { result ≡ is_unanswered self.now.step self.now.cause }
+    {
+        match (self.step, &self.cause) {
+            (Step::Handshake, Cause::Ended) => true,
+            _ => false,
+        }
+    }
+}
+
+impl ClientFault {
+    ghost use Rattle.std.specs.Prelude.{◌≡◌};
+    ghost use Rattle.client_core.specs.Texts.{may_pass};
+
+    /// Whether it is worth another try, so many seconds after it came first: another session has the durable name (E14), whose client may be
+    /// gone. A server takes at most 80 seconds to end such a session.
+    pub fn may_pass(&self, waited: u64) -> bool
+        ensures { result ≡ may_pass waited self.now }
+    {
+        match (self.step, &self.cause) {
+            // Of a subscription that waits no longer it comes in place of the last RECEIPT.
+            (Step::Message | Step::Farewell, Cause::Error(text)) => text
+                .as_str()
+                .starts_with("E14 ")
+                && waited < HELD_SECONDS,
+            _ => false,
+        }
+    }
+}
+
+impl ClientFault {
+    ghost use Rattle.std.specs.Prelude.{◌≡◌};
     ghost use Rattle.client_core.specs.Texts.{is_unknown};
 
     /// Whether a message was sent, and no answer shows whether it was taken.
@@ -189,7 +242,7 @@ impl ClientFault {
         ensures { result ≡ is_gone self.now.cause }
     {
         match &self.cause {
-            Cause::Unserved | Cause::Late | Cause::Ended => true,
+            Cause::Unserved | Cause::NoHost | Cause::Unreached | Cause::Late | Cause::Ended => true,
             Cause::Closed(code) => *code == 1001 || *code == 1012 || *code == 1013,
             Cause::Status(status) => *status == 502 || *status == 503 || *status == 504,
             _ => false,

@@ -337,8 +337,8 @@ fn line_of(frame: &Frame) -> Option<u64>
     }
 }
 
-// The number that decimal digits mean.
-fn number_of(text: &str) -> Option<u64>
+/// The number that decimal digits mean.
+pub(crate) fn number_of(text: &str) -> Option<u64>
     ensures some { IfSome result (Means text.now) }
     ensures none { IfNone result ((number : ℕ) → Means text.now number → 2 ^ 64 ≤ number) }
 {

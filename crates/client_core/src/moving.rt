@@ -1,14 +1,16 @@
 //! What a mover of messages sends next, and what it makes of what it reads.
 
-ghost use Rattle.std.specs.Prelude.{◌≡◌, ◌+◌, ◌↔◌, ◌++◌, ◌∷◌, [], IfErr, IfNone, IfOk, IfSome, IsTrue, List, OnOk, ℕ, codes, decimal, flat_map, true};
+ghost use Rattle.std.specs.Prelude.{◌≡◌, ◌<◌, ◌+◌, ◌^◌, ◌↔◌, ◌++◌, ◌==◌, ◌∷◌, [], IfErr, IfNone, IfOk, IfSome, IsTrue, List, OnErr, OnOk, Some, ℕ, codes, decimal, false, flat_map, true};
+ghost use Rattle.std.specs.List.{before_first};
 ghost use Rattle.frame_core.specs.Written.{written};
 ghost use Rattle.client_core.specs.declared.moving.Stage.TheVariants.{Sent, Settling};
 ghost use Rattle.client_core.specs.Answers.{IsReceiptOf};
-ghost use Rattle.client_core.specs.Moving.{IsSaid, IsSettledBy, bare_frame, is_made_anew, is_owed, kept_headers, moved_frame, sent_frame, settling_frame, stage_after, transaction_frames};
+ghost use Rattle.client_core.specs.Moving.{IsEarly, IsLater, IsNumbered, IsSaid, IsSession, IsSettledBy, bare_frame, is_made_anew, is_owed, kept_headers, moved_frame, sent_frame, settling_frame, stage_after, transaction_frames};
 ghost use Rattle.frame_core.specs.declared.frame.Verb.TheVariants.{Ack, Begin, Commit};
 ghost use Rattle.client_core.specs.Talks.{IsOfPeer};
 
 use crate::fault::Cause;
+use crate::lines::number_of;
 use crate::listening::is_message;
 use crate::probe::{cause_by, is_receipt_of};
 use crate::requests::{add, add_length, spelled};
@@ -53,6 +55,10 @@ pub struct Mover {
     waiting: VecDeque<Frame>,
     stage: Stage,
     moved: u64,
+    // The number that a message had at most that was there when it began, if that is known.
+    bound: Option<u64>,
+    // Whether a message came that was not there yet.
+    is_over: bool,
 }
 
 impl Model for Mover {
@@ -60,23 +66,40 @@ impl Model for Mover {
 
     ghost Value = { Moves };
 
-    ghost view = { λ a. record { waiting = a.waiting.items; stage = a.stage; moved = a.moved } };
+    ghost view = { λ a. record { waiting = a.waiting.items; stage = a.stage; moved = a.moved; bound = a.bound; is_over = a.is_over } };
 }
 
 impl Mover {
-    ghost use Rattle.std.specs.Prelude.{◌≡◌, [], IfNone, IfOk, IfSome, OnErr, OnOk};
+    ghost use Rattle.std.specs.Prelude.{◌≡◌, ◌↔◌, [], IfNone, IfOk, IfSome, IsTrue, None, OnErr, OnOk, false};
+    ghost use Rattle.frame_core.specs.declared.frame.Verb.TheVariants.{Message};
     ghost use Rattle.client_core.specs.declared.moving.Stage.TheVariants.{Free};
-    ghost use Rattle.client_core.specs.Moving.{HearsHere, HearsThere, IsSilent, Says};
+    ghost use Rattle.client_core.specs.Moving.{HearsHere, HearsThere, IsDone, IsSilent, Says};
 
     /// No message has come. No memory is taken.
     pub fn new(alloc: Global) -> Mover
-        ensures { result ≡ record { waiting = []; stage = Free; moved = 0 } }
+        ensures { result ≡ record { waiting = []; stage = Free; moved = 0; bound = None; is_over = false } }
     {
         Mover {
             waiting: VecDeque::new(alloc),
             stage: Stage::Free,
             moved: 0,
+            bound: None,
+            is_over: false,
         }
+    }
+
+    /// From now on it leaves messages that came after the command of that number, if there is one.
+    pub fn limit(&mut self, bound: Option<u64>)
+        ensures { self.new ≡ record self.old { bound = bound } }
+    {
+        self.bound = bound;
+    }
+
+    /// Whether all are moved that were there when it began: one came that was not, and none waits.
+    pub fn is_done(&self) -> bool
+        ensures { IsTrue result ↔ IsDone self.now }
+    {
+        self.is_over && self.waiting.is_empty()
     }
 
     /// How many messages were moved.
@@ -117,14 +140,28 @@ impl Mover {
         ensures same { OnErr result (self.new ≡ self.old) }
     {
         if is_message(frame.verb) {
-            return match self.waiting.push_back(frame) {
-                Ok(()) => Ok(()),
-                Err(_) => Err(Cause::Memory),
-            };
+            return self.take_in(frame);
         }
         let heard = self.settle(alloc, &frame);
         drop(frame);
         heard
+    }
+
+    // Takes a message, unless it was not there when it began.
+    fn take_in(&mut self, frame: Frame) -> Result<(), Cause>
+        requires { frame.verb ≡ Message }
+        ensures ok { OnOk result (HearsHere frame self.old self.new) }
+        ensures same { OnErr result (self.new ≡ self.old) }
+    {
+        if is_later(self.bound, &frame) {
+            drop(frame);
+            self.is_over = true;
+            return Ok(());
+        }
+        match self.waiting.push_back(frame) {
+            Ok(()) => Ok(()),
+            Err(_) => Err(Cause::Memory),
+        }
     }
 
     // Takes the RECEIPT of the message that was settled.
@@ -158,6 +195,60 @@ impl Mover {
         }
         self.stage = Stage::Stored;
         Ok(())
+    }
+}
+
+/// The number that CONNECTED gives a session: that of the command that opened it (docs/PROTOCOL.md, "The broker").
+pub fn session_of(frame: &Frame) -> Option<u64>
+    ensures some { IfSome result (λ number. IsSession number frame.now) }
+    ensures none { IfNone result ((number : ℕ) → number < 2 ^ 64 → IsSession number frame.now → ⊥) }
+{
+    match first(frame, "session") {
+        Some(session) => number_of(session),
+        None => None,
+    }
+}
+
+// Whether a message came after the command of that number, if both are known.
+fn is_later(bound: Option<u64>, message: &Frame) -> bool
+    ensures later { result ≡ true → IsLater bound message.now }
+    ensures early { result ≡ false → IsEarly bound message.now }
+{
+    match bound {
+        Some(bound) => is_after(bound, message),
+        None => false,
+    }
+}
+
+// The same of a number that is known.
+fn is_after(bound: u64, message: &Frame) -> bool
+    ensures later { result ≡ true → IsLater (Some bound) message.now }
+    ensures early { result ≡ false → IsEarly (Some bound) message.now }
+{
+    match message_number(message) {
+        Some(number) => number > bound,
+        None => false,
+    }
+}
+
+// The number of the command by which a message came: that before the point of its `message-id`.
+fn message_number(message: &Frame) -> Option<u64>
+    ensures some { IfSome result (λ number. IsNumbered number message.now) }
+    ensures none { IfNone result ((number : ℕ) → number < 2 ^ 64 → IsNumbered number message.now → ⊥) }
+{
+    match first(message, "message-id") {
+        Some(id) => number_of(before_point(id)),
+        None => None,
+    }
+}
+
+// A text up to its first point.
+fn before_point(text: &str) -> &str
+    ensures { result.now ≡ before_first (λ b. b == 46) text.now }
+{
+    match text.split_once('.') {
+        Some((front, _)) => front,
+        None => text,
     }
 }
 
@@ -251,7 +342,7 @@ fn far_of(alloc: Global, moved: u64, route: &Route<'_>, message: &Frame) -> Resu
     text
 }
 
-// SEND and ACK of a message in one transaction, after that many were moved.
+// ACK and SEND of a message in one transaction, after that many were moved.
 fn transaction_of(
     alloc: Global,
     moved: u64,
@@ -298,7 +389,8 @@ fn settling_of(alloc: Global, moved: u64, message: &Frame) -> Result<Vec<u8>, Ca
     text
 }
 
-/// SEND and ACK of a message in a transaction of that name, whose COMMIT has it as its receipt: its body, and the headers that it keeps.
+/// ACK and SEND of a message in a transaction of that name, whose COMMIT has it as its receipt: its body, and the headers that it keeps. A
+/// server that is full has the room that the ACK gives back, since members are applied in their order.
 pub fn transaction_text(
     alloc: Global,
     number: &str,
@@ -310,11 +402,11 @@ pub fn transaction_text(
     ensures cause { IfErr result IsOfPeer }
 {
     let mut text = begin_text(alloc, number)?;
+    join(&mut text, ack_text(alloc, "transaction", number, delivery)?)?;
     join(
         &mut text,
         moved_text(alloc, "transaction", number, to, message)?,
     )?;
-    join(&mut text, ack_text(alloc, "transaction", number, delivery)?)?;
     join(&mut text, commit_text(alloc, number)?)?;
     Ok(text)
 }

@@ -2,9 +2,12 @@
 
 ghost use Rattle.std.specs.Prelude.{◌≡◌};
 ghost use Rattle.client_core.specs.Requests.{is_own, mode_of};
-ghost use Rattle.client_core.specs.Courses.{course_after, course_of, goes_on};
+ghost use Rattle.client_core.specs.Courses.{course_after, course_of, goes_on, is_among};
 
 use crate::fault::{ClientFault, Step};
+use frame_core::Text;
+use std::alloc::{AllocError, Global};
+use std::marker::Model;
 
 /// A message that is to be sent.
 #[derive(Clone, Copy)]
@@ -129,4 +132,65 @@ impl Course {
             && fault.step.is_before_message()
             && fault.is_of_gone_server()
     }
+}
+
+// How many messages of a subscription may be unacknowledged (docs/PROTOCOL.md, "Limits").
+const MOST_UNACKNOWLEDGED: usize = 16;
+
+/// The `message-id`s of the messages that were printed last. After a connection is lost no others come again, since a server hands out no
+/// more before some are acknowledged.
+#[derive(Drop)]
+pub struct Printed {
+    last: Vec<Text>,
+}
+
+impl Model for Printed {
+    ghost use Rattle.std.specs.Prelude.{List, ℕ};
+
+    ghost Value = { List (List ℕ) };
+
+    ghost view = { λ a. a.last.items };
+}
+
+impl Printed {
+    ghost use Rattle.std.specs.Prelude.{◌≡◌, [], IfOk, OnErr, OnOk, not};
+    ghost use Rattle.client_core.specs.Courses.{is_among, printed_after};
+
+    /// None was printed. No memory is taken.
+    pub fn new(alloc: Global) -> Printed
+        ensures { result ≡ [] }
+    {
+        Printed {
+            last: Vec::new(alloc),
+        }
+    }
+
+    /// Notes that a message is printed, and answers whether it counts: it was not among the last ones. If memory is refused, nothing
+    /// changes.
+    pub fn note(&mut self, id: Text) -> Result<bool, AllocError>
+        ensures counts { IfOk result (λ counts. counts ≡ not (is_among id self.old)) }
+        ensures noted { OnOk result (self.new ≡ printed_after id self.old) }
+        ensures same { OnErr result (self.new ≡ self.old) }
+    {
+        if is_among(self.last.as_slice(), id.as_str()) {
+            drop(id);
+            return Ok(false);
+        }
+        self.last.push(id)?;
+        if self.last.len() > MOST_UNACKNOWLEDGED {
+            drop(self.last.remove(0));
+        }
+        Ok(true)
+    }
+}
+
+fn is_among(ids: &[Text], id: &str) -> bool
+    ensures { result ≡ is_among id.now ids.now }
+{
+    for one in ids {
+        if one.as_str() == id {
+            return true;
+        }
+    }
+    false
 }

@@ -18,7 +18,7 @@ use std::alloc::{AllocError, Global};
 pub enum Probe {
     /// CONNECT, which CONNECTED answers.
     Connect,
-    /// SEND to a topic without subscribers, which a RECEIPT answers once it is in the journal.
+    /// BEGIN, and COMMIT of no members, which a RECEIPT answers once it is in the journal. It needs no room there, and concerns nobody.
     Send,
     /// DISCONNECT, which a RECEIPT answers.
     Disconnect,
@@ -31,7 +31,8 @@ impl Probe {
     {
         match self {
             Probe::Connect => "CONNECT\naccept-version:1.2\nhost:127.0.0.1\n\n\0",
-            Probe::Send => "SEND\ndestination:/topic/stompd-ping\nreceipt:sent\n\nping\0",
+            Probe::Send =>
+                "BEGIN\ntransaction:ping\n\n\0COMMIT\ntransaction:ping\nreceipt:sent\n\n\0",
             Probe::Disconnect => "DISCONNECT\nreceipt:left\n\n\0",
         }
     }

@@ -168,8 +168,8 @@ fn part<P: Peer>(alloc: Global, peer: &mut P) {
     drop(leave(alloc, peer));
 }
 
-/// Sends CONNECT, SEND and DISCONNECT, each once the frame before is answered, and closes. Answers how long it was from the SEND
-/// to its RECEIPT. A fault names the first step that went wrong.
+/// Sends CONNECT, a COMMIT of no members and DISCONNECT, each once the frame before is answered, and closes. Answers how long it was
+/// from the COMMIT to its RECEIPT. A fault names the first step that went wrong.
 pub fn converse<C: Clock, P: Peer>(
     clock: &C,
     alloc: Global,

@@ -23,6 +23,10 @@ IsLineFault NoBody = ⊥
 IsLineFault (Client fault) = IsUnsent fault
 IsLineFault _ = ⊤
 
+-- what is told while another session has a durable name
+abbrev pub held_line : ClientFault → List ℕ
+held_line fault = codes "stompd: " ++ client_text fault ++ codes "; waiting up to 90 s for another session to end" ++ 10 ∷ []
+
 -- what is told once a connection is gone, and is made again
 abbrev pub again_line : ClientFault → List ℕ
 again_line fault = codes "stompd: " ++ client_text fault ++ codes "; connecting again" ++ 10 ∷ []

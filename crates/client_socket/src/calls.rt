@@ -4,8 +4,12 @@ ghost use Rattle.std.specs.Prelude.{◌≡◌, ◌⊎◌, IfErr, None};
 ghost use Rattle.client_core.specs.Talks.{BreaksOff, HasReason, IsOfPeer};
 ghost use Rattle.client_core.specs.declared.fault.Step.TheVariants.{Connection, Handshake};
 
+use crate::listening::Patience;
 use crate::web_peer::{STEP_SECONDS, Timed, WebPeer, cause_by, cause_of};
-use client_core::{Address, Cause, ClientFault, Outgoing, Step, converse, forget_once, send_once};
+use client_core::{
+    Address, Cause, ClientFault, Outgoing, Peer, Step, converse, forget_once, send_once, session_of,
+};
+use frame_core::FrameReader;
 use http::Request;
 use std::alloc::Global;
 use std::net::{Ipv4Addr, Net, SocketAddr, SocketAddrV4, TcpStream, ToSocketAddrs};
@@ -16,9 +20,44 @@ use tungstenite::{ClientHandshake, HandshakeError, RandomKeys, WebSocketConfig, 
 // The virtual host that is named. The broker knows none.
 pub(crate) const HOST: &str = "127.0.0.1";
 
-/// Finds out whether a server of STOMP 1.2 over WebSocket answers at that address, and how long it is from a SEND to its RECEIPT. The
-/// SEND goes to `/topic/stompd-ping`. Each step may take five seconds. The fault names the first step that goes wrong.
+// After how many milliseconds a server is pinged again that took the connection and ended it.
+const AGAIN_MILLIS: u64 = 250;
+
+/// Finds out whether a server of STOMP 1.2 over WebSocket answers at that address, and how long it is from a COMMIT to its RECEIPT. Each
+/// step may take five seconds. The fault names the first step that goes wrong. A server that takes connections and ends them without an
+/// answer, since all of its places are taken, is asked again for five seconds.
 pub fn ping<R>(rt: &R, alloc: Global, address: Address<'_>) -> Result<Duration, ClientFault>
+where
+    R: Net<Stream = TcpStream> + Clock + RandomSource + Clone + Drop,
+    ensures { IfErr result (λ fault. IsOfPeer fault.cause ⊎ BreaksOff fault None None) }
+{
+    let patience = match Patience::new(rt, Some(STEP_SECONDS)) {
+        Ok(patience) => patience,
+        Err(cause) => return Err(unconnected(cause)),
+    };
+    for _try in 0..u64::MAX {
+        let pinged = ping_once(rt, alloc, address);
+        if !is_unanswered(&pinged)
+            || patience
+                .pause(rt, Duration::from_millis(AGAIN_MILLIS))
+                .is_err()
+        {
+            return pinged;
+        }
+        drop(pinged);
+    }
+    Err(unconnected(Cause::Late))
+}
+
+fn is_unanswered(pinged: &Result<Duration, ClientFault>) -> bool {
+    match pinged {
+        Ok(_) => false,
+        Err(fault) => fault.is_unanswered(),
+    }
+}
+
+// The same, once.
+fn ping_once<R>(rt: &R, alloc: Global, address: Address<'_>) -> Result<Duration, ClientFault>
 where
     R: Net<Stream = TcpStream> + Clock + RandomSource + Clone + Drop,
     ensures { IfErr result (λ fault. IsOfPeer fault.cause ⊎ BreaksOff fault None None) }
@@ -57,6 +96,81 @@ where
             }
         }
         Err(fault) => Err(fault),
+    }
+}
+
+/// The same, and the number that CONNECTED gives the session, if it gives one.
+pub fn open_numbered<R>(
+    rt: &R,
+    alloc: Global,
+    address: Address<'_>,
+    client: Option<&str>,
+) -> Result<(WebPeer<R>, Option<u64>), ClientFault>
+where
+    R: Net<Stream = TcpStream> + Clock + RandomSource + Clone + Drop,
+{
+    let mut peer = connect(rt, alloc, address, "/")?;
+    let mut noting = Noting {
+        peer: &mut peer,
+        heard: Vec::new(alloc),
+    };
+    let opened = client_core::open(alloc, HOST, client, &mut noting);
+    let session = session_in(alloc, noting.heard.as_slice());
+    drop(noting);
+    match opened {
+        Ok(()) => Ok((peer, session)),
+        Err(fault) => {
+            drop(peer);
+            Err(fault)
+        }
+    }
+}
+
+// The number of the session that the first of these frames opens.
+fn session_in(alloc: Global, bytes: &[u8]) -> Option<u64> {
+    let mut reader = FrameReader::new(alloc);
+    let fed = reader.feed(alloc, bytes);
+    drop(reader);
+    let Ok(fed) = fed else {
+        return None;
+    };
+    let session = match fed.frames.as_slice() {
+        [connected, ..] => session_of(connected),
+        [] => None,
+    };
+    drop(fed);
+    session
+}
+
+// A peer of which all is kept that is heard.
+#[derive(Drop)]
+struct Noting<'a, R> {
+    peer: &'a mut WebPeer<R>,
+    heard: Vec<u8>,
+}
+
+impl<R: Clock + RandomSource + Drop> Peer for Noting<'_, R> {
+    fn say(&mut self, frame: &[u8]) -> Result<(), Cause> {
+        self.peer.say(frame)
+    }
+
+    fn hear(&mut self) -> Result<Vec<u8>, Cause> {
+        let piece = self.peer.hear()?;
+        match self.heard.extend_from_slice(piece.as_slice()) {
+            Ok(()) => Ok(piece),
+            Err(_) => {
+                drop(piece);
+                Err(Cause::Memory)
+            }
+        }
+    }
+
+    fn renew(&mut self) {
+        self.peer.renew();
+    }
+
+    fn close(&mut self) -> Result<(), Cause> {
+        self.peer.close()
     }
 }
 

@@ -1,24 +1,27 @@
 //! Listening over one connection after another.
 
-ghost use Rattle.std.specs.Prelude.{◌≡◌, ◌≤◌, ◌-◌, ◌↔◌, IfErr, IfSome, None, OnOk, min};
+ghost use Rattle.std.specs.Prelude.{◌≡◌, ◌≤◌, ◌-◌, ◌↔◌, IfErr, IfSome, None, OnOk, ℕ, min, true};
 ghost use Rattle.std.specs.Io.KnownBytes.{Appends};
-ghost use Rattle.client_socket.specs.Inputs.{again_line};
+ghost use Rattle.client_core.specs.Texts.{may_pass};
+ghost use Rattle.client_socket.specs.Inputs.{again_line, held_line};
 ghost use Rattle.client_core.specs.Talks.{IsOfPeer};
 ghost use Rattle.std.specs.Duration.{as_nanos};
 ghost use Rattle.client_socket.specs.Waits.{patience_from};
 
 use crate::calls::{HOST, connect};
 use crate::web_peer::{PATIENCE_SECONDS, WebPeer};
-use client_core::{Address, Cause, ClientFault, Course, Listener, Peer, Plan, Step};
-use std::alloc::Global;
+use client_core::{Address, Cause, ClientFault, Course, Listener, Peer, Plan, Printed, Step};
+use frame_core::{Fed, FrameReader, Text, first};
+use std::alloc::{AllocError, Global};
+use std::collections::VecDeque;
 use std::io::Write;
 use std::net::{Net, TcpStream};
 use std::random::RandomSource;
 use std::time::{Clock, Duration, Instant};
 use std::{io, thread};
 
-// How many seconds it pauses before it connects again.
-const PAUSE_SECONDS: u64 = 1;
+/// How many seconds it pauses before it connects again.
+pub const PAUSE_SECONDS: u64 = 1;
 
 /// Where one listens, and what for, perhaps with a `client-id`.
 #[derive(Clone, Copy)]
@@ -31,7 +34,7 @@ pub struct Ear<'a, R> {
 }
 
 /// Listens as the plan has it, and writes what comes. If the server goes once it listened, that is told to `errors`, and it connects
-/// again each second, until the server is there.
+/// again each second, until the server is there. A durable name that another session has is waited for.
 pub fn listen<R, W: Write, E: Write>(
     ear: &Ear<'_, R>,
     writer: &mut W,
@@ -45,17 +48,26 @@ where
         Err(cause) => return Err(unheard(cause)),
     };
     let mut course = Course::new(&ear.plan);
+    let mut siege = Siege::new();
+    let mut ids = Ids::new(ear.alloc, ear.plan.count);
     for _connection in 0..u64::MAX {
-        let (shown, ended) = listen_once(ear, course.left, &mut patience, writer);
+        let (count, ended) = listen_once(ear, course.left, &mut patience, &mut ids, writer);
         let Err(fault) = ended else {
-            return Ok(());
+            course = course.after(count, Step::Close);
+            if course.left == 0 {
+                return Ok(());
+            }
+            // Some came a second time, after a connection was lost: they don't count.
+            continue;
         };
-        course = course.after(shown, fault.step);
-        if !course.goes_on(&fault) {
-            return Err(fault);
-        }
-        if fault.step.is_of_session() {
-            drop(tell_again(&fault, errors));
+        course = course.after(count, fault.step);
+        if !siege.goes_on(ear.rt, &fault, errors) {
+            if !course.goes_on(&fault) {
+                return Err(fault);
+            }
+            if fault.step.is_of_session() {
+                drop(tell_again(&fault, errors));
+            }
         }
         drop(fault);
         if let Err(cause) = patience.pause(ear.rt, Duration::from_secs(PAUSE_SECONDS)) {
@@ -65,11 +77,12 @@ where
     Err(unheard(Cause::Silent))
 }
 
-// Listens over one connection for so many messages. Answers how many were shown too.
+// Listens over one connection for so many messages. Answers how many of those that were shown count, too.
 fn listen_once<R, W: Write>(
     ear: &Ear<'_, R>,
     count: u64,
     patience: &mut Patience,
+    ids: &mut Ids,
     writer: &mut W,
 ) -> (u64, Result<(), ClientFault>)
 where
@@ -79,11 +92,13 @@ where
         Ok(peer) => peer,
         Err(fault) => return (0, Err(fault)),
     };
+    ids.begin();
     let mut shown = Shown {
         clock: ear.rt,
         peer: &mut peer,
         writer,
         patience,
+        ids,
         count: 0,
     };
     let plan = Plan { count, ..ear.plan };
@@ -100,6 +115,64 @@ fn tell_again<E: Write>(fault: &ClientFault, errors: &mut E) -> io::Result<()>
     writeln!(errors, "stompd: {fault}; connecting again")
 }
 
+/// The wait for a durable name that another session has: since when.
+#[derive(Drop)]
+pub struct Siege {
+    since: Option<Instant>,
+}
+
+impl Siege {
+    /// None has it.
+    pub fn new() -> Siege {
+        Siege { since: None }
+    }
+
+    /// Whether this fault may pass, so that it is tried again. The first time that is told to `errors`.
+    pub fn goes_on<C: Clock, E: Write>(
+        &mut self,
+        clock: &C,
+        fault: &ClientFault,
+        errors: &mut E,
+    ) -> bool
+        ensures { result ≡ true → (waited : ℕ) × (may_pass waited fault.now ≡ true) }
+    {
+        let waited = match &self.since {
+            Some(since) => seconds_since(clock, since),
+            None => 0,
+        };
+        if !fault.may_pass(waited) {
+            self.since = None;
+            return false;
+        }
+        if self.since.is_none() {
+            let Ok(now) = Instant::now(clock) else {
+                return false;
+            };
+            self.since = Some(now);
+            drop(tell_held(fault, errors));
+        }
+        true
+    }
+}
+
+// How many seconds have passed; the most there are if the system does not tell.
+fn seconds_since<C: Clock>(clock: &C, since: &Instant) -> u64 {
+    match since.elapsed(clock) {
+        Ok(passed) => passed.as_secs(),
+        Err(_) => u64::MAX,
+    }
+}
+
+// Tells that a durable name is waited for.
+fn tell_held<E: Write>(fault: &ClientFault, errors: &mut E) -> io::Result<()>
+    ensures { OnOk result (Appends (E.contents errors.old) (E.contents errors.new) (held_line fault.now)) }
+{
+    writeln!(
+        errors,
+        "stompd: {fault}; waiting up to 90 s for another session to end"
+    )
+}
+
 fn unheard(cause: Cause) -> ClientFault {
     ClientFault {
         step: Step::Message,
@@ -107,14 +180,82 @@ fn unheard(cause: Cause) -> ClientFault {
     }
 }
 
-/// A peer, where its messages are shown, how many were, and how long none may come.
+/// A peer, where its messages are shown, how many of those that were shown count, and how long none may come.
 #[derive(Drop)]
 pub struct Shown<'a, 'b, R, W> {
     pub clock: &'a R,
     pub peer: &'a mut WebPeer<R>,
     pub writer: &'b mut W,
     pub patience: &'b mut Patience,
+    pub ids: &'b mut Ids,
     pub count: u64,
+}
+
+/// The `message-id`s of the messages that came and are not shown yet, and those that were printed last.
+#[derive(Drop)]
+pub struct Ids {
+    alloc: Global,
+    printed: Printed,
+    reader: FrameReader,
+    coming: VecDeque<Text>,
+    // Nothing is noted of a listener that counts nothing.
+    is_counted: bool,
+}
+
+impl Ids {
+    fn new(alloc: Global, count: u64) -> Ids {
+        Ids {
+            alloc,
+            printed: Printed::new(alloc),
+            reader: FrameReader::new(alloc),
+            coming: VecDeque::new(alloc),
+            is_counted: count < u64::MAX,
+        }
+    }
+
+    // Nothing has come over a new connection.
+    fn begin(&mut self) {
+        self.reader = FrameReader::new(self.alloc);
+        self.coming.clear();
+    }
+
+    // Notes what comes. A message without an id has an empty one.
+    fn come(&mut self, piece: &[u8]) -> Result<(), Cause>
+        ensures { IfErr result IsOfPeer }
+    {
+        if !self.is_counted {
+            return Ok(());
+        }
+        match self.read(piece) {
+            Ok(()) => Ok(()),
+            Err(_) => Err(Cause::Memory),
+        }
+    }
+
+    fn read(&mut self, piece: &[u8]) -> Result<(), AllocError> {
+        let Ok(Fed { frames, fault: _ }) = self.reader.feed(self.alloc, piece) else {
+            return Err(AllocError);
+        };
+        for frame in frames.as_slice() {
+            let id = Text::copy(self.alloc, first(frame, "message-id").unwrap_or(""))?;
+            self.coming.push_back(id)?;
+        }
+        drop(frames);
+        Ok(())
+    }
+
+    // Notes that the next one is shown, and answers whether it counts: it was not shown before.
+    fn counts(&mut self) -> Result<bool, Cause>
+        ensures { IfErr result IsOfPeer }
+    {
+        match self.coming.pop_front() {
+            Some(id) if !id.as_str().is_empty() => match self.printed.note(id) {
+                Ok(counts) => Ok(counts),
+                Err(_) => Err(Cause::Memory),
+            },
+            _ => Ok(true),
+        }
+    }
 }
 
 impl<R: Clock + RandomSource + Drop, W: Write> Peer for Shown<'_, '_, R, W> {
@@ -137,14 +278,23 @@ impl<R: Clock + RandomSource + Drop, W: Write> Peer for Shown<'_, '_, R, W> {
 
 impl<R: Clock + RandomSource + Drop, W: Write> Listener for Shown<'_, '_, R, W> {
     fn wait(&mut self) -> Result<Vec<u8>, Cause> {
-        wait_for(self.clock, self.patience, self.peer)
+        let piece = wait_for(self.clock, self.patience, self.peer)?;
+        match self.ids.come(piece.as_slice()) {
+            Ok(()) => Ok(piece),
+            Err(cause) => {
+                drop(piece);
+                Err(cause)
+            }
+        }
     }
 
     fn show(&mut self, text: &[u8]) -> Result<(), Cause> {
         if self.writer.write_all(text).is_err() || self.writer.flush().is_err() {
             return Err(Cause::Output);
         }
-        self.count = self.count.saturating_add(1);
+        if self.ids.counts()? {
+            self.count = self.count.saturating_add(1);
+        }
         self.patience.renew(self.clock);
         Ok(())
     }

@@ -3,9 +3,9 @@
 ghost use Rattle.std.specs.Prelude.{◌≡◌, IfSome, OnOk, ℕ, true};
 ghost use Rattle.client_core.specs.declared.fault.Doubt.TheVariants.{Nothing};
 
-use crate::calls::{HOST, open};
+use crate::calls::{open, open_numbered};
 use crate::lines::is_stale;
-use crate::listening::{Patience, wait_for};
+use crate::listening::{PAUSE_SECONDS, Patience, Siege, wait_for};
 use crate::web_peer::WebPeer;
 use client_core::{
     Address, Cause, ClientFault, Doubt, Errand, Mover, Peer, Route, Saying, Stage, Step, doubt_of,
@@ -13,9 +13,11 @@ use client_core::{
 };
 use frame_core::{Fed, FrameReader};
 use std::alloc::Global;
+use std::io::Write;
 use std::net::{Net, TcpStream};
 use std::random::RandomSource;
-use std::time::{Clock, Instant};
+use std::thread;
+use std::time::{Clock, Duration, Instant};
 
 /// From which server messages are moved, perhaps with a `client-id`, and to which one, if that is another.
 #[derive(Clone, Copy)]
@@ -54,15 +56,16 @@ struct Ends<R> {
 }
 
 /// Moves messages, one after another. The next one is begun once the RECEIPT of the one before has come. Without a count it moves
-/// all: until no message has come for the errand's timeout. How the sessions end changes nothing.
-pub fn move_messages<R>(haul: &Haul<'_, R>) -> Moved
+/// all that are there: until one comes that was not, or none has come for the errand's timeout. How the sessions end changes nothing. A
+/// durable name that another session has is waited for, which is told to `errors`.
+pub fn move_messages<R, E: Write>(haul: &Haul<'_, R>, errors: &mut E) -> Moved
 where
     R: Net<Stream = TcpStream> + Clock + RandomSource + Clone + Drop,
     ensures count { OnOk result.ended (IfSome haul.now.errand.count (λ count. result.moved ≡ count)) }
     ensures sure { OnOk result.ended (result.doubt ≡ Nothing) }
 {
     let mut mover = Mover::new(haul.alloc);
-    let ended = move_all(haul, &mut mover);
+    let ended = move_patiently(haul, &mut mover, errors);
     let (moved, stage) = (mover.moved(), mover.stage());
     drop(mover);
     let doubt = match &ended {
@@ -76,6 +79,32 @@ where
     }
 }
 
+// Moves messages, once no other session has the durable name.
+fn move_patiently<R, E: Write>(
+    haul: &Haul<'_, R>,
+    mover: &mut Mover,
+    errors: &mut E,
+) -> Result<(), ClientFault>
+where
+    R: Net<Stream = TcpStream> + Clock + RandomSource + Clone + Drop,
+    ensures { OnOk result (IfSome haul.now.errand.count (λ count. mover.new.moved ≡ count)) }
+{
+    let mut siege = Siege::new();
+    for _try in 0..u64::MAX {
+        match move_all(haul, mover) {
+            Ok(()) => return Ok(()),
+            Err(fault) => {
+                if !siege.goes_on(haul.rt, &fault, errors) {
+                    return Err(fault);
+                }
+                drop(fault);
+            }
+        }
+        thread::sleep(haul.rt, Duration::from_secs(PAUSE_SECONDS));
+    }
+    Err(fault_at(mover.stage(), Cause::System))
+}
+
 // Connects, moves messages, and ends the sessions. The other server is connected to first, so that nothing is taken if it is not there.
 fn move_all<R>(haul: &Haul<'_, R>, mover: &mut Mover) -> Result<(), ClientFault>
 where
@@ -83,7 +112,7 @@ where
     ensures { OnOk result (IfSome haul.now.errand.count (λ count. mover.new.moved ≡ count)) }
 {
     let there = link_to_other(haul)?;
-    let here = link_to(haul, haul.address, haul.client)?;
+    let here = link_here(haul, mover)?;
     let mut ends = Ends { here, there };
     let moved = move_between(haul, mover, &mut ends);
     match moved {
@@ -109,6 +138,27 @@ where
     match haul.other {
         Some(other) => Ok(Some(link_to(haul, other, None)?)),
         None => Ok(None),
+    }
+}
+
+// An open session with the server that holds the messages. If all are moved, the mover learns which were there before it.
+fn link_here<R>(haul: &Haul<'_, R>, mover: &mut Mover) -> Result<Link<R>, ClientFault>
+where
+    R: Net<Stream = TcpStream> + Clock + RandomSource + Clone + Drop,
+{
+    let (peer, session) = open_numbered(haul.rt, haul.alloc, haul.address, haul.client)?;
+    mover.limit(bound_of(haul.errand.count, session));
+    Ok(Link {
+        peer,
+        reader: FrameReader::new(haul.alloc),
+    })
+}
+
+// The number that a message has at most which is moved: that of the session, if all are moved. So many are waited for.
+fn bound_of(count: Option<u64>, session: Option<u64>) -> Option<u64> {
+    match count {
+        Some(_) => None,
+        None => session,
     }
 }
 
@@ -166,7 +216,9 @@ where
         Err(cause) => return Err(fault_at(Stage::Free, cause)),
     }
     for _turn in 0..u64::MAX {
-        if is_all(haul.errand.count, mover.moved()) {
+        if is_all(haul.errand.count, mover.moved())
+            || (is_unbounded(haul.errand.count) && mover.is_done())
+        {
             return Ok(());
         }
         let began = Instant::now(haul.rt);

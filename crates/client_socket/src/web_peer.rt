@@ -1,6 +1,8 @@
 //! A peer over a WebSocket, whose reads and writes end with the step.
 
-ghost use Rattle.std.specs.Prelude.{◌≡◌, IfErr, IfOk};
+ghost use Rattle.std.specs.Prelude.{◌≡◌, ◌≢◌, ◌≤◌, ◌↔◌, IfErr, IfOk, IsTrue, length};
+ghost use Rattle.std.specs.Io.{ReadsAtMost};
+ghost use Rattle.std.specs.IoError.{error_kind};
 ghost use Rattle.client_core.specs.Talks.{IsOfPeer};
 
 use client_core::{Cause, Peer};
@@ -178,6 +180,50 @@ impl<R: Clock + Drop> Timed<R> {
         Ok(())
     }
 
+    // Reads, however often the program is stopped and goes on: that interrupts a read with a time limit.
+    fn read_through(&mut self, buf: &mut [u8]) -> io::Result<usize>
+        ensures bound { ReadsAtMost result buf.new }
+        ensures through { IfErr result (λ error. error_kind error ≢ ErrorKind.Interrupted) }
+    {
+        for _stop in 0..u64::MAX {
+            match self.read_once(buf) {
+                Err(error) if is_interrupted(&error) => drop(error),
+                read => return read,
+            }
+        }
+        Err(io::Error::from(ErrorKind::TimedOut))
+    }
+
+    fn read_once(&mut self, buf: &mut [u8]) -> io::Result<usize>
+        ensures { ReadsAtMost result buf.new }
+    {
+        let left = self.left()?;
+        self.socket.set_read_timeout(Some(left))?;
+        self.socket.read(buf)
+    }
+
+    // Writes, however often the program is stopped and goes on.
+    fn write_through(&mut self, buf: &[u8]) -> io::Result<usize>
+        ensures bound { IfOk result (λ count. count ≤ length buf.now) }
+        ensures through { IfErr result (λ error. error_kind error ≢ ErrorKind.Interrupted) }
+    {
+        for _stop in 0..u64::MAX {
+            match self.write_once(buf) {
+                Err(error) if is_interrupted(&error) => drop(error),
+                written => return written,
+            }
+        }
+        Err(io::Error::from(ErrorKind::TimedOut))
+    }
+
+    fn write_once(&mut self, buf: &[u8]) -> io::Result<usize>
+        ensures { IfOk result (λ count. count ≤ length buf.now) }
+    {
+        let left = self.left()?;
+        self.socket.set_write_timeout(Some(left))?;
+        self.socket.write(buf)
+    }
+
     // What is left of the step's time. The system takes no time of zero.
     fn left(&self) -> io::Result<Duration> {
         let passed = self.began.elapsed(&self.clock)?;
@@ -190,9 +236,7 @@ impl<R: Clock + Drop> Timed<R> {
 
 impl<R: Clock + Drop> Read for Timed<R> {
     fn read(&mut self, buf: &mut [u8]) -> io::Result<usize> {
-        let left = self.left()?;
-        self.socket.set_read_timeout(Some(left))?;
-        self.socket.read(buf)
+        self.read_through(buf)
     }
 }
 
@@ -201,9 +245,7 @@ impl<R: Clock + Drop> Write for Timed<R> {
         if self.is_cut {
             return Err(io::Error::from(ErrorKind::WouldBlock));
         }
-        let left = self.left()?;
-        self.socket.set_write_timeout(Some(left))?;
-        match self.socket.write(buf) {
+        match self.write_through(buf) {
             Ok(count) => Ok(count),
             Err(error) => {
                 self.is_cut = is_end(error.kind());
@@ -215,6 +257,13 @@ impl<R: Clock + Drop> Write for Timed<R> {
     fn flush(&mut self) -> io::Result<()> {
         self.socket.flush()
     }
+}
+
+// Whether a signal ended the call, which is then made again.
+fn is_interrupted(error: &io::Error) -> bool
+    ensures { IsTrue result ↔ (error_kind error.now ≡ ErrorKind.Interrupted) }
+{
+    error.kind() == ErrorKind::Interrupted
 }
 
 // Whether the connection has ended.
@@ -239,7 +288,7 @@ pub fn cause_of(error: &Error) -> Cause
     }
 }
 
-/// Why a call of the system failed. A read or write of a socket whose time is over is `WouldBlock`.
+/// Why a call of the system failed. That no way leads to a server may pass. A read or write of a socket whose time is over is `WouldBlock`.
 pub fn cause_by(kind: ErrorKind) -> Cause
     ensures { IsOfPeer result }
 {
@@ -248,6 +297,10 @@ pub fn cause_by(kind: ErrorKind) -> Cause
         ErrorKind::ConnectionRefused => Cause::Unserved,
         ErrorKind::ConnectionReset | ErrorKind::ConnectionAborted | ErrorKind::BrokenPipe =>
             Cause::Ended,
+        ErrorKind::NetworkUnreachable
+        | ErrorKind::HostUnreachable
+        | ErrorKind::NetworkDown
+        | ErrorKind::AddrNotAvailable => Cause::Unreached,
         ErrorKind::OutOfMemory => Cause::Memory,
         _ => Cause::System,
     }

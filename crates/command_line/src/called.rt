@@ -154,7 +154,7 @@ pub fn end_ping<W: Write, E: Write>(
             Err(_) => end_by(&Failure::Output, errors),
         },
         Err(fault) => {
-            let is_full = fault.is_of_full_server();
+            let is_full = fault.is_of_crowded_server();
             let status = if is_full { FULL } else { FAILED };
             let told = end_by(&Failure::Client(fault), errors).told;
             Ended { status, told }

@@ -113,7 +113,7 @@ fn run_move(haul: &Haul<'_, HostRuntime>) -> u8 {
         moved,
         doubt,
         ended,
-    } = move_messages(haul);
+    } = move_messages(haul, &mut haul.rt.stderr());
     let mut writer = haul.rt.stdout().lock();
     let mut errors = haul.rt.stderr().lock();
     end_move(moved, doubt, ended, &mut writer, &mut errors).status
