@@ -82,6 +82,22 @@ def helps(program, checks):
     checks.same("help that can't be printed", run(program, "help", sink=FULL), (1, b"", UNWRITTEN))
 
 
+def completed(program, *words):
+    """What bash offers for the last of these words."""
+    script = 'source "$0"; COMP_WORDS=("$@"); COMP_CWORD=$(($# - 1)); _stompd "$1"; printf "%s\\n" "${COMPREPLY[@]}"'
+    file = pathlib.Path(__file__).resolve().parent.parent.parent / "deploy" / "stompd.bash"
+    return subprocess.run(["bash", "-c", script, file, program, *words], capture_output=True, text=True, check=True).stdout.split()
+
+
+def completes(program, checks):
+    """bash completes each command, and each option of it."""
+    checks.same("the commands", sorted(completed(program, "")), sorted([*COMMANDS, "help"]))
+    checks.same("those with a first letter", sorted(completed(program, "s")), sorted(it for it in COMMANDS if it[0] == "s"))
+    for command, (_, options) in COMMANDS.items():
+        checks.same(f"the options of {command}", completed(program, command, "--"), [*(it.split()[0] for it in options), "--help"])
+    checks.same("and a file by itself", completed(program, "show", ""), [])
+
+
 def bad_words(program, checks):
     """Words that ask for nothing are named, with status 2, and nobody is connected to."""
     address = "PORT is a number from 1 to 65535, or ws://HOST:PORT/PATH in small letters; there is no TLS"
@@ -713,5 +729,5 @@ def addresses(program, checks):
 if __name__ == "__main__":
     # A shell that has this run in the background lets it ignore SIGINT, and so would its children.
     signal.signal(signal.SIGINT, signal.default_int_handler)
-    PARTS = (helps, bad_words, bodies, receipts, lines, peeks, durables, ends, restarts, timeouts, peers, windows, frames, farewells, patience, trickles, addresses)
+    PARTS = (helps, completes, bad_words, bodies, receipts, lines, peeks, durables, ends, restarts, timeouts, peers, windows, frames, farewells, patience, trickles, addresses)
     sys.exit(try_parts(__doc__, PARTS, (each_step, each_receipt, no_receipt_but_pings, no_connection)))
