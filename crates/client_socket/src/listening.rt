@@ -49,9 +49,9 @@ where
     };
     let mut course = Course::new(&ear.plan);
     let mut siege = Siege::new();
-    let mut printed = Printed::new(ear.alloc);
+    let mut ids = Ids::new(ear.alloc, ear.plan.count);
     for _connection in 0..u64::MAX {
-        let (count, ended) = listen_once(ear, course.left, &mut patience, &mut printed, writer);
+        let (count, ended) = listen_once(ear, course.left, &mut patience, &mut ids, writer);
         let Err(fault) = ended else {
             course = course.after(count, Step::Close);
             if course.left == 0 {
@@ -82,7 +82,7 @@ fn listen_once<R, W: Write>(
     ear: &Ear<'_, R>,
     count: u64,
     patience: &mut Patience,
-    printed: &mut Printed,
+    ids: &mut Ids,
     writer: &mut W,
 ) -> (u64, Result<(), ClientFault>)
 where
@@ -92,12 +92,13 @@ where
         Ok(peer) => peer,
         Err(fault) => return (0, Err(fault)),
     };
+    ids.begin();
     let mut shown = Shown {
         clock: ear.rt,
         peer: &mut peer,
         writer,
         patience,
-        ids: Ids::new(ear.alloc, printed, ear.plan.count),
+        ids,
         count: 0,
     };
     let plan = Plan { count, ..ear.plan };
@@ -186,30 +187,36 @@ pub struct Shown<'a, 'b, R, W> {
     pub peer: &'a mut WebPeer<R>,
     pub writer: &'b mut W,
     pub patience: &'b mut Patience,
-    pub ids: Ids<'b>,
+    pub ids: &'b mut Ids,
     pub count: u64,
 }
 
 /// The `message-id`s of the messages that came and are not shown yet, and those that were printed last.
 #[derive(Drop)]
-pub struct Ids<'a> {
+pub struct Ids {
     alloc: Global,
-    printed: &'a mut Printed,
+    printed: Printed,
     reader: FrameReader,
     coming: VecDeque<Text>,
     // Nothing is noted of a listener that counts nothing.
     is_counted: bool,
 }
 
-impl<'a> Ids<'a> {
-    fn new(alloc: Global, printed: &'a mut Printed, count: u64) -> Ids<'a> {
+impl Ids {
+    fn new(alloc: Global, count: u64) -> Ids {
         Ids {
             alloc,
-            printed,
+            printed: Printed::new(alloc),
             reader: FrameReader::new(alloc),
             coming: VecDeque::new(alloc),
             is_counted: count < u64::MAX,
         }
+    }
+
+    // Nothing has come over a new connection.
+    fn begin(&mut self) {
+        self.reader = FrameReader::new(self.alloc);
+        self.coming.clear();
     }
 
     // Notes what comes. A message without an id has an empty one.
