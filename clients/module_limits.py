@@ -243,7 +243,7 @@ def fill(engine, to):
 
 def drain(engine, from_):
     count = HELD_BYTES // (BODY + len(from_))
-    engine.value(f"globalThis.drained = 0; globalThis.filling = open(); filling.subscribe('{from_}', () => drained++); await soon(() => drained >= {count}); await filling.close()")
+    engine.value(f"globalThis.drained = 0; globalThis.filling = open(); filling.subscribe('{from_}', () => drained++); await soon(() => drained >= {count}, 60); await filling.close()")
 
 
 def after_a_refusal(engine, broker, checks):
