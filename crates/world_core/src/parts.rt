@@ -10,7 +10,8 @@ ghost use Rattle.world_core.specs.Keeping.{IsKept};
 ghost use Rattle.world_core.specs.Parts.{value_of, disk_of};
 ghost use Rattle.world_core.specs.Touches.{IsLead, LeadsNowhere, LeadsTo, is_measured, IsDue, IsTouched, begun, IsBlockPatch, IsNoPatch, IsPatch, HasPiece};
 ghost use Rattle.world_core.specs.declared.event.CallKind.TheVariants.{Write};
-ghost use Rattle.world_core.specs.declared.event.CallList.TheVariants.{Append, Open, Snapshot};
+ghost use Rattle.world_core.specs.declared.event.CallList.TheVariants as lists;
+ghost use Rattle.world_core.specs.declared.event.CallList.TheVariants.{Append, Open};
 ghost use Rattle.world_core.specs.Answers.{IsTold};
 ghost use Rattle.world_core.specs.Readings.{IsRead, Reading};
 
@@ -276,8 +277,8 @@ impl Parts {
     // Where the next write of a snapshot of the state as it is leads, or `None` if it may not come.
     fn copy_leads(&self, alloc: Global) -> Result<Option<LastCall>, AllocError>
         requires { IsKept (value_of self.now) }
-        ensures some { IfOk result (λ found. IfSome found (LeadsTo (value_of self.now) Snapshot Write)) }
-        ensures none { IfOk result (λ found. found ≡ None → LeadsNowhere (value_of self.now) Snapshot Write) }
+        ensures some { IfOk result (λ found. IfSome found (LeadsTo (value_of self.now) lists.Snapshot Write)) }
+        ensures none { IfOk result (λ found. found ≡ None → LeadsNowhere (value_of self.now) lists.Snapshot Write) }
     {
         match self.copy_bytes(alloc)? {
             Some(bytes) => {
