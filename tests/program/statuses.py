@@ -355,8 +355,9 @@ def new_journals(checks, folder, port):
         for one, listens in zip(starts, listening):
             if listens:
                 one.kill()
-            said = one.communicate(timeout=60)[1].decode().splitlines()[-1]
-            checks.check("and the other tells of the lock", listens or (one.returncode == 1 and "lock" in said), (one.returncode, said))
+            said = one.communicate(timeout=60)[1].decode()
+            # The one that serves may be killed before its first line.
+            checks.check("and the other tells of the lock", listens or (one.returncode == 1 and "lock" in said.splitlines()[-1]), (one.returncode, said))
         checks.run(["held", str(both)], 0, EMPTY, NOTHING)
     zeros.write_bytes(before)
 
