@@ -85,6 +85,7 @@ class Ending:
 
 SCRIPTS = [
     # Those that wait, the longest first, so that none of these is begun last.
+    Script("clients/module.py", light="--engine Node --kills 1", needs=("node",), waits=True),
     Script("tests/program/steady_readers.py", light="", waits=True),
     Script("tests/program/figures.py", light="", waits=True),
     Script("tests/program/move.py", light="", waits=True),
@@ -95,7 +96,6 @@ SCRIPTS = [
     Script("tests/program/pauses.py", light="", waits=True),
     Script("tests/program/full_journal.py", light="", waits=True),
     Script("tests/program/telling.py", light="", waits=True),
-    Script("clients/module.py", light="--engine Node --kills 1", needs=("node",), waits=True),
     Script("tests/program/failing_disk.py", light="", needs=("strace",), waits=True),
     Script("tests/program/holding.py", light="", waits=True),
     Script("tests/program/serve_script.py", light="--few", waits=True),
