@@ -134,9 +134,11 @@ class Link {
     this.#awaitProbe();
   }
   #awaitProbe() {
-    const { timer, limit } = this.#probe;
+    const { timer, limit } = this.#probe, due = performance.now() + limit;
     clearTimeout(timer);
-    this.#probe.timer = after(limit, () => this.end({ reason: `no answer within ${limit} ms` }));
+    // A script that ran late hasn't read what came meanwhile.
+    const isOver = () => { if (performance.now() > due + limit / 2) this.#awaitProbe(); else this.end({ reason: `no answer within ${limit} ms` }); };
+    this.#probe.timer = after(limit, isOver);
   }
 }
 
