@@ -309,7 +309,8 @@ def a_line_is_refused(broker, checks, anna, ben):
     checks.check("once there is room it is sent from its field", anna.comes("chat.list.lastChild.textContent.startsWith('anna: a line without room') && chat.list.lastChild.textContent.includes('receipted')"), anna.states_of("a line without room"))
     checks.same("which is empty then", anna.value("document.getElementById('words').value"), "")
     checks.check("or from its row", anna.act("chat", "Send again: from its row") and anna.comes("chat.list.lastChild.textContent.includes('receipted')"), anna.states_of("from its row"))
-    checks.same("the other hears each once", [ben.states_of(text) for text in ("a line without room", "from its row")], [[["received"]], [["received"]]])
+    for text in ("a line without room", "from its row"):
+        checks.check("the other hears it once", ben.rows_come(text, ["received"]), ben.states_of(text))
 
 
 def it_is_easy_to_use(broker, checks, anna, ben):

@@ -2,6 +2,7 @@
 
 from fake_broker import Relay
 from module_faults import LONGER, grows, opened
+from lib import scenario
 from lib.stomp_client import Client
 
 NO_ROOM, IN_USE = "E12 no room for the message", "E14 durable subscription unknown, in use or of another topic"
@@ -117,10 +118,15 @@ def waits_are_counted(engine, checks):
 
 def a_bulk_without_room(engine, broker, checks):
     """a bulk of sends to a full broker is refused, and listening goes on"""
+    with scenario.serving(broker.program) as full:
+        a_bulk_at(engine, full, checks)
+
+
+def a_bulk_at(engine, broker, checks):
     run = engine.value
     filler = Client(broker.port, timeout=60).connect()
     filler.publish_all("/queue/full", HELD * ["x"])
-    run("globalThis.words = []; globalThis.bulk = open(); await bulk.subscribe('/topic/words', it => words.push(it.body)).ready")
+    run(f"globalThis.words = []; globalThis.bulk = open({{}}, 'ws://127.0.0.1:{broker.port}/'); await bulk.subscribe('/topic/words', it => words.push(it.body)).ready")
     ends = run("return Promise.all(Array.from({ length: 300 }, () => how(bulk.send('/queue/full', 'x'))))")
     checks.same("each is refused, with the broker's code", [it for it in ends if it != REFUSED], [])
     checks.same("with one session", run("const refusals = () => bulk.states.filter(([state]) => state == 'refused').length; await soon(() => refusals() && bulk.session); return [bulk.full, refusals()]"), [["/queue/full"], 1])

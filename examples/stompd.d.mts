@@ -154,6 +154,6 @@ export interface Client {
 export function connect(url: Renewed<string>, options?: ConnectOptions): Client;
 
 declare global {
-  /** Made by stompd.js, also for a page that loads only that and stompd_frames.js. */
+  /** Made by stompd.js, also for a page that loads only that, after stompd_frames.js and stompd_link.js. */
   var Stompd: { connect: typeof connect; StompdError: typeof StompdError };
 }
