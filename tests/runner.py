@@ -108,7 +108,7 @@ SCRIPTS = [
     Script("tests/program/version.py", light=""),
     Script("tests/program/client_calls.py", light="", needs=("strace",)),
     Script("tests/program/closed_streams.py", light=""),
-    Script("tests/program/ending.py", light="--few"),
+    Script("tests/program/ending.py", light="--few", alone="it measures how soon newcomers are let go"),
     Script("tests/program/alerts.py", light=""),
     Script("tests/program/metrics.py", light=""),
     Script("tests/program/copies.py", light=""),
